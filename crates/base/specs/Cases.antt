@@ -1,0 +1,76 @@
+-- Lists of tests: all of them pass, and the number of the first that applies.
+use mathlib.Core.Path.{_≡_, refl, sym, ap, _∙_, subst}
+use mathlib.Core.Bool.{Bool, true, false, cond, _&&_}
+use mathlib.Core.List.{List, [], _∷_}
+use Prim.Native.Nat.{ℕ, zero, suc, _<_}
+use native.Mathlib.Nat.{not-suc-le-zero}
+use lib.ListN.{getD}
+use borrow.Author.Tests.{ltb-true}
+use Rattle.base.specs.Choice.{_<?_, and-left, and-right}
+
+-- all of the tests, in the order in which `a & b & c` computes them
+abbrev conj : Bool → List Bool → Bool
+conj acc [] = acc
+conj acc (b ∷ bs) = conj (acc && b) bs
+
+unfoldable pub allOf : List Bool → Bool
+allOf bs = conj true bs
+
+conj-acc : (acc : Bool) (bs : List Bool) → conj acc bs ≡ true → acc ≡ true
+conj-acc acc [] e = e
+conj-acc acc (b ∷ bs) e = and-left acc b (conj-acc (acc && b) bs e)
+
+conj-get : (acc : Bool) (bs : List Bool) (i : ℕ) → conj acc bs ≡ true → getD bs i true ≡ true
+conj-get acc [] i e = refl
+conj-get acc (b ∷ bs) zero e = and-right acc b (conj-acc (acc && b) bs e)
+conj-get acc (b ∷ bs) (suc i) e = conj-get (acc && b) bs i e
+
+-- test i of a list that passed
+pub passed : (bs : List Bool) (i : ℕ) → allOf bs ≡ true → getD bs i true ≡ true
+unfolding allOf
+passed bs i e = conj-get true bs i e
+
+-- a case: when it applies, and its number
+pub record Case : Type 0 where
+  pub test : Bool
+  pub number : ℕ
+
+infix 25 _⇒_
+abbrev pub _⇒_ : Bool → ℕ → Case
+b ⇒ n = record { test = b; number = n }
+
+-- the number of the first case that applies, or 0
+unfoldable pub firstOf : List Case → ℕ
+firstOf [] = 0
+firstOf (x ∷ xs) = cond (x .test) (x .number) (firstOf xs)
+
+-- code that looks at the cases in their order: none is left, this one applies, this one does not
+pub none : 0 ≡ firstOf []
+unfolding firstOf
+none = refl
+
+pub hit : (b : Bool) (n : ℕ) (xs : List Case) → b ≡ true → n ≡ firstOf ((b ⇒ n) ∷ xs)
+unfolding firstOf
+hit b n xs e = sym (ap (λ (x : Bool). cond x n (firstOf xs)) e)
+
+pub skip : (b : Bool) (n r : ℕ) (xs : List Case) → b ≡ false → r ≡ firstOf xs → r ≡ firstOf ((b ⇒ n) ∷ xs)
+unfolding firstOf
+skip b n r xs e h = h ∙ sym (ap (λ (x : Bool). cond x n (firstOf xs)) e)
+
+-- the numbers are not 0
+abbrev pub numbered : List Case → Bool
+numbered [] = true
+numbered (x ∷ xs) = (0 <? x .number) && numbered xs
+
+cond-zero : (b : Bool) (n x : ℕ) → (0 <? n) ≡ true → cond b n x ≡ 0 → (b ≡ false) × (x ≡ 0)
+cond-zero true n x h e = absurd (not-suc-le-zero (subst (λ (k : ℕ). 0 < k) e (ltb-true 0 n h)))
+cond-zero false n x h e = (refl, e)
+
+-- where the number is 0, no case applies
+pub cleared : (xs : List Case) (i : ℕ) → numbered xs ≡ true → 0 ≡ firstOf xs → getD xs i (false ⇒ 1) .test ≡ false
+unfolding firstOf
+cleared [] i h e = refl
+cleared (x ∷ xs) zero h e = cond-zero (x .test) (x .number) (firstOf xs) (and-left _ (numbered xs) h) (sym e) .0
+cleared (x ∷ xs) (suc i) h e =
+    cleared xs i (and-right (0 <? x .number) (numbered xs) h)
+    (sym (cond-zero (x .test) (x .number) (firstOf xs) (and-left (0 <? x .number) (numbered xs) h) (sym e) .1))

@@ -1,0 +1,184 @@
+-- Where each field stands in the lent table. These are the only word positions of the definitions; src/lib.rt has the
+-- same numbers as constants of the code.
+use mathlib.Core.Path.{_≡_, refl, sym, ap, _∙_}
+use mathlib.Core.Bool.{cond}
+use Prim.Native.Nat.{ℕ, _+_, _-_, _*_, _/_, _%_, _<_}
+use native.Mathlib.Omega.{arith}
+use borrow.Author.Tests.{ltb-true, ltb-false, lt-ltb, le-ltb}
+use Rattle.base.specs.Choice.{_<?_, cond-ind}
+use Rattle.table.specs.Field.{Field, Head, Controller, Known, End, Place, Message, wordOf, placeHead, messageHead}
+
+-- how many there are of each
+abbrev pub controllers : ℕ
+controllers = 8
+
+abbrev pub incarnations : ℕ
+incarnations = 16
+
+abbrev pub places : ℕ
+places = 64
+
+abbrev pub messages : ℕ
+messages = 128
+
+-- words of each record; a vector has two words for each controller
+abbrev pub headWords : ℕ
+headWords = 16
+
+abbrev pub controllerWords : ℕ
+controllerWords = 4
+
+abbrev pub vectorWords : ℕ
+vectorWords = 2 * controllers
+
+abbrev pub placeWords : ℕ
+placeWords = placeHead + vectorWords
+
+abbrev pub messageWords : ℕ
+messageWords = messageHead + vectorWords
+
+abbrev pub rowsWords : ℕ
+rowsWords = controllers * incarnations
+
+abbrev pub chainWords : ℕ
+chainWords = places * placeWords
+
+-- "The house is a lent table of 15,152 words of 32 bits": the regions, one after the other
+abbrev pub controllersFrom : ℕ
+controllersFrom = headWords
+
+abbrev pub knownFrom : ℕ
+knownFrom = controllersFrom + controllers * controllerWords
+
+abbrev pub endsFrom : ℕ
+endsFrom = knownFrom + controllers * rowsWords
+
+abbrev pub placesFrom : ℕ
+placesFrom = endsFrom + controllers * rowsWords
+
+abbrev pub messagesFrom : ℕ
+messagesFrom = placesFrom + controllers * chainWords
+
+abbrev pub tableWords : ℕ
+tableWords = messagesFrom + messages * messageWords
+
+-- the numbers that document 01 prints
+printed : (knownFrom ≡ 48) × (endsFrom ≡ 1072) × (placesFrom ≡ 2096) × (messagesFrom ≡ 12336) × (tableWords ≡ 15152)
+printed = (refl, refl, refl, refl, refl)
+
+-- the fields that have a word in the table
+abbrev pub Valid : Field → Type 0
+Valid (Head i) = i < headWords
+Valid (Controller c k) = (c < controllers) × (k < controllerWords)
+Valid (Known b a t) = (b < controllers) × (a < controllers) × (t < incarnations)
+Valid (End b a t) = (b < controllers) × (a < controllers) × (t < incarnations)
+Valid (Place c p k) = (c < controllers) × (p < places) × (k < placeWords)
+Valid (Message r k) = (r < messages) × (k < messageWords)
+
+-- the position of a field; a word with a name is a numeral and stands next to the base, so that the sum is the one that
+-- the code writes
+abbrev pub at : Field → ℕ
+at (Head i) = i
+at (Controller c k) = controllersFrom + k + c * controllerWords
+at (Known b a t) = knownFrom + b * rowsWords + a * incarnations + t
+at (End b a t) = endsFrom + b * rowsWords + a * incarnations + t
+at (Place c p k) = placesFrom + k + c * chainWords + p * placeWords
+at (Message r k) = messagesFrom + k + r * messageWords
+
+-- the field at a position
+unfoldable pub fieldAt : ℕ → Field
+fieldAt i =
+    cond (i <? controllersFrom) (Head i)
+    (cond (i <? knownFrom) (let j = i - controllersFrom in Controller (j / controllerWords) (j % controllerWords))
+    (cond (i <? endsFrom) (let j = i - knownFrom in Known (j / rowsWords) (j / incarnations % controllers) (j % incarnations))
+    (cond (i <? placesFrom) (let j = i - endsFrom in End (j / rowsWords) (j / incarnations % controllers) (j % incarnations))
+    (cond (i <? messagesFrom) (let j = i - placesFrom in Place (j / chainWords) (j / placeWords % places) (j % placeWords))
+    (let j = i - messagesFrom in Message (j / messageWords) (j % messageWords))))))
+
+-- every position has its field
+pub record Stands (i : ℕ) (f : Field) : Type 0 where
+  pub valid : Valid f
+  pub here : at f ≡ i
+
+pub stands : (i : ℕ) → i < tableWords → Stands i (fieldAt i)
+unfolding fieldAt
+stands i h =
+    cond-ind (Stands i) (i <? controllersFrom) (λ e. record { valid = ltb-true i controllersFrom e; here = refl })
+    (λ e. let l = ltb-false i controllersFrom e in
+    cond-ind (Stands i) (i <? knownFrom) (λ e. let u = ltb-true i knownFrom e in record { valid = (omega arith, omega arith); here = omega arith })
+    (λ e. let l = ltb-false i knownFrom e in
+    cond-ind (Stands i) (i <? endsFrom) (λ e. let u = ltb-true i endsFrom e in record { valid = (omega arith, omega arith, omega arith); here = omega arith })
+    (λ e. let l = ltb-false i endsFrom e in
+    cond-ind (Stands i) (i <? placesFrom) (λ e. let u = ltb-true i placesFrom e in record { valid = (omega arith, omega arith, omega arith); here = omega arith })
+    (λ e. let l = ltb-false i placesFrom e in
+    cond-ind (Stands i) (i <? messagesFrom) (λ e. let u = ltb-true i messagesFrom e in record { valid = (omega arith, omega arith, omega arith); here = omega arith })
+    (λ e. let l = ltb-false i messagesFrom e in record { valid = (omega arith, omega arith); here = omega arith })))))
+
+pub at-lt : (f : Field) → Valid f → at f < tableWords
+at-lt (Head i) v = omega arith
+at-lt (Controller c k) v = omega arith
+at-lt (Known b a t) v = omega arith
+at-lt (End b a t) v = omega arith
+at-lt (Place c p k) v = omega arith
+at-lt (Message r k) v = omega arith
+
+-- a field stands at its position
+pub field-at : (f : Field) → Valid f → fieldAt (at f) ≡ f
+unfolding fieldAt
+field-at (Head i) v = simp (lt-ltb i controllersFrom v)
+field-at (Controller c k) v =
+    let i = at (Controller c k) in
+    let x : (i - controllersFrom) / controllerWords ≡ c = omega arith in
+    let y : (i - controllersFrom) % controllerWords ≡ k = omega arith in
+    simp (le-ltb i controllersFrom (omega arith), lt-ltb i knownFrom (omega arith)) (λ d. Controller (x d) (y d))
+field-at (Known b a t) v =
+    let i = at (Known b a t) in
+    let x : (i - knownFrom) / rowsWords ≡ b = omega arith in
+    let y : (i - knownFrom) / incarnations % controllers ≡ a = omega arith in
+    let z : (i - knownFrom) % incarnations ≡ t = omega arith in
+    simp (le-ltb i controllersFrom (omega arith), le-ltb i knownFrom (omega arith), lt-ltb i endsFrom (omega arith)) (λ d. Known (x d) (y d) (z d))
+field-at (End b a t) v =
+    let i = at (End b a t) in
+    let x : (i - endsFrom) / rowsWords ≡ b = omega arith in
+    let y : (i - endsFrom) / incarnations % controllers ≡ a = omega arith in
+    let z : (i - endsFrom) % incarnations ≡ t = omega arith in
+    simp (le-ltb i controllersFrom (omega arith), le-ltb i knownFrom (omega arith), le-ltb i endsFrom (omega arith), lt-ltb i placesFrom (omega arith))
+    (λ d. End (x d) (y d) (z d))
+field-at (Place c p k) v =
+    let i = at (Place c p k) in
+    let x : (i - placesFrom) / chainWords ≡ c = omega arith in
+    let y : (i - placesFrom) / placeWords % places ≡ p = omega arith in
+    let z : (i - placesFrom) % placeWords ≡ k = omega arith in
+    simp (
+      le-ltb i controllersFrom (omega arith),
+      le-ltb i knownFrom (omega arith),
+      le-ltb i endsFrom (omega arith),
+      le-ltb i placesFrom (omega arith),
+      lt-ltb i messagesFrom (omega arith),
+    )
+    (λ d. Place (x d) (y d) (z d))
+field-at (Message r k) v =
+    let i = at (Message r k) in
+    let x : (i - messagesFrom) / messageWords ≡ r = omega arith in
+    let y : (i - messagesFrom) % messageWords ≡ k = omega arith in
+    simp (
+      le-ltb i controllersFrom (omega arith),
+      le-ltb i knownFrom (omega arith),
+      le-ltb i endsFrom (omega arith),
+      le-ltb i placesFrom (omega arith),
+      le-ltb i messagesFrom (omega arith),
+    )
+    (λ d. Message (x d) (y d))
+
+-- two fields of the table at one position are one field
+pub at-one : (f g : Field) → Valid f → Valid g → at f ≡ at g → f ≡ g
+at-one f g u v e = sym (field-at f u) ∙ ap fieldAt e ∙ field-at g v
+
+-- the words of a record stand one after the other
+pub at-next : (f : Field) (k i : ℕ) → at (wordOf f (k + i)) ≡ at (wordOf f k) + i
+at-next (Head j) k i = refl
+at-next (Controller c j) k i = omega arith
+at-next (Known b a t) k i = omega arith
+at-next (End b a t) k i = omega arith
+at-next (Place c p j) k i = omega arith
+at-next (Message r j) k i = omega arith

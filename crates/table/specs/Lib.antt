@@ -1,0 +1,5 @@
+pub mod Field
+pub mod Change
+pub mod Layout
+pub mod Words
+pub mod Numbering
