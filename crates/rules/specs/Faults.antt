@@ -1,0 +1,40 @@
+-- Document 01's "faults that look sensible", where the starred examples don't tell them from the rules: one small state for
+-- each on which the fault would give something else.
+use mathlib.Core.Path.{_≡_, refl}
+use mathlib.Core.List.{List, [], _∷_, map}
+use Prim.Native.Nat.{ℕ}
+use lib.Count.{onesIn, ones}
+use Rattle.base.specs.Ranges.{anyb}
+use Rattle.base.specs.Lists.{tab}
+use Rattle.table.specs.Field.{State, Known, End, LiveCount, StableCount, MessagePairNumber, same}
+use Rattle.table.specs.Change.{blank, put, putPart, clearPlaces, putStates}
+use Rattle.table.specs.Numbering.{numberOf, recordOf, messageOf}
+use Rattle.rules.specs.Vector.{placeVector, messageVector, flat, knownStable, filterPair, filtered, condemnedPair, condemned, maskTo, mask}
+use Rattle.rules.specs.Shared.{interval, logged, loggedTo, causedFrom, causes, newVector, restarted, dropHeld, startAnew}
+use Rattle.rules.specs.Steps.{After, letOut, release, rolled}
+use Rattle.rules.specs.Report.{report}
+use Rattle.rules.specs.Starred.{Row, _is_, answer}
+use Rattle.rules.specs.declared.Answer.{Answer}
+use Rattle.rules.specs.declared.Answer.the-variants.{Released}
+
+-- message 1 is from controller 0, of degree 0, and has the pair (0,2) of controller 1, which controller 0 knows to be stable
+abbrev since-logged : State
+since-logged = put (put blank (MessagePairNumber 0 1) 2) (Known 0 1 0) 2
+
+-- controller 0 has three live intervals, of which one is stable
+abbrev two-unstable : State
+two-unstable = put (put blank (LiveCount 0) 3) (StableCount 0) 1
+
+abbrev told-apart : List Row
+told-apart =
+    -- "Counting stored pairs at release instead of filtered ones": it would be held.
+    (answer (release since-logged 1 .answer) is answer (Released 1 0))
+    -- "Writing an end word for a rollback as if it were a crash": the own end word would be 2.
+    ∷ ((rolled two-unstable 0 2 (End 0 0 0) ∷ []) is (0 ∷ []))
+    -- "Not logging kept intervals on rollback": they would not be known to be stable.
+    ∷ ((rolled two-unstable 0 2 (Known 0 0 0) ∷ []) is (2 ∷ []))
+    ∷ []
+
+pub told-apart-hold : map (λ (x : Row). x .given) told-apart ≡ map (λ (x : Row). x .said) told-apart
+unfolding put same putPart clearPlaces putStates tab anyb numberOf recordOf messageOf placeVector messageVector flat knownStable filterPair filtered condemnedPair condemned maskTo mask interval logged loggedTo causedFrom causes newVector restarted dropHeld startAnew letOut release rolled report onesIn ones
+told-apart-hold = refl

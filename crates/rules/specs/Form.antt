@@ -1,0 +1,112 @@
+-- "A table is in form when every word is in its range", with the limits as a parameter.
+use mathlib.Core.Bool.{Bool, cond, _&&_, _||_}
+use mathlib.Core.List.{[], _∷_}
+use Prim.Native.Nat.{ℕ, _+_, _-_}
+use Rattle.base.specs.Choice.{_==_, _≤?_, _<?_}
+use Rattle.base.specs.Ranges.{allb}
+use Rattle.base.specs.Cases.{allOf}
+use Rattle.table.specs.Field.{State, Head, Controller, Known, End, Place, Message, Size, SentCount, Degree, Incarnation, LiveCount, StableCount, PlaceIncarnation, PlaceNumber, Cause, Flag, MessageState, Sender, Receiver, SendingIncarnation, SendingNumber}
+use Rattle.table.specs.Layout.{controllers, incarnations, headWords, controllerWords, placeWords, messageWords}
+use Rattle.table.specs.Numbering.{numberOf}
+use Rattle.rules.specs.Limits.{Limits, lastIncarnation}
+use Rattle.rules.specs.Vector.{Pair, Vector, incarnation, number, pairOf, placeVector, messageVector}
+
+-- "States: 0 unused, 1 held, 2 released, 3 delivered, 4 lost, 5 dropped."
+abbrev pub held : ℕ
+held = 1
+
+abbrev pub released : ℕ
+released = 2
+
+abbrev pub delivered : ℕ
+delivered = 3
+
+abbrev pub lost : ℕ
+lost = 4
+
+abbrev pub dropped : ℕ
+dropped = 5
+
+-- k words in a row are 0
+unfoldable pub zeros : ℕ → (ℕ → ℕ) → Bool
+zeros k word = allb k (λ (i : ℕ). word i == 0)
+
+module _ (L : Limits) (n : ℕ) where
+  -- "pair numbers 0 to 64, and 0 only with incarnation 0; incarnations 0 to 15; all words for controllers from n on, pairs
+  -- included, are 0"
+  unfoldable pub pairOk : ℕ → Pair → Bool
+  pairOk a p =
+      cond (a <? n)
+      (allOf ((number p ≤? L .numbers) ∷ (incarnation p ≤? lastIncarnation) ∷ ((0 <? number p) || (incarnation p == 0)) ∷ []))
+      (allOf ((number p == 0) ∷ (incarnation p == 0) ∷ []))
+
+  unfoldable pub vectorOk : Vector → Bool
+  vectorOk v = allb controllers (λ (a : ℕ). pairOk a (pairOf v a))
+
+  -- "K (0 to n), incarnation, live count (1 to 64), stable count (1 to live count)"
+  unfoldable pub controllerOk : State → ℕ → Bool
+  controllerOk σ c =
+      cond (c <? n)
+      (allOf
+      ((σ (Degree c) ≤? n)
+      ∷ (σ (Incarnation c) ≤? lastIncarnation)
+      ∷ (1 ≤? σ (LiveCount c))
+      ∷ (σ (LiveCount c) ≤? L .places)
+      ∷ (1 ≤? σ (StableCount c))
+      ∷ (σ (StableCount c) ≤? σ (LiveCount c))
+      ∷ []))
+      (zeros controllerWords (λ (k : ℕ). σ (Controller c k)))
+
+  -- "known and end words 0 to 64", of holder b and owner a; 0 for controllers from n on
+  unfoldable pub highest : ℕ → ℕ → ℕ
+  highest b a = cond ((b <? n) && (a <? n)) (L .numbers) 0
+
+  unfoldable pub rowOk : State → ℕ → ℕ → Bool
+  rowOk σ b a = allb incarnations (λ (t : ℕ). (σ (Known b a t) ≤? highest b a) && (σ (End b a t) ≤? highest b a))
+
+  -- "place p has number p + 1; place 0 has flag 1; a cause is at most the messages sent"; "checkpoint flag (0 or 1)";
+  -- "places from the live count on are 0" (a controller from n on has the live count 0)
+  unfoldable pub placeOk : State → ℕ → ℕ → Bool
+  placeOk σ c p =
+      cond (p <? σ (LiveCount c))
+      (allOf
+      ((σ (PlaceIncarnation c p) ≤? lastIncarnation)
+      ∷ (σ (PlaceNumber c p) == numberOf σ c (p + 1))
+      ∷ (σ (Cause c p) ≤? σ SentCount)
+      ∷ (σ (Flag c p) ≤? 1)
+      ∷ ((0 <? p) || (σ (Flag c p) == 1))
+      ∷ vectorOk (placeVector σ c p)
+      ∷ []))
+      (zeros placeWords (λ (k : ℕ). σ (Place c p k)))
+
+  -- "sent messages have state 1 to 5, sender and receiver below n, sending number 1 to 64; payload free"; "unsent messages
+  -- are 0"
+  unfoldable pub messageOk : State → ℕ → Bool
+  messageOk σ r =
+      cond (r <? σ SentCount)
+      (allOf
+      ((held ≤? σ (MessageState r))
+      ∷ (σ (MessageState r) ≤? dropped)
+      ∷ (σ (Sender r) <? n)
+      ∷ (σ (Receiver r) <? n)
+      ∷ (σ (SendingIncarnation r) ≤? lastIncarnation)
+      ∷ (1 ≤? σ (SendingNumber r))
+      ∷ (σ (SendingNumber r) ≤? L .numbers)
+      ∷ vectorOk (messageVector σ r)
+      ∷ []))
+      (zeros messageWords (λ (k : ℕ). σ (Message r k)))
+
+-- "n (1 to 8); word 1: messages sent (0 to 128); words 2 to 15 are 0", and all the rest
+unfoldable pub inForm : Limits → State → Bool
+inForm L σ =
+    let n = σ Size in
+    allOf
+    ((1 ≤? n)
+    ∷ (n ≤? controllers)
+    ∷ (σ SentCount ≤? L .messages)
+    ∷ zeros (headWords - 2) (λ (k : ℕ). σ (Head (2 + k)))
+    ∷ allb controllers (controllerOk L n σ)
+    ∷ allb controllers (λ (b : ℕ). allb controllers (rowOk L n σ b))
+    ∷ allb controllers (λ (c : ℕ). allb (L .places) (placeOk L n σ c))
+    ∷ allb (L .messages) (messageOk L n σ)
+    ∷ [])

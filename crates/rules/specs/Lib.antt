@@ -1,0 +1,9 @@
+pub mod Limits
+pub mod Vector
+pub mod Form
+pub mod Shared
+pub mod Steps
+pub mod Step
+pub mod Report
+pub mod Starred
+pub mod Faults

@@ -1,0 +1,16 @@
+-- The limits of a house, which are parameters of the rules.
+use Prim.Native.Nat.{ℕ}
+use Rattle.table.specs.Layout.{places, messages}
+
+-- How many places a controller has, how many message records the house, and how far interval numbers run.
+pub record Limits : Type 0 where
+  pub places : ℕ
+  pub messages : ℕ
+  pub numbers : ℕ
+
+abbrev pub house : Limits
+house = record { places = places; messages = messages; numbers = 64 }
+
+-- "An interval has an incarnation t (0 to 15)."
+abbrev pub lastIncarnation : ℕ
+lastIncarnation = 15

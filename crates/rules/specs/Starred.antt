@@ -1,0 +1,92 @@
+-- Document 01's starred examples, 1 to 9: a table of what the definitions give and what the paper says, and one claim over it.
+use mathlib.Core.Path.{_≡_, refl}
+use mathlib.Core.Bool.{Bool, cond}
+use mathlib.Core.List.{List, [], _∷_, map}
+use Prim.Native.Nat.{ℕ}
+use lib.Count.{onesIn, ones}
+use Rattle.base.specs.Ranges.{anyb}
+use Rattle.base.specs.Lists.{tab}
+use Rattle.table.specs.Field.{State, same, Known, End, Degree, LiveCount, Flag, PairNumber, MessagePairIncarnation, MessagePairNumber}
+use Rattle.table.specs.Change.{blank, put, putPart}
+use Rattle.table.specs.Numbering.{numberOf, recordOf}
+use Rattle.rules.specs.Limits.{house}
+use Rattle.rules.specs.Vector.{pair, noPair, pairOf, placeVector, messageVector, flat, knownStable, filterPair, filtered, condemnedPair, condemned, maskTo, mask, conflictPair, conflict, mergePair, merged}
+use Rattle.rules.specs.Shared.{interval, latestFlagged, replayed}
+use Rattle.rules.specs.Steps.{letOut, release, begun, deliver}
+use Rattle.rules.specs.Report.{report}
+use Rattle.rules.specs.declared.Answer.{Answer}
+use Rattle.rules.specs.declared.Answer.the-variants.{Released, Held, Delivered, Waits}
+
+-- a row: what the definitions give, and what the paper says, as numbers
+pub record Row : Type 0 where
+  pub given : List ℕ
+  pub said : List ℕ
+
+infix 20 _is_
+abbrev pub _is_ : List ℕ → List ℕ → Row
+g is s = record { given = g; said = s }
+
+abbrev no : List ℕ
+no = 0 ∷ []
+
+abbrev yes : List ℕ
+yes = 1 ∷ []
+
+abbrev truth : Bool → List ℕ
+truth b = cond b yes no
+
+abbrev pub answer : Answer → List ℕ
+answer a = report a .number ∷ report a .values
+
+-- controller 1 holds the end word 4 for controller 0's incarnation 0
+abbrev ended : State
+ended = put blank (End 1 0 0) 4
+
+-- controller 1 knows controller 0's intervals of incarnation 0 to be stable up to 2
+abbrev known : State
+known = put blank (Known 1 0 0) 2
+
+-- message 1 is from controller 0, whose degree is k; its vector has pairs of controllers 1 and 2
+abbrev two-named : ℕ → State
+two-named k = put (put (put blank (Degree 0) k) (MessagePairNumber 0 1) 5) (MessagePairNumber 0 2) 3
+
+-- controller 0 has one live interval, which has the pair (0,9) of controller 1; message 1, for it, has the pair (1,3)
+abbrev two-incarnations : State
+two-incarnations = put (put (put (put blank (LiveCount 0) 1) (PairNumber 0 0 1) 9) (MessagePairIncarnation 0 1) 1) (MessagePairNumber 0 1) 3
+
+-- the same, and controller 0 knows (0,9) to be stable
+abbrev one-stable : State
+one-stable = put two-incarnations (Known 0 1 0) 9
+
+-- intervals 1 and 4 of controller 0 are flagged
+abbrev flagged : State
+flagged = put (put blank (Flag 0 0) 1) (Flag 0 3) 1
+
+abbrev starred : List Row
+starred =
+    -- 1. Pair (0,4), end 4 in incarnation 0: not condemned.
+    (truth (condemnedPair ended 1 0 (pair 0 4)) is no)
+    -- 2. Pair (0,5), same end: condemned.
+    ∷ (truth (condemnedPair ended 1 0 (pair 0 5)) is yes)
+    -- 3. Pair (1,5), same end: not condemned.
+    ∷ (truth (condemnedPair ended 1 0 (pair 1 5)) is no)
+    -- 4. Pair (0,2), known 2: empty after filtering; (0,3) stays.
+    ∷ (filterPair known 1 0 (pair 0 2) is noPair)
+    ∷ (filterPair known 1 0 (pair 0 3) is pair 0 3)
+    -- 5. Mask 6 with K 1 is held; with K 2 released.
+    ∷ (answer (release (two-named 1) 1 .answer) is answer (Held 1 6))
+    ∷ (answer (release (two-named 2) 1 .answer) is answer (Released 1 6))
+    -- 6. Mask 0 with K 0 is released.
+    ∷ (answer (release blank 1 .answer) is answer (Released 1 0))
+    -- 7. Pairs (0,9) and (1,3) of one owner, neither known stable: waits.
+    ∷ (answer (deliver house two-incarnations 1 .answer) is answer (Waits 1))
+    -- 8. The same with (0,9) known stable: merged pair (1,3).
+    ∷ (answer (deliver house one-stable 1 .answer) is answer (Delivered 1 0 2))
+    ∷ (pairOf (placeVector (deliver house one-stable 1 .left) 0 1) 1 is pair 1 3)
+    -- 9. k 5, flagged numbers 1 and 4: replayed 1.
+    ∷ ((replayed flagged 0 5 ∷ []) is (1 ∷ []))
+    ∷ []
+
+pub starred-hold : map (λ (x : Row). x .given) starred ≡ map (λ (x : Row). x .said) starred
+unfolding put same putPart tab anyb numberOf recordOf placeVector messageVector flat knownStable filterPair filtered condemnedPair condemned maskTo mask conflictPair conflict mergePair merged interval latestFlagged replayed letOut release begun deliver report onesIn ones
+starred-hold = refl

@@ -1,0 +1,50 @@
+// What is asked of a house and what it answers. The rules themselves are definitions, in specs/.
+
+// A step, by its letter in document 01.
+pub enum Command {
+    // O n k
+    Open(u32, u32),
+    // K c k
+    SetDegree(u32, u32),
+    // S s r p
+    Send(u32, u32, u32),
+    // R m
+    Release(u32),
+    // D m
+    Deliver(u32),
+    // L c q
+    Log(u32, u32),
+    // C c
+    Checkpoint(u32),
+    // T a b
+    Tell(u32, u32),
+    // X c
+    Crash(u32),
+    // H b a t
+    Hear(u32, u32, u32),
+}
+
+// The answer to a step. specs/Report.antt gives each its word, number and values.
+pub enum Answer {
+    Done,
+    // message
+    Sent(u32),
+    // message, mask
+    Released(u32, u32),
+    // message, mask
+    Held(u32, u32),
+    // message, incarnation and number of the new interval
+    Delivered(u32, u32, u32),
+    // message
+    Dropped(u32),
+    // message
+    Waits(u32),
+    // controller, ended incarnation, kept number, intervals lost, intervals to replay
+    Crashed(u32, u32, u32, u32, u32),
+    // controller
+    Heard(u32),
+    // controller, kept number, intervals undone, intervals to replay
+    Rolled(u32, u32, u32, u32),
+    // refusal number
+    Refused(u32),
+}
