@@ -1,0 +1,229 @@
+-- Rules look only at words of the table: on states with the same words they give the same, and leave the same words.
+use mathlib.Core.Path.{_≡_, refl, sym, ap, ap₂, _∙_, subst}
+use mathlib.Core.Bool.{Bool, true, false, cond, not, _&&_, _||_}
+use mathlib.Core.List.{List, [], _∷_}
+use Prim.Native.Nat.{ℕ, zero, suc, _+_, _-_, _*_, _≤_, _<_, max}
+use native.Mathlib.Nat.{zero-lt-suc}
+use native.Mathlib.Omega.{arith}
+use lib.ListN.{set}
+use Rattle.base.specs.Choice.{_==_, _≤?_, _<?_}
+use Rattle.base.specs.Ranges.{anyb, first}
+use Rattle.base.specs.Lists.{tab}
+use Rattle.table.specs.Field.{Field, State, Head, Controller, Known, End, Place, Message, SentCount, Incarnation, LiveCount, StableCount, PlaceIncarnation, PlaceNumber, Cause, Flag, PairIncarnation, PairNumber, MessageState, Sender, SendingNumber, MessagePairIncarnation, MessagePairNumber, messageHead}
+use Rattle.table.specs.Change.{put, putPart, inPlaces, clearPlaces, putStates}
+use Rattle.table.specs.Layout.{controllers, incarnations, places, messages}
+use Rattle.table.specs.Words.{Agree, agree-put, agree-part}
+use Rattle.table.specs.Numbering.{numberOf, recordOf, messageOf}
+use Rattle.rules.specs.Vector.{Pair, Vector, pair, noPair, incarnation, number, empty, pairOf, placeVector, messageVector, flat, knownStable, filterPair, filtered, condemnedPair, condemned}
+use Rattle.rules.specs.Form.{held, released, delivered, lost, dropped}
+use Rattle.rules.specs.Shared.{newest, interval, logged, loggedTo, causedFrom, causes, newVector, restarted, orphanedFrom, dropHeld, startAnew, latestFlagged, replayed}
+use Rattle.rules.specs.Steps.{message, sent, letOut, begun, checkpointed, told, crashed, noted, lowestCondemned, rolled}
+use Rattle.laws.specs.Facts.{Near}
+
+-- what is made of the values of a function below a bound
+pub tab-same : {A : Type 0} (n : ℕ) (f g : ℕ → A) → ((i : ℕ) → i < n → f i ≡ g i) → tab n f ≡ tab n g
+unfolding tab
+tab-same zero f g h = refl
+tab-same (suc n) f g h = ap₂ (λ a l. a ∷ l) (h 0 (zero-lt-suc n)) (tab-same n (λ i. f (suc i)) (λ i. g (suc i)) (λ i l. h (suc i) (omega arith)))
+
+pub anyb-same : (n : ℕ) (f g : ℕ → Bool) → ((i : ℕ) → i < n → f i ≡ g i) → anyb n f ≡ anyb n g
+unfolding anyb
+anyb-same zero f g h = refl
+anyb-same (suc n) f g h = ap₂ (λ (x y : Bool). x || y) (anyb-same n f g (λ i l. h i (omega arith))) (h n (omega arith))
+
+pub first-same : (n : ℕ) (f g : ℕ → Bool) → ((i : ℕ) → i < n → f i ≡ g i) → first n f ≡ first n g
+unfolding first
+first-same zero f g h = refl
+first-same (suc n) f g h =
+    ap₂ (λ (b : Bool) (k : ℕ). cond b 0 (suc k)) (h 0 (zero-lt-suc n))
+    (first-same n (λ i. f (suc i)) (λ i. g (suc i)) (λ i l. h (suc i) (omega arith)))
+
+-- places cleared, and states put
+pub agree-clear : (σ τ : State) (c p q : ℕ) → Agree σ τ → Agree (clearPlaces σ c p q) (clearPlaces τ c p q)
+unfolding clearPlaces
+agree-clear σ τ c p q e g v = ap (cond (inPlaces c p q g) 0) (e g v)
+
+pub agree-states : (σ τ : State) (s u : ℕ → ℕ) → ((r : ℕ) → r < messages → s r ≡ u r) → Agree σ τ → Agree (putStates σ s) (putStates τ u)
+unfolding putStates
+agree-states σ τ s u h e (Head i) v = e (Head i) v
+agree-states σ τ s u h e (Controller c k) v = e (Controller c k) v
+agree-states σ τ s u h e (Known b a t) v = e (Known b a t) v
+agree-states σ τ s u h e (End b a t) v = e (End b a t) v
+agree-states σ τ s u h e (Place c p k) v = e (Place c p k) v
+agree-states σ τ s u h e (Message r k) v = ap₂ (λ x y. cond (k == 0) x y) (h r (v .0)) (e (Message r k) v)
+
+agree-cond : (σ τ σ′ τ′ : State) (b : Bool) → Agree σ τ → Agree σ′ τ′ → Agree (cond b σ σ′) (cond b τ τ′)
+agree-cond σ τ σ′ τ′ true e e′ = e
+agree-cond σ τ σ′ τ′ false e e′ = e′
+
+-- what starting anew writes, by what it has read: incarnation, live count, vector
+abbrev writtenAnew : State → ℕ → ℕ → ℕ → ℕ → Vector → State
+writtenAnew σ c k i l v =
+    let begun = putPart (clearPlaces σ c k l) (Place c k 0) 0 (interval (i + 1) (k + 1) 0 0 v) in
+    put (put (put (put begun (Incarnation c) (i + 1)) (LiveCount c) (k + 1)) (StableCount c) (k + 1)) (Known c c (i + 1)) (k + 1)
+
+module _ (σ τ : State) (e : Agree σ τ) where
+  -- a word of a controller, of a place, of a message
+  pub controller-same : (c k : ℕ) → c < controllers → k < 4 → σ (Controller c k) ≡ τ (Controller c k)
+  controller-same c k cl kl = e (Controller c k) (cl, omega arith)
+
+  pub place-same : (c p k : ℕ) → c < controllers → p < places → k < 20 → σ (Place c p k) ≡ τ (Place c p k)
+  place-same c p k cl pl kl = e (Place c p k) (cl, pl, omega arith)
+
+  pub message-same : (r k : ℕ) → r < messages → k < 22 → σ (Message r k) ≡ τ (Message r k)
+  message-same r k rl kl = e (Message r k) (rl, omega arith)
+
+  -- vectors
+  pub placeVector-same : (c p : ℕ) → c < controllers → p < places → placeVector σ c p ≡ placeVector τ c p
+  unfolding placeVector
+  placeVector-same c p cl pl =
+      tab-same controllers _ _
+      (λ a l. ap₂ pair (place-same c p (4 + 2 * a) cl pl (omega arith)) (place-same c p (4 + 2 * a + 1) cl pl (omega arith)))
+
+  pub messageVector-same : (r : ℕ) → r < messages → messageVector σ r ≡ messageVector τ r
+  unfolding messageVector
+  messageVector-same r rl =
+      tab-same controllers _ _ (λ a l. ap₂ pair (message-same r (6 + 2 * a) rl (omega arith)) (message-same r (6 + 2 * a + 1) rl (omega arith)))
+
+  pub knownStable-same : (b a : ℕ) (p : Pair) → b < controllers → a < controllers → incarnation p < incarnations → knownStable σ b a p ≡ knownStable τ b a p
+  unfolding knownStable
+  knownStable-same b a p bl al tl = ap (λ x. number p ≤? x) (e (Known b a (incarnation p)) (bl, al, tl))
+
+  pub filterPair-same : (b a : ℕ) (p : Pair) → b < controllers → a < controllers → incarnation p < incarnations → filterPair σ b a p ≡ filterPair τ b a p
+  unfolding filterPair
+  filterPair-same b a p bl al tl = ap (λ x. cond x noPair p) (knownStable-same b a p bl al tl)
+
+  pub filtered-same : (b : ℕ) (v : Vector) → b < controllers → Near v → filtered σ b v ≡ filtered τ b v
+  unfolding filtered
+  filtered-same b v bl near = tab-same controllers _ _ (λ a l. filterPair-same b a (pairOf v a) bl l (near a l))
+
+  pub condemnedPair-same : (b a : ℕ) (p : Pair) → b < controllers → a < controllers → incarnation p < incarnations → condemnedPair σ b a p ≡ condemnedPair τ b a p
+  unfolding condemnedPair
+  condemnedPair-same b a p bl al tl = ap (λ x. not (empty p) && (not (x == 0) && (x <? number p))) (e (End b a (incarnation p)) (bl, al, tl))
+
+  pub condemned-same : (b : ℕ) (v : Vector) → b < controllers → Near v → condemned σ b v ≡ condemned τ b v
+  unfolding condemned
+  condemned-same b v bl near = anyb-same controllers _ _ (λ a l. condemnedPair-same b a (pairOf v a) bl l (near a l))
+
+  -- what is looked for on a chain
+  pub causedFrom-same : (c k r : ℕ) → c < controllers → σ (LiveCount c) ≤ places → causedFrom σ c k r ≡ causedFrom τ c k r
+  unfolding causedFrom messageOf
+  causedFrom-same c k r cl ll =
+      anyb-same (σ (LiveCount c) - k) _ _ (λ i l. ap (λ x. x == r + 1) (place-same c (k + i) 2 cl (omega arith) (omega arith)))
+      ∙ ap (λ n. anyb (n - k) (λ (i : ℕ). τ (Cause c (k + i)) == r + 1)) (controller-same c 2 cl (omega arith))
+
+  pub latestFlagged-same : (c k : ℕ) → c < controllers → k ≤ places → latestFlagged σ c k ≡ latestFlagged τ c k
+  unfolding latestFlagged numberOf
+  latestFlagged-same c zero cl kl = refl
+  latestFlagged-same c (suc p) cl kl =
+      ap₂ (λ (x y : ℕ). cond (x == 1) (p + 1) y) (place-same c p 3 cl (omega arith) (omega arith)) (latestFlagged-same c p cl (omega arith))
+
+  pub replayed-same : (c k : ℕ) → c < controllers → k ≤ places → replayed σ c k ≡ replayed τ c k
+  unfolding replayed numberOf
+  replayed-same c k cl kl = ap (λ x. k - x) (latestFlagged-same c k cl kl)
+
+  pub lowestCondemned-same : (b : ℕ) → b < controllers → σ (LiveCount b) ≤ places → ((p : ℕ) → p < σ (LiveCount b) → Near (placeVector σ b p)) →
+      lowestCondemned σ b ≡ lowestCondemned τ b
+  unfolding lowestCondemned
+  lowestCondemned-same b bl ll near =
+      ap (λ x. 1 + x)
+      (first-same (σ (LiveCount b) - 1) _ _
+      (λ i l. condemned-same b (placeVector σ b (1 + i)) bl (near (1 + i) (omega arith))
+      ∙ ap (condemned τ b) (placeVector-same b (1 + i) bl (omega arith)))
+      ∙ ap (λ n. first (n - 1) (λ (i : ℕ). condemned τ b (placeVector τ b (1 + i)))) (controller-same b 2 bl (omega arith)))
+
+  -- logging
+  pub agree-logged : (c j : ℕ) → c < controllers → Agree (logged σ c j) (logged τ c j)
+  unfolding logged numberOf
+  agree-logged c j cl =
+      subst (λ i. Agree (put (put σ (StableCount c) j) (Known c c (σ (Incarnation c))) j) (put (put τ (StableCount c) j) (Known c c i) j))
+      (controller-same c 1 cl (omega arith)) (agree-put _ _ (Known c c (σ (Incarnation c))) j (agree-put σ τ (StableCount c) j e))
+
+  pub agree-loggedTo : (c j : ℕ) → c < controllers → Agree (loggedTo σ c j) (loggedTo τ c j)
+  unfolding loggedTo
+  agree-loggedTo c j cl =
+      subst (λ n. Agree (cond (σ (StableCount c) <? j) (logged σ c j) σ) (cond (n <? j) (logged τ c j) τ)) (controller-same c 3 cl (omega arith))
+      (agree-cond _ _ _ _ (σ (StableCount c) <? j) (agree-logged c j cl) e)
+
+  -- states of messages
+  pub agree-causes : (c k : ℕ) (s u : ℕ → ℕ) → c < controllers → σ (LiveCount c) ≤ places → ((r : ℕ) → r < messages → s r ≡ u r) → Agree (causes σ c k s) (causes τ c k u)
+  unfolding causes
+  agree-causes c k s u cl ll h =
+      agree-states σ τ _ _
+      (λ r l. λ d. cond (causedFrom-same c k r cl ll d) (h r l d) (message-same r 0 l (omega arith) d)) e
+
+  pub orphanedFrom-same : (c k r : ℕ) → r < messages → orphanedFrom σ c k r ≡ orphanedFrom τ c k r
+  unfolding numberOf
+  orphanedFrom-same c k r l =
+      λ d. (message-same r 0 l (omega arith) d == held) && ((message-same r 1 l (omega arith) d == c) && (k <? message-same r 4 l (omega arith) d))
+
+  pub agree-dropHeld : (c k : ℕ) → Agree (dropHeld σ c k) (dropHeld τ c k)
+  unfolding dropHeld
+  agree-dropHeld c k =
+      agree-states σ τ _ _ (λ r l. λ d. cond (orphanedFrom-same c k r l d) dropped (message-same r 0 l (omega arith) d)) e
+
+  -- starting anew
+  pub newVector-same : (c k : ℕ) → c < controllers → k ≤ places → 1 ≤ k → Near (placeVector σ c (k - 1)) → newVector σ c k ≡ newVector τ c k
+  unfolding newVector numberOf
+  newVector-same c k cl kl k1 near =
+      let v = filtered-same c (placeVector σ c (k - 1)) cl near ∙ ap (filtered τ c) (placeVector-same c (k - 1) cl (omega arith)) in
+      λ d. set (v d) c (pair (controller-same c 1 cl (omega arith) d + 1) (k + 1))
+
+  agree-written : (c k i l : ℕ) (v : Vector) → Agree (writtenAnew σ c k i l v) (writtenAnew τ c k i l v)
+  agree-written c k i l v =
+      agree-put _ _ (Known c c (i + 1)) _ (agree-put _ _ (StableCount c) _ (agree-put _ _ (LiveCount c) _ (agree-put _ _ (Incarnation c) _
+      (agree-part _ _ (Place c k 0) 0 _ (agree-clear σ τ c k l e)))))
+
+  pub agree-restarted : (c k : ℕ) → c < controllers → k ≤ places → 1 ≤ k → Near (placeVector σ c (k - 1)) → Agree (restarted σ c k) (restarted τ c k)
+  unfolding restarted numberOf
+  agree-restarted c k cl kl k1 near =
+      let p : writtenAnew τ c k (σ (Incarnation c)) (σ (LiveCount c)) (newVector σ c k) ≡ writtenAnew τ c k (τ (Incarnation c)) (τ (LiveCount c)) (newVector τ c k) =
+      λ d. writtenAnew τ c k (controller-same c 1 cl (omega arith) d) (controller-same c 2 cl (omega arith) d) (newVector-same c k cl kl k1 near d) in
+      subst (Agree (restarted σ c k)) p (agree-written c k (σ (Incarnation c)) (σ (LiveCount c)) (newVector σ c k))
+
+  -- a message sent, let out; an interval begun
+  pub agree-sent : (s r p : ℕ) → s < controllers → newest σ s < places → Near (placeVector σ s (newest σ s)) → Agree (sent σ s r p) (sent τ s r p)
+  unfolding sent
+  agree-sent s r p sl nl near =
+      let n : newest σ s ≡ newest τ s = ap (λ x. x - 1) (controller-same s 2 sl (omega arith)) in
+      let v : filtered σ s (placeVector σ s (newest σ s)) ≡ filtered τ s (placeVector τ s (newest τ s)) =
+      filtered-same s _ sl near ∙ ap (filtered τ s) (placeVector-same s (newest σ s) sl nl ∙ ap (placeVector τ s) n) in
+      let t : σ (PlaceIncarnation s (newest σ s)) ≡ τ (PlaceIncarnation s (newest τ s)) =
+      place-same s (newest σ s) 0 sl nl (omega arith) ∙ ap (λ q. τ (PlaceIncarnation s q)) n in
+      let x : σ (PlaceNumber s (newest σ s)) ≡ τ (PlaceNumber s (newest τ s)) =
+      place-same s (newest σ s) 1 sl nl (omega arith) ∙ ap (λ q. τ (PlaceNumber s q)) n in
+      let m : σ SentCount ≡ τ SentCount = e SentCount (omega arith) in
+      let written : State → ℕ → ℕ → ℕ → Vector → State = λ ρ m t x v. put (putPart ρ (Message m 0) 0 (message held s r t x p v)) SentCount (m + 1) in
+      subst (Agree (sent σ s r p)) (λ d. written τ (m d) (t d) (x d) (v d)) (agree-put _ _ SentCount _ (agree-part σ τ (Message (σ SentCount) 0) 0 _ e))
+
+  pub agree-letOut : (r : ℕ) (v : Vector) → Agree (letOut σ r v) (letOut τ r v)
+  unfolding letOut
+  agree-letOut r v = agree-put _ _ (MessageState r) released (agree-part σ τ (Message r 0) messageHead (flat v) e)
+
+  pub agree-begun : (c m : ℕ) (v : Vector) → c < controllers → Agree (begun σ c m v) (begun τ c m v)
+  unfolding begun numberOf recordOf
+  agree-begun c m v cl =
+      let written : State → ℕ → ℕ → State =
+      λ ρ t l. put (put (putPart ρ (Place c l 0) 0 (interval t (l + 1) m 0 (set v c (pair t (l + 1))))) (LiveCount c) (l + 1)) (MessageState (m - 1)) delivered in
+      subst (Agree (begun σ c m v)) (λ d. written τ (controller-same c 1 cl (omega arith) d) (controller-same c 2 cl (omega arith) d))
+      (agree-put _ _ (MessageState (m - 1)) _ (agree-put _ _ (LiveCount c) _ (agree-part σ τ (Place c (σ (LiveCount c)) 0) 0 _ e)))
+
+  -- what a controller is told of another
+  pub agree-noted : (b a t : ℕ) → b < controllers → a < controllers → t < incarnations → Agree (noted σ b a t) (noted τ b a t)
+  unfolding noted
+  agree-noted b a t bl al tl =
+      let written : State → ℕ → ℕ → State = λ ρ x k. put (put ρ (End b a t) x) (Known b a t) (max k x) in
+      subst (Agree (noted σ b a t)) (λ d. written τ (e (End a a t) (al, al, tl) d) (e (Known b a t) (bl, al, tl) d))
+      (agree-put _ _ (Known b a t) _ (agree-put σ τ (End b a t) _ e))
+
+  pub agree-told : (a b : ℕ) → a < controllers → b < controllers → Agree (told σ a b) (told τ a b)
+  unfolding told
+  agree-told a b al bl =
+      subst (λ r. Agree (told σ a b) (putPart τ (Known b a 0) 0 r))
+      (tab-same incarnations _ _ (λ t l. ap₂ max (e (Known b a t) (bl, al, l)) (e (Known a a t) (al, al, l)))) (agree-part σ τ (Known b a 0) 0 _ e)
+
+-- starting anew, with the messages that it drops
+pub agree-startAnew : (σ τ : State) → Agree σ τ → (c k : ℕ) → c < controllers → k ≤ places → 1 ≤ k → Near (placeVector σ c (k - 1)) →
+    Agree (startAnew σ c k) (startAnew τ c k)
+unfolding startAnew
+agree-startAnew σ τ e c k cl kl k1 near = agree-dropHeld _ _ (agree-restarted σ τ e c k cl kl k1 near) c k

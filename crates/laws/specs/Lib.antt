@@ -1,0 +1,4 @@
+pub mod Facts
+pub mod Allowed
+pub mod Agree
+pub mod Answering

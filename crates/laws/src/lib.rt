@@ -1,0 +1,1 @@
+// Laws about the rules that the code and the theorem share (specs/).
