@@ -1,0 +1,40 @@
+-- The flag gathers the tests of the controllers before c (allb-step).
+use Rattle.base.specs.Ranges.{allb, allb-zero, allb-step, allb-end}
+use Rattle.table.specs.Layout.{controllers}
+use Rattle.table.specs.Words.{state}
+use Rattle.rules.specs.Limits.{house}
+use Rattle.rules.specs.Form.{controllerOk}
+use borrow.Author.Needs.{needs}
+use mathlib.Core.Path.{_≡_}
+use Prim.Native.Nat.{_-_, _≤_}
+use Rattle.form.proofs.controllers_ok.Statement.{statement}
+use Rattle.form.proofs.controllers_ok.Tie as tie
+
+abbrev Inv-loop : tie.InvT-loop
+Inv-loop t n ok₀ c₀ ok c = (c ≤ controllers) × (ok ≡ allb c (controllerOk house n (state t)))
+
+abbrev μ-loop : tie.MeasureT-loop
+μ-loop t n ok₀ c₀ ok c = controllers - c
+
+loop-holds : tie.Need-loop-holds Inv-loop μ-loop
+loop-holds c = (search needs, allb-zero _)
+
+controller-ok-requires : tie.Need-controller-ok-requires Inv-loop μ-loop
+controller-ok-requires c κs = search needs
+
+add-c : tie.Need-add-c Inv-loop μ-loop
+add-c c = search needs
+
+loop-less : tie.Need-loop-less Inv-loop μ-loop
+loop-less c = search needs
+
+loop-again : tie.Need-loop-again Inv-loop μ-loop
+loop-again c = (search needs, allb-step _ _ _ _ (c .before .before .loop .inv .1) (c .controller-ok .ensures))
+
+returns : tie.Need-returns Inv-loop μ-loop
+returns c = allb-end _ _ _ _ (c .before .loop .inv .1) (c .before .loop .inv .0) (c .loop-test .left)
+
+pub controllers-ok-spec : {M : Type 1} → statement M
+controllers-ok-spec =
+    tie.close
+    (tie.spec Inv-loop μ-loop loop-holds controller-ok-requires add-c loop-less loop-again returns)

@@ -1,0 +1,40 @@
+-- The flag gathers the tests of the owners before a (allb-step).
+use Rattle.base.specs.Ranges.{allb, allb-zero, allb-step, allb-end}
+use Rattle.table.specs.Layout.{controllers}
+use Rattle.table.specs.Words.{state}
+use Rattle.rules.specs.Limits.{house}
+use Rattle.rules.specs.Form.{rowOk}
+use borrow.Author.Needs.{needs}
+use mathlib.Core.Path.{_≡_}
+use Prim.Native.Nat.{_-_, _≤_}
+use Rattle.form.proofs.rows_ok.Statement.{statement}
+use Rattle.form.proofs.rows_ok.Tie as tie
+
+abbrev Inv-loop : tie.InvT-loop
+Inv-loop t n b ok₀ a₀ ok a = (a ≤ controllers) × (ok ≡ allb a (rowOk house n (state t) b))
+
+abbrev μ-loop : tie.MeasureT-loop
+μ-loop t n b ok₀ a₀ ok a = controllers - a
+
+loop-holds : tie.Need-loop-holds Inv-loop μ-loop
+loop-holds c = (search needs, allb-zero _)
+
+row-ok-requires : tie.Need-row-ok-requires Inv-loop μ-loop
+row-ok-requires c κs = search needs
+
+add-a : tie.Need-add-a Inv-loop μ-loop
+add-a c = search needs
+
+loop-less : tie.Need-loop-less Inv-loop μ-loop
+loop-less c = search needs
+
+loop-again : tie.Need-loop-again Inv-loop μ-loop
+loop-again c = (search needs, allb-step _ _ _ _ (c .before .before .loop .inv .1) (c .row-ok .ensures))
+
+returns : tie.Need-returns Inv-loop μ-loop
+returns c = allb-end _ _ _ _ (c .before .loop .inv .1) (c .before .loop .inv .0) (c .loop-test .left)
+
+pub rows-ok-spec : {M : Type 1} → statement M
+rows-ok-spec =
+    tie.close
+    (tie.spec Inv-loop μ-loop loop-holds row-ok-requires add-a loop-less loop-again returns)

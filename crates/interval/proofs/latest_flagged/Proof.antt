@@ -1,0 +1,82 @@
+-- The places from p on and below k are not flagged, so that the answer for k is that for p.
+use Rattle.table.specs.Layout.{places}
+use Rattle.table.specs.Words.{state}
+use Rattle.rules.specs.Shared.{latestFlagged}
+use Rattle.interval.specs.Chain.{flagged-none, flagged-here, flagged-below}
+use borrow.Author.Needs.{needs}
+use mathlib.Core.Path.{_≡_, refl, sym, ap, _∙_}
+use Prim.Native.Nat.{_≤_}
+use native.Mathlib.Omega.{arith}
+use Rattle.interval.proofs.latest_flagged.Statement.{statement}
+use Rattle.interval.proofs.latest_flagged.Tie as tie
+
+abbrev Inv-loop : tie.InvT-loop
+Inv-loop t c k p₀ p = (p ≤ places) × (latestFlagged (state t) c k ≡ latestFlagged (state t) c p)
+
+abbrev μ-loop : tie.MeasureT-loop
+μ-loop t c k p₀ p = p
+
+loop-holds : tie.Need-loop-holds Inv-loop μ-loop
+loop-holds c = (search needs, refl)
+
+sub-q : tie.Need-sub-q Inv-loop μ-loop
+sub-q c = search needs
+
+mul-if1 : tie.Need-mul-if1 Inv-loop μ-loop
+mul-if1 c = search needs
+
+add-if1 : tie.Need-add-if1 Inv-loop μ-loop
+add-if1 c = search needs
+
+mul-if1-2 : tie.Need-mul-if1-2 Inv-loop μ-loop
+mul-if1-2 c = search needs
+
+add-if1-2 : tie.Need-add-if1-2 Inv-loop μ-loop
+add-if1-2 c = search needs
+
+mul-if1-3 : tie.Need-mul-if1-3 Inv-loop μ-loop
+mul-if1-3 c = search needs
+
+shared-slice-read-if1 : tie.Need-shared-slice-read-if1 Inv-loop μ-loop
+shared-slice-read-if1 c = search needs
+
+cast-number-of : tie.Need-cast-number-of Inv-loop μ-loop
+cast-number-of c = search needs
+
+number-of-requires : tie.Need-number-of-requires Inv-loop μ-loop
+number-of-requires c κs = search needs
+
+returns : tie.Need-returns Inv-loop μ-loop
+returns c = c .number-of .ensures ∙ flagged-here _ _ _ _ (omega arith) (c .before .if1 .taken) ∙ sym (c .before .before .before .before .loop .inv .1)
+
+loop-less : tie.Need-loop-less Inv-loop μ-loop
+loop-less c = search needs
+
+loop-again : tie.Need-loop-again Inv-loop μ-loop
+loop-again c = (search needs, c .before .before .before .loop .inv .1 ∙ sym (flagged-below _ _ _ _ (omega arith) (c .if1 .left)))
+
+returns-2 : tie.Need-returns-2 Inv-loop μ-loop
+returns-2 c =
+    let z : c .before .loop .p ≡ 0 = omega (arith, c .loop-test .left) in
+    sym (c .before .loop .inv .1 ∙ ap (latestFlagged _ _) z ∙ sym (flagged-none _ _))
+
+pub latest-flagged-spec : {M : Type 1} → statement M
+latest-flagged-spec =
+    tie.close
+    (tie.spec
+    Inv-loop
+    μ-loop
+    loop-holds
+    sub-q
+    mul-if1
+    add-if1
+    mul-if1-2
+    add-if1-2
+    mul-if1-3
+    shared-slice-read-if1
+    cast-number-of
+    number-of-requires
+    returns
+    loop-less
+    loop-again
+    returns-2)

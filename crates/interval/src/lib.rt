@@ -1,0 +1,107 @@
+// The places of a controller's chain: writing an interval record, freeing places, the lowest condemned place, and the
+// replay figure.
+ghost use mathlib.Core.Path.{_≡_};
+ghost use Prim.Native.Nat.{_≤_, _<_};
+ghost use lib.ListN.{length};
+ghost use Rattle.table.specs.Field.{Place};
+ghost use Rattle.table.specs.Change.{putPart, clearPlaces};
+ghost use Rattle.table.specs.Layout.{controllers, places, placeWords, tableWords};
+ghost use Rattle.table.specs.Words.{state, words};
+ghost use Rattle.rules.specs.Shared.{interval, latestFlagged, replayed};
+ghost use Rattle.rules.specs.Steps.{lowestCondemned};
+ghost use Rattle.interval.specs.Chain.{Chain, zeroWords};
+
+// The 20 words of a place, lent from inside the table, become an interval's record.
+pub fn write_interval(d: &mut [u32], t: u32, x: u32, cause: u32, flag: u32, v: [[u32; 2]; 8])
+    requires { ⌜ length (now d) ≡ placeWords ⌝ }
+    ensures { λ _. ⌜ now (d .exit) ≡ interval t x cause flag v ⌝ }
+{
+    d[0] = t;
+    d[1] = x;
+    d[2] = cause;
+    d[3] = flag;
+    let from = table::PLACE_HEAD;
+    let to = table::PLACE_WORDS;
+    vector::write_vector(&mut d[from..to], v);
+}
+
+// Place p of c becomes an interval's record; no other word is written.
+pub fn write_place(
+    s: &mut [u32],
+    c: usize,
+    p: usize,
+    t: u32,
+    x: u32,
+    cause: u32,
+    flag: u32,
+    v: [[u32; 2]; 8],
+)
+    requires { ⌜ (length (now s) ≡ tableWords) × (c < controllers) × (p < places) ⌝ }
+    ensures { λ _. ⌜ now (s .exit) ≡ words (putPart (state (now (s .entry))) (Place c p 0) 0 (interval t x cause flag v)) ⌝ }
+{
+    let from = table::PLACES_FROM + c * table::CHAIN_WORDS + p * table::PLACE_WORDS;
+    let to = from + table::PLACE_WORDS;
+    write_interval(&mut s[from..to], t, x, cause, flag, v);
+}
+
+// All words of a part become 0.
+pub fn clear(d: &mut [u32])
+    ensures { λ _. ⌜ now (d .exit) ≡ zeroWords (length (now (d .entry))) ⌝ }
+{
+    let n = d.len();
+    let mut i = 0;
+    while i < n {
+        d[i] = 0;
+        i += 1;
+    }
+}
+
+// Places of c from p on and below q become 0.
+pub fn clear_places(t: &mut [u32], c: usize, p: usize, q: usize)
+    requires { ⌜ (length (now t) ≡ tableWords) × (c < controllers) × (p ≤ q) × (q ≤ places) ⌝ }
+    ensures { λ _. ⌜ now (t .exit) ≡ words (clearPlaces (state (now (t .entry))) c p q) ⌝ }
+{
+    let from = table::PLACES_FROM + c * table::CHAIN_WORDS + p * table::PLACE_WORDS;
+    let to = table::PLACES_FROM + c * table::CHAIN_WORDS + q * table::PLACE_WORDS;
+    clear(&mut t[from..to]);
+}
+
+// The lowest place of b above 0 whose vector holds a condemned entry, or the live count.
+pub fn lowest_condemned(t: &[u32], b: usize) -> usize
+    requires { ⌜ Chain (now t) b ⌝ }
+    ensures { λ k. ⌜ k ≡ lowestCondemned (state (now (t .entry))) b ⌝ }
+{
+    let live = t[table::LIVE_COUNT + b * table::CONTROLLER_WORDS] as usize;
+    let mut p = 1;
+    let k = 'places: loop {
+        if live <= p {
+            break 'places p;
+        }
+        let v = vector::place_vector(t, b, p);
+        let mut a = 0;
+        while a < table::CONTROLLERS {
+            if vector::condemned_pair(t, b, a, v[a]) {
+                break 'places p;
+            }
+            a += 1;
+        }
+        p += 1;
+    };
+    k
+}
+
+// The number of the latest checkpoint among the first k places of c, or 0.
+pub fn latest_flagged(t: &[u32], c: usize, k: usize) -> u32
+    requires { ⌜ (length (now t) ≡ tableWords) × (c < controllers) × (k ≤ places) ⌝ }
+    ensures { λ x. ⌜ x ≡ latestFlagged (state (now (t .entry))) c k ⌝ }
+{
+    let mut p = k;
+    while 0 < p {
+        let q = p - 1;
+        if t[table::FLAG + c * table::CHAIN_WORDS + q * table::PLACE_WORDS] == 1 {
+            return table::number_of(t, c, p as u32);
+        }
+        p = q;
+    }
+    0
+}

@@ -1,0 +1,56 @@
+-- The flag gathers the tests of the owners before a (anyb-step).
+use Rattle.rules.specs.Vector.{pairOf, condemnedPair, condemned}
+use Rattle.base.specs.Ranges.{anyb-zero, anyb-step, anyb-end, anyb}
+use Rattle.table.specs.Words.{state}
+use Rattle.table.specs.Layout.{controllers}
+use Prim.Native.Nat.{ℕ, _-_, _≤_}
+use borrow.Author.Needs.{needs}
+use mathlib.Core.Path.{_≡_}
+use Rattle.vector.proofs.condemned_vector.Statement.{statement}
+use Rattle.vector.proofs.condemned_vector.Tie as tie
+
+abbrev Inv-loop : tie.InvT-loop
+Inv-loop t b v some₀ a₀ some a = (a ≤ controllers) × (some ≡ anyb a (λ (k : ℕ). condemnedPair (state t) b k (pairOf v k)))
+
+abbrev μ-loop : tie.MeasureT-loop
+μ-loop t b v some₀ a₀ some a = controllers - a
+
+loop-holds : tie.Need-loop-holds Inv-loop μ-loop
+loop-holds c = (search needs, anyb-zero _)
+
+mul-condemned-pair : tie.Need-mul-condemned-pair Inv-loop μ-loop
+mul-condemned-pair c = search needs
+
+array-copy-out-condemned-pair : tie.Need-array-copy-out-condemned-pair Inv-loop μ-loop
+array-copy-out-condemned-pair c = search needs
+
+condemned-pair-requires : tie.Need-condemned-pair-requires Inv-loop μ-loop
+condemned-pair-requires c κs = (search needs, search needs, search needs, c .before .before .before .before .pre .2 _ (c .before .loop-test .taken))
+
+add-a : tie.Need-add-a Inv-loop μ-loop
+add-a c = search needs
+
+loop-less : tie.Need-loop-less Inv-loop μ-loop
+loop-less c = search needs
+
+loop-again : tie.Need-loop-again Inv-loop μ-loop
+loop-again c = (search needs, anyb-step _ _ _ _ (c .before .before .before .loop .inv .1) (c .condemned-pair .ensures))
+
+returns : tie.Need-returns Inv-loop μ-loop
+unfolding condemned
+returns c = anyb-end _ _ _ _ (c .before .loop .inv .1) (c .before .loop .inv .0) (c .loop-test .left)
+
+pub condemned-vector-spec : {M : Type 1} → statement M
+condemned-vector-spec =
+    tie.close
+    (tie.spec
+    Inv-loop
+    μ-loop
+    loop-holds
+    mul-condemned-pair
+    array-copy-out-condemned-pair
+    condemned-pair-requires
+    add-a
+    loop-less
+    loop-again
+    returns)

@@ -1,0 +1,65 @@
+-- Each turn stores the filtered pair of one owner (Filled).
+use Rattle.rules.specs.Vector.{pairOf, filterPair, filtered}
+use Rattle.base.specs.Lists.{Filled, filled-none, filled-more, filled-done}
+use Rattle.table.specs.Words.{state}
+use Rattle.table.specs.Layout.{controllers}
+use Prim.Native.Nat.{ℕ, _-_}
+use borrow.Author.Needs.{needs}
+use mathlib.Core.Path.{refl}
+use mathlib.Core.List.{[]}
+use Rattle.vector.proofs.filter_vector.Statement.{statement}
+use Rattle.vector.proofs.filter_vector.Tie as tie
+
+abbrev Inv-loop : tie.InvT-loop
+Inv-loop t b v out₀ a₀ out a = Filled [] controllers (λ (k : ℕ). filterPair (state t) b k (pairOf v k)) a out
+
+abbrev μ-loop : tie.MeasureT-loop
+μ-loop t b v out₀ a₀ out a = controllers - a
+
+loop-holds : tie.Need-loop-holds Inv-loop μ-loop
+loop-holds c = filled-none _ _ _ _ refl
+
+mul-filter-pair : tie.Need-mul-filter-pair Inv-loop μ-loop
+mul-filter-pair c = search needs
+
+array-copy-out-filter-pair : tie.Need-array-copy-out-filter-pair Inv-loop μ-loop
+array-copy-out-filter-pair c = search needs
+
+filter-pair-requires : tie.Need-filter-pair-requires Inv-loop μ-loop
+filter-pair-requires c κs = (search needs, search needs, search needs, c .before .before .before .before .pre .2 _ (c .before .loop-test .taken))
+
+mul-out : tie.Need-mul-out Inv-loop μ-loop
+mul-out c = search needs
+
+array-set-from-out : tie.Need-array-set-from-out Inv-loop μ-loop
+array-set-from-out c = search needs
+
+add-a : tie.Need-add-a Inv-loop μ-loop
+add-a c = search needs
+
+loop-less : tie.Need-loop-less Inv-loop μ-loop
+loop-less c = search needs
+
+loop-again : tie.Need-loop-again Inv-loop μ-loop
+loop-again c = filled-more _ _ _ _ _ _ (c .before .before .before .loop .inv) (c .before .before .loop-test .taken) (c .filter-pair .ensures)
+
+returns : tie.Need-returns Inv-loop μ-loop
+unfolding filtered
+returns c = filled-done _ _ _ _ _ (c .before .loop .inv) (c .loop-test .left)
+
+pub filter-vector-spec : {M : Type 1} → statement M
+filter-vector-spec =
+    tie.close
+    (tie.spec
+    Inv-loop
+    μ-loop
+    loop-holds
+    mul-filter-pair
+    array-copy-out-filter-pair
+    filter-pair-requires
+    mul-out
+    array-set-from-out
+    add-a
+    loop-less
+    loop-again
+    returns)

@@ -1,0 +1,72 @@
+-- Before owner a the mask is that of the first a pairs, and `bit` is 2 to the power a.
+use Rattle.rules.specs.Vector.{maskTo, mask}
+use Rattle.table.specs.Layout.{controllers}
+use Rattle.vector.specs.Mask.{mask-lt, mask-none, mask-more-empty, mask-more-full, mask-all, bit-small}
+use mathlib.Core.Logic.{⊎-elim}
+use native.Mathlib.Numerals.{add-one}
+use native.Mathlib.Nat.{pow-suc}
+use Prim.Native.Nat.{_^_, ℕ, _*_, _-_, _≤_}
+use borrow.Author.Needs.{needs}
+use mathlib.Core.Path.{_≡_, refl, sym, ap, _∙_}
+use native.Mathlib.Omega.{arith}
+use Rattle.vector.proofs.mask_of.Statement.{statement}
+use Rattle.vector.proofs.mask_of.Tie as tie
+
+abbrev Inv-loop : tie.InvT-loop
+Inv-loop v mask₀ bit₀ a₀ mask bit a = (a ≤ controllers) × (bit ≡ 2 ^ a) × (mask ≡ maskTo a v)
+
+abbrev μ-loop : tie.MeasureT-loop
+μ-loop v mask₀ bit₀ a₀ mask bit a = controllers - a
+
+loop-holds : tie.Need-loop-holds Inv-loop μ-loop
+loop-holds c = (search needs, refl, mask-none _)
+
+mul-if1 : tie.Need-mul-if1 Inv-loop μ-loop
+mul-if1 c = search needs
+
+index-1-if1 : tie.Need-index-1-if1 Inv-loop μ-loop
+index-1-if1 c = search needs
+
+index-2-if1 : tie.Need-index-2-if1 Inv-loop μ-loop
+index-2-if1 c = search needs
+
+add-mask : tie.Need-add-mask Inv-loop μ-loop
+add-mask c = omega (arith, bit-small _ _ (c .before .before .loop-test .taken) (c .before .before .before .loop .inv .1), mask-lt (c .before .before .before .loop .a) (c .before .before .before .before .args .t1))
+
+mul-bit : tie.Need-mul-bit Inv-loop μ-loop
+mul-bit c = omega (arith, bit-small _ _ (c .before .before .loop-test .taken) (c .before .before .before .loop .inv .1))
+
+add-a : tie.Need-add-a Inv-loop μ-loop
+add-a c = search needs
+
+loop-less : tie.Need-loop-less Inv-loop μ-loop
+loop-less c = search needs
+
+loop-again : tie.Need-loop-again Inv-loop μ-loop
+loop-again c =
+    let l = c .before .before .before .loop in (
+      search needs,
+      ap (λ (x : ℕ). x * 2) (l .inv .1) ∙ sym (pow-suc 2 (l .a)) ∙ ap (λ (k : ℕ). 2 ^ k) (sym (add-one (l .a))),
+      ⊎-elim (λ w. w .1 ∙ mask-more-full _ _ _ _ (l .inv .2) (l .inv .1) (w .0 .taken)) (λ w. w .1 ∙ mask-more-empty _ _ _ (l .inv .2) (w .0 .left))
+          (c .if1 .came),
+    )
+
+returns : tie.Need-returns Inv-loop μ-loop
+returns c = mask-all _ _ _ (c .before .loop .inv .2) (c .before .loop .inv .0) (c .loop-test .left)
+
+pub mask-of-spec : {M : Type 1} → statement M
+mask-of-spec =
+    tie.close
+    (tie.spec
+    Inv-loop
+    μ-loop
+    loop-holds
+    mul-if1
+    index-1-if1
+    index-2-if1
+    add-mask
+    mul-bit
+    add-a
+    loop-less
+    loop-again
+    returns)
