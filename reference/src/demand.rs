@@ -1,0 +1,236 @@
+//! Demand 3, judged over a list of steps and their answers by the history of the house alone.
+//!
+//! "Every accepted hearing in the list undid exactly those live intervals of its controller that
+//! rest .. on one lost in a crash which that controller has heard by then. No live interval rests on
+//! one lost in a crash its controller has heard. And each message that a release in the list let out
+//! under a degree K was let out with at most K controllers named; these own every interval that its
+//! sending interval rests on, that wasn't stable at that release, and that is lost anywhere in the
+//! list, before it or after."
+
+use crate::history::{History, IntervalId, Unreadable};
+use crate::machine::{Answer, Command};
+
+/// Where demand 3 doesn't hold. Positions count the steps of the list from 0.
+#[derive(Clone, Copy, Debug, PartialEq, Eq)]
+pub enum Breach {
+    /// A hearing left intervals live that rest on heard losses.
+    NotUndone {
+        /// The hearing.
+        position: usize,
+        /// How many intervals it left.
+        intervals: usize,
+    },
+    /// A hearing undid intervals that rest on no heard loss.
+    UndoneWithoutCause {
+        /// The hearing.
+        position: usize,
+        /// How many intervals it undid so.
+        intervals: usize,
+    },
+    /// At the end of a list an interval is live that rests on a heard loss.
+    LiveOrphan {
+        /// The first position after the list.
+        position: usize,
+        /// Whose interval it is.
+        controller: usize,
+    },
+    /// A release named more controllers than its degree allows.
+    TooManyNamed {
+        /// The release.
+        position: usize,
+        /// How many it named.
+        named: u32,
+        /// The sender's degree.
+        degree: u32,
+    },
+    /// A release didn't name the owner of an interval that it rested on, not stable then, and lost.
+    OwnerNotNamed {
+        /// The release.
+        position: usize,
+        /// The controller that should have been named.
+        owner: usize,
+    },
+    /// The history has no sentence for this answer. No claim of demand 3 but the ground of all.
+    Unreadable {
+        /// The step.
+        position: usize,
+    },
+}
+
+/// Checks a list of steps with their answers.
+///
+/// A done opening in it ends one list and begins another. Steps before the first one belong to no
+/// list, and nothing is claimed of them.
+pub fn check(list: &[(Command, Answer)]) -> Vec<Breach> {
+    let mut judge = Judge::default();
+    for &(command, answer) in list {
+        judge.record(command, answer);
+    }
+    judge.finish()
+}
+
+/// A judge who is told the steps one by one.
+#[derive(Debug, Default)]
+pub struct Judge {
+    position: usize,
+    history: Option<History>,
+    releases: Vec<Release>,
+    breaches: Vec<Breach>,
+}
+
+/// A message let out, kept until the end of the list tells what was lost.
+#[derive(Debug)]
+struct Release {
+    position: usize,
+    mask: u32,
+    /// What the sending interval rests on that wasn't stable at the release.
+    at_risk: Vec<IntervalId>,
+}
+
+impl Judge {
+    /// The history of the house since the latest opening, if there was one.
+    pub fn history(&self) -> Option<&History> {
+        self.history.as_ref()
+    }
+
+    /// Takes the next step with its answer.
+    pub fn record(&mut self, command: Command, answer: Answer) {
+        let read = match (command, answer) {
+            (Command::Open { .. }, Answer::Refused { .. }) => Ok(()),
+            (Command::Open { n, degree }, _) => self.open(n, degree, answer),
+            _ => self.follow(command, answer),
+        };
+        if read.is_err() {
+            let position = self.position;
+            self.breaches.push(Breach::Unreadable { position });
+        }
+        self.position += 1;
+    }
+
+    /// Ends the list, and says what was wrong with it and with those before it.
+    pub fn finish(mut self) -> Vec<Breach> {
+        self.end_list();
+        self.breaches
+    }
+
+    /// "The list starts from the table that a done opening left, whatever stood in it before."
+    fn open(&mut self, n: u32, degree: u32, answer: Answer) -> Result<(), Unreadable> {
+        if answer != Answer::Done {
+            return Err(Unreadable);
+        }
+        self.end_list();
+        self.history = Some(History::open(n, degree)?);
+        Ok(())
+    }
+
+    fn follow(&mut self, command: Command, answer: Answer) -> Result<(), Unreadable> {
+        let Some(history) = &mut self.history else {
+            return Ok(());
+        };
+        match (command, answer) {
+            (Command::Hear { hearer, .. }, Answer::Heard { .. } | Answer::Rolled { .. }) => {
+                let live = live_of(history, hearer)?;
+                history.record(command, answer)?;
+                self.judge_hearing(hearer as usize, &live);
+            }
+            (Command::Release { .. }, Answer::Released { message, mask }) => {
+                history.record(command, answer)?;
+                self.judge_release(message, mask);
+            }
+            _ => history.record(command, answer)?,
+        }
+        Ok(())
+    }
+
+    /// "A hearing is judged by the intervals live just before it and the crashes its controller has
+    /// heard just after it."
+    fn judge_hearing(&mut self, hearer: usize, live_before: &[IntervalId]) {
+        let Some(history) = &self.history else { return };
+        let position = self.position;
+        let live_after = &history.controllers()[hearer].chain;
+        let orphans = history.orphans(hearer, live_before);
+        let (left, undone): (Vec<_>, Vec<_>) =
+            live_before.iter().partition(|id| live_after.contains(id));
+        let intervals = left.iter().filter(|id| orphans.contains(id)).count();
+        if intervals > 0 {
+            self.breaches.push(Breach::NotUndone {
+                position,
+                intervals,
+            });
+        }
+        let intervals = undone.iter().filter(|id| !orphans.contains(id)).count();
+        if intervals > 0 {
+            self.breaches.push(Breach::UndoneWithoutCause {
+                position,
+                intervals,
+            });
+        }
+    }
+
+    /// "`released`: m is let out under its sender's degree of that moment; named are the controllers
+    /// c whose 2 to the power c is in the mask."
+    fn judge_release(&mut self, message: u32, mask: u32) {
+        let Some(history) = &self.history else { return };
+        let Some(record) = history.messages().get(&message) else {
+            return;
+        };
+        let intervals = history.intervals();
+        let sending = &intervals[record.sending_interval];
+        let degree = history.controllers()[sending.owner].degree;
+        let at_risk = sending.rests_on.iter();
+        let at_risk = at_risk.filter(|&id| !intervals[id].stable).collect();
+        let position = self.position;
+        let named = mask.count_ones();
+        if named > degree {
+            self.breaches.push(Breach::TooManyNamed {
+                position,
+                named,
+                degree,
+            });
+        }
+        self.releases.push(Release {
+            position,
+            mask,
+            at_risk,
+        });
+    }
+
+    /// The claims that only the end of a list can settle.
+    fn end_list(&mut self) {
+        let releases = std::mem::take(&mut self.releases);
+        let Some(history) = self.history.take() else {
+            return;
+        };
+        let position = self.position;
+        for (controller, record) in history.controllers().iter().enumerate() {
+            let orphans = history.orphans(controller, &record.chain);
+            let breach = Breach::LiveOrphan {
+                position,
+                controller,
+            };
+            self.breaches.extend(orphans.iter().map(|_| breach));
+        }
+        for release in &releases {
+            self.breaches.extend(release.owners_not_named(&history));
+        }
+    }
+}
+
+impl Release {
+    fn owners_not_named(&self, history: &History) -> Vec<Breach> {
+        let at_risk = self.at_risk.iter().map(|&id| &history.intervals()[id]);
+        at_risk
+            .filter(|interval| interval.lost_in.is_some())
+            .filter(|interval| self.mask >> interval.owner & 1 == 0)
+            .map(|interval| Breach::OwnerNotNamed {
+                position: self.position,
+                owner: interval.owner,
+            })
+            .collect()
+    }
+}
+
+fn live_of(history: &History, controller: u32) -> Result<Vec<IntervalId>, Unreadable> {
+    let record = history.controllers().get(controller as usize);
+    record.map(|record| record.chain.clone()).ok_or(Unreadable)
+}

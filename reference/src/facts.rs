@@ -1,0 +1,214 @@
+//! What ties a table to the history of its house after each step of the sound machine.
+//!
+//! Only tests use it. The history and demand 3 never look at a table; this is the one place where
+//! the two meet.
+
+use crate::history::{Controller, Crash, History, Interval, IntervalId};
+use crate::table::{in_form, Table, CONTROLLERS, INCARNATIONS};
+use crate::vector::{Pair, Row, Vector};
+use std::array;
+
+/// Whether a table is in form and agrees with its history; otherwise the fact that doesn't hold.
+pub fn check(words: &[u32], history: &History) -> Result<(), &'static str> {
+    if !in_form(words) {
+        return Err("the table is in form");
+    }
+    let table = Table::new(words).ok_or("the table has its length")?;
+    let facts = Facts {
+        table,
+        history,
+        known: array::from_fn(|holder| table.known(holder)),
+        ends: array::from_fn(|holder| table.ends(holder)),
+    };
+    if table.n() as usize != history.controllers().len() {
+        return Err("the controllers agree");
+    }
+    let broken = Facts::ALL.iter().find(|(_, holds)| !holds(&facts));
+    broken.map_or(Ok(()), |&(name, _)| Err(name))
+}
+
+/// A table in form beside the history of its house, with the same number of controllers.
+struct Facts<'a> {
+    table: Table<&'a [u32]>,
+    history: &'a History,
+    known: [Row; CONTROLLERS],
+    ends: [Row; CONTROLLERS],
+}
+
+/// A fact by its name, and how it is looked at.
+type Fact<'a> = (&'static str, fn(&Facts<'a>) -> bool);
+
+impl<'a> Facts<'a> {
+    const ALL: [Fact<'a>; 10] = [
+        ("the chains agree", Self::chains_agree),
+        ("the messages agree", Self::messages_agree),
+        (
+            "what isn't stable is of this incarnation",
+            Self::volatile_is_present,
+        ),
+        ("what is known stable is stable", Self::known_is_stable),
+        ("the end words are the crashes heard", Self::ends_are_heard),
+        (
+            "the lost are above the end words",
+            Self::lost_are_above_ends,
+        ),
+        ("undone intervals had a cause", Self::undone_had_cause),
+        ("live vectors fit", Self::chain_vectors_fit),
+        ("message vectors fit", Self::message_vectors_fit),
+        ("no live interval is an orphan", Self::no_orphans),
+    ];
+}
+
+impl Facts<'_> {
+    fn controllers(&self) -> impl Iterator<Item = (usize, &Controller)> {
+        self.history.controllers().iter().enumerate()
+    }
+
+    fn interval(&self, id: IntervalId) -> &Interval {
+        &self.history.intervals()[id]
+    }
+
+    /// A chain is the live places, and its place p is stable exactly when p is below the stable count.
+    fn chains_agree(&self) -> bool {
+        self.controllers().all(|(c, controller)| {
+            let counts = self.table.controller(c);
+            counts.degree == controller.degree
+                && counts.incarnation == controller.incarnation
+                && counts.live as usize == controller.chain.len()
+                && controller.chain.iter().enumerate().all(|(place, &id)| {
+                    let record = self.table.place(c, place);
+                    let name = Pair::new(record.incarnation, record.number);
+                    let stable = place < counts.stable as usize;
+                    name == name_of(self.interval(id)) && stable == self.interval(id).stable
+                })
+        })
+    }
+
+    fn messages_agree(&self) -> bool {
+        self.table.sent() as usize == self.history.messages().len()
+            && self.history.messages().iter().all(|(&message, known)| {
+                let record = self.table.message(message);
+                let sending = self.interval(known.sending_interval);
+                record.receiver as usize == known.receiver
+                    && record.sender as usize == sending.owner
+                    && Pair::new(record.incarnation, record.number) == name_of(sending)
+            })
+    }
+
+    /// The newest place, and every place from the stable count on, has the controller's incarnation.
+    fn volatile_is_present(&self) -> bool {
+        self.controllers().all(|(c, _)| {
+            let counts = self.table.controller(c);
+            (counts.stable.min(counts.live - 1)..counts.live)
+                .all(|place| self.table.place(c, place as usize).incarnation == counts.incarnation)
+        })
+    }
+
+    /// Nobody knows more of an owner than itself, and what it knows of itself is stable.
+    fn known_is_stable(&self) -> bool {
+        let owners_know_best = self.each_incarnation(|holder, owner, t| {
+            self.known[holder].word(owner, t) <= self.known[owner].word(owner, t)
+        });
+        let known_are_stable = self.history.intervals().iter().all(|interval| {
+            let known = self.known[interval.owner].word(interval.owner, interval.incarnation);
+            interval.stable || interval.number > known
+        });
+        let stable_are_known = self.controllers().all(|(c, controller)| {
+            self.known[c].word(c, controller.incarnation) == self.table.controller(c).stable
+        });
+        owners_know_best && known_are_stable && stable_are_known
+    }
+
+    /// b's end word for a and t is not 0 exactly when b has heard that crash, and then it is a's own.
+    fn ends_are_heard(&self) -> bool {
+        self.each_incarnation(|holder, controller, incarnation| {
+            let end = self.ends[holder].word(controller, incarnation);
+            let heard = self.history.controllers()[holder].heard.contains(&Crash {
+                controller,
+                incarnation,
+            });
+            let own = self.ends[controller].word(controller, incarnation);
+            heard == (end != 0) && (end == 0 || end == own)
+        })
+    }
+
+    fn each_incarnation(&self, holds: impl Fn(usize, usize, u32) -> bool) -> bool {
+        let n = self.history.controllers().len();
+        (0..n).all(|holder| {
+            (0..n).all(|owner| (0..INCARNATIONS as u32).all(|t| holds(holder, owner, t)))
+        })
+    }
+
+    /// An interval is lost exactly when its owner's end word for its incarnation is exceeded, in the
+    /// crash that ended it, and then it is neither stable nor live.
+    fn lost_are_above_ends(&self) -> bool {
+        let intervals = self.history.intervals();
+        intervals.iter().enumerate().all(|(id, interval)| {
+            let crash = Crash {
+                controller: interval.owner,
+                incarnation: interval.incarnation,
+            };
+            let end = self.ends[crash.controller].word(crash.controller, crash.incarnation);
+            let exceeds = end != 0 && interval.number > end;
+            interval.lost_in == exceeds.then_some(crash)
+                && !(exceeds && (interval.stable || self.is_live(id)))
+        })
+    }
+
+    fn is_live(&self, id: IntervalId) -> bool {
+        let owner = self.interval(id).owner;
+        self.history.controllers()[owner].chain.contains(&id)
+    }
+
+    /// Each undone interval rests on one lost in a crash that its controller has heard.
+    fn undone_had_cause(&self) -> bool {
+        self.controllers().all(|(c, _)| {
+            let undone: Vec<IntervalId> = (0..self.history.intervals().len())
+                .filter(|&id| {
+                    let interval = self.interval(id);
+                    interval.owner == c && interval.lost_in.is_none() && !self.is_live(id)
+                })
+                .collect();
+            self.history.orphans(c, &undone).len() == undone.len()
+        })
+    }
+
+    fn chain_vectors_fit(&self) -> bool {
+        self.controllers().all(|(c, controller)| {
+            controller.chain.iter().enumerate().all(|(place, &id)| {
+                let vector = self.table.place(c, place).vector;
+                vector[c] == name_of(self.interval(id)) && self.vector_fits(&vector, id)
+            })
+        })
+    }
+
+    fn message_vectors_fit(&self) -> bool {
+        self.history.messages().iter().all(|(&message, known)| {
+            let vector = self.table.message(message).vector;
+            self.vector_fits(&vector, known.sending_interval)
+        })
+    }
+
+    /// *Complete*: what the interval rests on and isn't stable has a pair of its incarnation with at
+    /// least its number. *Sound*: what a pair names is rested on.
+    fn vector_fits(&self, vector: &Vector, id: IntervalId) -> bool {
+        let mut named = vector.map(Pair::is_empty);
+        let complete = self.interval(id).rests_on.iter().all(|id| {
+            let interval = self.interval(id);
+            let pair = vector[interval.owner];
+            named[interval.owner] |= pair == name_of(interval);
+            interval.stable
+                || pair.incarnation == interval.incarnation && pair.number >= interval.number
+        });
+        complete && named == [true; CONTROLLERS]
+    }
+
+    fn no_orphans(&self) -> bool {
+        self.controllers()
+            .all(|(c, controller)| self.history.orphans(c, &controller.chain).is_empty())
+    }
+}
+
+fn name_of(interval: &Interval) -> Pair {
+    Pair::new(interval.incarnation, interval.number)
+}

@@ -1,0 +1,14 @@
+//! Random lists of steps, lent tables and scripts, all from a seed.
+
+mod choose;
+mod lists;
+mod profile;
+mod random;
+mod scripts;
+mod tables;
+
+pub use lists::{senseless, Walk};
+pub use profile::Profile;
+pub use random::Random;
+pub use scripts::script;
+pub use tables::{damaged, in_form_table, noise, wrong_length};

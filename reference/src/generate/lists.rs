@@ -1,0 +1,129 @@
+//! Random lists of steps: sensible ones, chosen by looking at the table, and senseless ones.
+
+use super::choose::{opening, Chooser};
+use super::{noise, Profile, Random};
+use crate::machine::{step_with, Answer, Command, Fault};
+use crate::table::{in_form, Table, CONTROLLERS, WORDS};
+
+/// A random list in the doing: each item is the next step and its answer, and the table stands as
+/// the last one left it.
+pub struct Walk {
+    random: Random,
+    profile: &'static Profile,
+    fault: Fault,
+    table: Vec<u32>,
+    first: bool,
+    left: u32,
+}
+
+impl Walk {
+    /// A list of the sound machine.
+    pub fn new(seed: u64, profile: &'static Profile) -> Self {
+        Walk::with_fault(seed, profile, Fault::None)
+    }
+
+    /// A list of a faulty machine. The table before its first opening is zero or noise.
+    pub fn with_fault(seed: u64, profile: &'static Profile, fault: Fault) -> Self {
+        let mut random = Random::new(seed);
+        let left = random.within(profile.steps.clone());
+        let table = if random.chance(50) {
+            noise(&mut random)
+        } else {
+            vec![0; WORDS]
+        };
+        Walk {
+            random,
+            profile,
+            fault,
+            table,
+            first: true,
+            left,
+        }
+    }
+
+    /// The table as it stands.
+    pub fn table(&self) -> &[u32] {
+        &self.table
+    }
+
+    fn command(&mut self) -> Command {
+        if std::mem::take(&mut self.first) {
+            return opening(&mut self.random, self.profile);
+        }
+        if self.random.chance(self.profile.senseless) {
+            return senseless(&mut self.random);
+        }
+        self.sensible()
+            .unwrap_or_else(|| senseless(&mut self.random))
+    }
+
+    /// A sensible step, if the table is in form, as the sound machine leaves it after an opening.
+    fn sensible(&mut self) -> Option<Command> {
+        let trusted = self.fault == Fault::None || in_form(&self.table);
+        let table = Table::new(&self.table[..]).filter(|_| trusted)?;
+        let mut chooser = Chooser {
+            random: &mut self.random,
+            profile: self.profile,
+            table,
+        };
+        // A kind may have nothing to do just now; a send always has.
+        loop {
+            let kind = chooser.random.weighted(&self.profile.weights)?;
+            if let Some(command) = chooser.step(kind) {
+                return Some(command);
+            }
+        }
+    }
+}
+
+impl Iterator for Walk {
+    type Item = (Command, Answer);
+
+    fn next(&mut self) -> Option<Self::Item> {
+        self.left = self.left.checked_sub(1)?;
+        let command = self.command();
+        let answer = step_with(self.fault, &mut self.table, command);
+        Some((command, answer))
+    }
+}
+
+/// A step with any numbers: small ones, those at the edges of ranges, and wild ones.
+pub fn senseless(random: &mut Random) -> Command {
+    const EDGES: [u32; 10] = [7, 8, 9, 15, 16, 63, 64, 65, 128, 129];
+    let mut number = || match random.below(8) {
+        0 => random.word(),
+        1 => random.pick(&EDGES).unwrap_or(u32::MAX),
+        2 => u32::MAX,
+        _ => random.below(CONTROLLERS as u32 / 2),
+    };
+    let (x, y, z) = (number(), number(), number());
+    match random.below(10) {
+        0 => Command::Open { n: x, degree: y },
+        1 => Command::SetDegree {
+            controller: x,
+            degree: y,
+        },
+        2 => Command::Send {
+            sender: x,
+            receiver: y,
+            payload: z,
+        },
+        3 => Command::Release { message: x },
+        4 => Command::Deliver { message: x },
+        5 => Command::Log {
+            controller: x,
+            count: y,
+        },
+        6 => Command::Checkpoint { controller: x },
+        7 => Command::Tell {
+            owner: x,
+            holder: y,
+        },
+        8 => Command::Crash { controller: x },
+        _ => Command::Hear {
+            hearer: x,
+            crashed: y,
+            incarnation: z,
+        },
+    }
+}

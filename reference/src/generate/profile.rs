@@ -1,0 +1,117 @@
+//! What random houses are like.
+
+use std::ops::RangeInclusive;
+
+/// The letter of a step.
+#[derive(Clone, Copy, Debug)]
+pub(super) enum Kind {
+    Open,
+    SetDegree,
+    Send,
+    Release,
+    Deliver,
+    Log,
+    Checkpoint,
+    Tell,
+    Crash,
+    Hear,
+}
+
+/// What a house is like and what is done in it most.
+#[derive(Debug)]
+pub struct Profile {
+    /// What it is for.
+    pub name: &'static str,
+    /// How many controllers the house may have.
+    pub(super) controllers: RangeInclusive<u32>,
+    /// How many steps a list has.
+    pub(super) steps: RangeInclusive<u32>,
+    /// How many of a hundred steps are senseless.
+    pub(super) senseless: u32,
+    /// How many of a hundred sends go to the last controller, whoever else could receive.
+    pub(super) to_last: u32,
+    /// How often a step is of each kind, among the sensible ones.
+    pub(super) weights: [(Kind, u32); 10],
+}
+
+/// Weights in the order of the letters O K S R D L C T X H.
+const fn weights(of: [u32; 10]) -> [(Kind, u32); 10] {
+    [
+        (Kind::Open, of[0]),
+        (Kind::SetDegree, of[1]),
+        (Kind::Send, of[2]),
+        (Kind::Release, of[3]),
+        (Kind::Deliver, of[4]),
+        (Kind::Log, of[5]),
+        (Kind::Checkpoint, of[6]),
+        (Kind::Tell, of[7]),
+        (Kind::Crash, of[8]),
+        (Kind::Hear, of[9]),
+    ]
+}
+
+impl Profile {
+    /// A bit of everything, in houses of any size.
+    pub const MIXED: Profile = Profile {
+        name: "mixed",
+        controllers: 1..=8,
+        steps: 20..=120,
+        senseless: 5,
+        to_last: 0,
+        weights: weights([1, 6, 50, 60, 70, 12, 4, 14, 6, 14]),
+    };
+    /// Few controllers that crash often and hear late.
+    pub const CRASHES: Profile = Profile {
+        name: "crashes",
+        controllers: 2..=4,
+        steps: 60..=180,
+        senseless: 1,
+        to_last: 0,
+        weights: weights([0, 2, 50, 60, 80, 8, 2, 6, 9, 16]),
+    };
+    /// Little is stable and little is known, so that most work hangs on other work.
+    pub const PARTIAL: Profile = Profile {
+        name: "partial",
+        controllers: 3..=8,
+        steps: 60..=160,
+        senseless: 1,
+        to_last: 0,
+        weights: weights([0, 2, 60, 70, 90, 6, 0, 6, 5, 10]),
+    };
+    /// One controller's chain and the messages fill up.
+    pub const FULL: Profile = Profile {
+        name: "full",
+        controllers: 2..=3,
+        steps: 500..=600,
+        senseless: 1,
+        to_last: 85,
+        weights: weights([0, 2, 60, 60, 70, 30, 12, 10, 2, 4]),
+    };
+    /// Incarnations run out.
+    pub const WORN: Profile = Profile {
+        name: "worn",
+        controllers: 2..=3,
+        steps: 200..=400,
+        senseless: 1,
+        to_last: 30,
+        weights: weights([0, 3, 40, 50, 70, 2, 1, 4, 14, 30]),
+    };
+    /// Mostly nonsense.
+    pub const WILD: Profile = Profile {
+        name: "wild",
+        controllers: 1..=8,
+        steps: 20..=60,
+        senseless: 60,
+        to_last: 0,
+        weights: weights([3, 10, 30, 30, 30, 10, 10, 10, 10, 10]),
+    };
+    /// All of them.
+    pub const ALL: [&'static Profile; 6] = [
+        &Profile::MIXED,
+        &Profile::CRASHES,
+        &Profile::PARTIAL,
+        &Profile::FULL,
+        &Profile::WORN,
+        &Profile::WILD,
+    ];
+}

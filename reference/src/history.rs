@@ -1,0 +1,332 @@
+//! The history of a house. "The history is fed each step, in order, with its numbers and its answer,
+//! and takes nothing from the table."
+//!
+//! There are no vectors here. What an interval rests on is kept as the plain set of intervals.
+
+mod set;
+
+pub use set::{IntervalId, IntervalSet};
+
+use crate::machine::{Answer, Command};
+use crate::table::CONTROLLERS;
+use std::collections::{BTreeMap, BTreeSet};
+
+/// A crash, by the incarnation that it ended; none is ended twice.
+#[derive(Clone, Copy, Debug, PartialEq, Eq, PartialOrd, Ord)]
+pub struct Crash {
+    /// Who crashed.
+    pub controller: usize,
+    /// The ended incarnation.
+    pub incarnation: u32,
+}
+
+/// An interval ever begun.
+#[derive(Clone, Debug)]
+pub struct Interval {
+    /// Whose interval it is.
+    pub owner: usize,
+    /// Its incarnation t.
+    pub incarnation: u32,
+    /// Its number x.
+    pub number: u32,
+    /// "An interval *rests on* itself, on what the live interval just before it rests on when it
+    /// began, and, if a delivery began it, on what the sending interval rests on."
+    pub rests_on: IntervalSet,
+    /// "*Stable* means once written to stable storage."
+    pub stable: bool,
+    /// The crash it was lost in, if any.
+    pub lost_in: Option<Crash>,
+}
+
+/// What the history keeps of a controller.
+#[derive(Clone, Debug)]
+pub struct Controller {
+    /// The degree of optimism, K.
+    pub degree: u32,
+    /// The incarnation that it is in.
+    pub incarnation: u32,
+    /// Its live intervals, the oldest first. Never empty: the first one is stable from the start.
+    pub chain: Vec<IntervalId>,
+    /// "A controller has *heard* its own accepted crashes and those of its accepted hearings."
+    pub heard: BTreeSet<Crash>,
+}
+
+/// What the history keeps of a message.
+#[derive(Clone, Copy, Debug, PartialEq, Eq)]
+pub struct Message {
+    /// The controller that it is for.
+    pub receiver: usize,
+    /// The interval that it was sent from.
+    pub sending_interval: IntervalId,
+}
+
+/// An answer that the history has no sentence for: of another kind than the step gives, or about
+/// something that isn't there. Only a faulty machine gives one.
+#[derive(Clone, Copy, Debug, PartialEq, Eq)]
+pub struct Unreadable;
+
+/// All that happened in a house since its opening.
+#[derive(Clone, Debug)]
+pub struct History {
+    controllers: Vec<Controller>,
+    messages: BTreeMap<u32, Message>,
+    intervals: Vec<Interval>,
+}
+
+/// Reading.
+impl History {
+    /// The controllers, in order.
+    pub fn controllers(&self) -> &[Controller] {
+        &self.controllers
+    }
+
+    /// Every interval ever begun, in order.
+    pub fn intervals(&self) -> &[Interval] {
+        &self.intervals
+    }
+
+    /// The messages sent, by number.
+    pub fn messages(&self) -> &BTreeMap<u32, Message> {
+        &self.messages
+    }
+
+    /// Those of the given intervals that rest on one lost in a crash that the controller has heard:
+    /// its orphans, as far as it can know.
+    pub fn orphans(&self, controller: usize, among: &[IntervalId]) -> Vec<IntervalId> {
+        let heard = &self.controllers[controller].heard;
+        let lost: IntervalSet = (0..self.intervals.len())
+            .filter(|&id| {
+                let lost_in = self.intervals[id].lost_in;
+                lost_in.is_some_and(|crash| heard.contains(&crash))
+            })
+            .collect();
+        among
+            .iter()
+            .copied()
+            .filter(|&id| self.intervals[id].rests_on.intersects(&lost))
+            .collect()
+    }
+}
+
+/// Feeding.
+impl History {
+    /// "O: each chain is (0,1), stable, resting on itself; all degrees are k."
+    pub fn open(n: u32, degree: u32) -> Result<Self, Unreadable> {
+        let n = usize::try_from(n).map_err(|_| Unreadable)?;
+        if !(1..=CONTROLLERS).contains(&n) {
+            return Err(Unreadable);
+        }
+        let mut history = History {
+            controllers: Vec::new(),
+            messages: BTreeMap::new(),
+            intervals: Vec::new(),
+        };
+        for owner in 0..n {
+            history.controllers.push(Controller {
+                degree,
+                incarnation: 0,
+                chain: Vec::new(),
+                heard: BTreeSet::new(),
+            });
+            history.join(owner, 1, true, IntervalSet::default());
+        }
+        Ok(history)
+    }
+
+    /// Takes the next step with its answer. An opening that was done is the beginning of another
+    /// history, and unreadable here.
+    pub fn record(&mut self, command: Command, answer: Answer) -> Result<(), Unreadable> {
+        if !fits(command, answer) {
+            return Err(Unreadable);
+        }
+        match (command, answer) {
+            // "T, `held`, `waits`, `dropped` and refused steps change nothing."
+            (_, Answer::Refused { .. }) => Ok(()),
+            (Command::SetDegree { controller, degree }, _) => self.set_degree(controller, degree),
+            (
+                Command::Send {
+                    sender, receiver, ..
+                },
+                Answer::Sent { message },
+            ) => self.send(sender, receiver, message),
+            (Command::Release { message }, Answer::Released { .. }) => {
+                self.message(message).map(|_| ())
+            }
+            (Command::Deliver { message }, Answer::Delivered { .. }) => self.deliver(message),
+            (Command::Log { controller, count }, _) => self.make_stable(controller, count as usize),
+            // "C: all of them do."
+            (Command::Checkpoint { controller }, _) => self.make_stable(controller, usize::MAX),
+            (Command::Crash { controller }, _) => self.crash(controller),
+            (
+                Command::Hear {
+                    hearer,
+                    crashed,
+                    incarnation,
+                },
+                answer,
+            ) => self.hear(hearer, crashed, incarnation, answer),
+            _ => Ok(()),
+        }
+    }
+
+    fn controller(&self, controller: u32) -> Result<usize, Unreadable> {
+        let c = usize::try_from(controller).map_err(|_| Unreadable)?;
+        (c < self.controllers.len()).then_some(c).ok_or(Unreadable)
+    }
+
+    fn message(&self, message: u32) -> Result<Message, Unreadable> {
+        self.messages.get(&message).copied().ok_or(Unreadable)
+    }
+
+    fn newest(&self, controller: usize) -> Result<IntervalId, Unreadable> {
+        let chain = &self.controllers[controller].chain;
+        chain.last().copied().ok_or(Unreadable)
+    }
+
+    /// "K: c's degree is k."
+    fn set_degree(&mut self, controller: u32, degree: u32) -> Result<(), Unreadable> {
+        let c = self.controller(controller)?;
+        self.controllers[c].degree = degree;
+        Ok(())
+    }
+
+    /// "S: message m for r was sent from the newest live interval of s."
+    fn send(&mut self, sender: u32, receiver: u32, message: u32) -> Result<(), Unreadable> {
+        let record = Message {
+            receiver: self.controller(receiver)?,
+            sending_interval: self.newest(self.controller(sender)?)?,
+        };
+        self.messages.insert(message, record);
+        Ok(())
+    }
+
+    /// "`delivered`: the receiver's next interval, not stable, joins its chain."
+    fn deliver(&mut self, message: u32) -> Result<(), Unreadable> {
+        let Message {
+            receiver,
+            sending_interval,
+        } = self.message(message)?;
+        let before = &self.intervals[self.newest(receiver)?];
+        let number = before.number + 1;
+        let mut rests_on = before.rests_on.clone();
+        rests_on.extend_from(&self.intervals[sending_interval].rests_on);
+        self.join(receiver, number, false, rests_on);
+        Ok(())
+    }
+
+    /// "L: the q oldest live ones of c not yet stable become stable."
+    fn make_stable(&mut self, controller: u32, count: usize) -> Result<(), Unreadable> {
+        let c = self.controller(controller)?;
+        let volatile = self.volatile(c);
+        for &id in volatile.iter().take(count) {
+            self.intervals[id].stable = true;
+        }
+        Ok(())
+    }
+
+    fn volatile(&self, c: usize) -> Vec<IntervalId> {
+        let chain = self.controllers[c].chain.iter().copied();
+        chain.filter(|&id| !self.intervals[id].stable).collect()
+    }
+
+    /// "X: the live ones of c that are not stable are lost in this crash and leave the chain; c has
+    /// heard it."
+    fn crash(&mut self, controller: u32) -> Result<(), Unreadable> {
+        let c = self.controller(controller)?;
+        let crash = Crash {
+            controller: c,
+            incarnation: self.controllers[c].incarnation,
+        };
+        for id in self.volatile(c) {
+            self.intervals[id].lost_in = Some(crash);
+        }
+        let intervals = &self.intervals;
+        let controller = &mut self.controllers[c];
+        controller.chain.retain(|&id| intervals[id].stable);
+        controller.heard.insert(crash);
+        self.start_anew(c)
+    }
+
+    /// "H: b has heard the crash that ended a's incarnation t. `rolled` also: b's live ones with
+    /// numbers above k are undone and leave, the others become stable."
+    fn hear(
+        &mut self,
+        hearer: u32,
+        crashed: u32,
+        incarnation: u32,
+        answer: Answer,
+    ) -> Result<(), Unreadable> {
+        let b = self.controller(hearer)?;
+        let crash = Crash {
+            controller: self.controller(crashed)?,
+            incarnation,
+        };
+        self.controllers[b].heard.insert(crash);
+        let Answer::Rolled { kept, .. } = answer else {
+            return Ok(());
+        };
+        let intervals = &self.intervals;
+        let chain = &mut self.controllers[b].chain;
+        chain.retain(|&id| intervals[id].number <= kept);
+        self.make_stable(hearer, usize::MAX)?;
+        self.start_anew(b)
+    }
+
+    /// "After X and `rolled` a stable interval joins: incarnation plus 1, number one above the highest
+    /// left."
+    fn start_anew(&mut self, c: usize) -> Result<(), Unreadable> {
+        let left = &self.intervals[self.newest(c)?];
+        let number = left.number + 1;
+        let rests_on = left.rests_on.clone();
+        self.controllers[c].incarnation += 1;
+        self.join(c, number, true, rests_on);
+        Ok(())
+    }
+
+    /// Begins an interval in its owner's incarnation; `rests_on` lacks only the interval itself.
+    fn join(&mut self, owner: usize, number: u32, stable: bool, mut rests_on: IntervalSet) {
+        let id = self.intervals.len();
+        rests_on.insert(id);
+        let controller = &mut self.controllers[owner];
+        controller.chain.push(id);
+        self.intervals.push(Interval {
+            owner,
+            incarnation: controller.incarnation,
+            number,
+            rests_on,
+            stable,
+            lost_in: None,
+        });
+    }
+}
+
+/// Whether the answer is one that this step gives, and speaks of what the step named.
+fn fits(command: Command, answer: Answer) -> bool {
+    match (command, answer) {
+        (_, Answer::Refused { .. })
+        | (
+            Command::SetDegree { .. }
+            | Command::Log { .. }
+            | Command::Checkpoint { .. }
+            | Command::Tell { .. },
+            Answer::Done,
+        )
+        | (Command::Send { .. }, Answer::Sent { .. }) => true,
+        (
+            Command::Release { message: named },
+            Answer::Released { message, .. } | Answer::Held { message, .. },
+        )
+        | (
+            Command::Deliver { message: named },
+            Answer::Delivered { message, .. }
+            | Answer::Dropped { message }
+            | Answer::Waits { message },
+        ) => message == named,
+        (Command::Crash { controller: named }, Answer::Crashed { controller, .. })
+        | (
+            Command::Hear { hearer: named, .. },
+            Answer::Heard { controller } | Answer::Rolled { controller, .. },
+        ) => controller == named,
+        _ => false,
+    }
+}

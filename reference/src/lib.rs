@@ -1,0 +1,23 @@
+//! A second implementation of the house recovery machine (K-optimistic logging), written from the
+//! rules alone, to hold the first one against.
+//!
+//! From the bottom up:
+//! - [`vector`]: dependency vectors; known stable, condemned, merged.
+//! - [`table`]: the words of the lent table, and when a table is in form.
+//! - [`machine`]: the step function, and planted faults.
+//! - [`lines`]: the text lines of the program `house`.
+//! - [`history`]: the history of a house, read off the steps and their answers alone.
+//! - [`demand`]: demand 3, judged by that history.
+//! - [`facts`]: what ties a table to its history after each step of the sound machine.
+//! - [`generate`]: random lists of steps, lent tables and scripts.
+//!
+//! Quoted sentences in the comments are the rules that the code below them follows.
+
+pub mod demand;
+pub mod facts;
+pub mod generate;
+pub mod history;
+pub mod lines;
+pub mod machine;
+pub mod table;
+pub mod vector;

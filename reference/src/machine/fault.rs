@@ -1,0 +1,214 @@
+//! Machines with one planted fault each, to show that a check finds it.
+//!
+//! The rules ask for a fault in one place each; what the faulty machine does instead is here, so that
+//! the sound rules can be read without it.
+
+use super::{Answer, Command, Refusal};
+use crate::table::{state, Controller, Table, INCARNATIONS};
+use crate::vector::{Pair, Row, Vector};
+use std::array;
+
+/// What is wrong with a machine.
+#[derive(Clone, Copy, Debug, PartialEq, Eq)]
+pub enum Fault {
+    /// Nothing.
+    None,
+    /// "Taking the larger pair across incarnations", and so never waiting.
+    LargerAcrossIncarnations,
+    /// "Comparing numbers without incarnations", when a pair is condemned.
+    NumbersWithoutIncarnations,
+    /// "Counting stored pairs at release instead of filtered ones."
+    StoredPairsCounted,
+    /// "Writing an end word for a rollback as if it were a crash."
+    EndWordOnRollback,
+    /// "Not logging kept intervals on rollback."
+    KeptNotLogged,
+    /// Logging them in the stable count alone, and not in the known word.
+    KnownNotRaised,
+    /// Leaving held what was sent from lost or undone intervals.
+    HeldKept,
+    /// "A machine that refuses all."
+    RefusesAll,
+    /// "Or answers `done` to all."
+    DoneToAll,
+    /// "Or writes no word"; its answers are right for the table it was lent.
+    WritesNoWord,
+    /// "One that tracks vectors for the first step of a run and afterwards only echoes": after the
+    /// first message a new interval takes over the receiver's own vector alone.
+    EchoesAfterFirst,
+    /// "One that invents lost."
+    InventsLost,
+    /// One that invents undone.
+    InventsUndone,
+    /// One that invents replayed.
+    InventsReplayed,
+    /// "One that says `waits` .. before looking."
+    WaitsBeforeLooking,
+    /// One that says `held` before looking, and so "holds for ever".
+    HeldBeforeLooking,
+    /// One that says `heard` before looking.
+    HeardBeforeLooking,
+    /// One that "never hears".
+    NeverHears,
+}
+
+impl Fault {
+    /// Every planted fault.
+    pub const PLANTED: [Fault; 18] = [
+        Fault::LargerAcrossIncarnations,
+        Fault::NumbersWithoutIncarnations,
+        Fault::StoredPairsCounted,
+        Fault::EndWordOnRollback,
+        Fault::KeptNotLogged,
+        Fault::KnownNotRaised,
+        Fault::HeldKept,
+        Fault::RefusesAll,
+        Fault::DoneToAll,
+        Fault::WritesNoWord,
+        Fault::EchoesAfterFirst,
+        Fault::InventsLost,
+        Fault::InventsUndone,
+        Fault::InventsReplayed,
+        Fault::WaitsBeforeLooking,
+        Fault::HeldBeforeLooking,
+        Fault::HeardBeforeLooking,
+        Fault::NeverHears,
+    ];
+
+    fn bends_the_table(self) -> bool {
+        matches!(
+            self,
+            Fault::EndWordOnRollback
+                | Fault::KeptNotLogged
+                | Fault::KnownNotRaised
+                | Fault::HeldKept
+                | Fault::WritesNoWord
+        )
+    }
+}
+
+/// The faults that need no rule: an answer given before the step, or an answer or a table bent after
+/// it. For all others the step is done on the table and answers for itself.
+pub(super) fn around(
+    fault: Fault,
+    table: &mut [u32],
+    command: Command,
+    step: impl FnOnce(&mut [u32]) -> Answer,
+) -> Answer {
+    if let Some(answer) = before_looking(fault, command) {
+        return answer;
+    }
+    if !fault.bends_the_table() {
+        return invented(fault, step(table));
+    }
+    let before = table.to_vec();
+    let answer = step(table);
+    bend(fault, &before, table, answer);
+    answer
+}
+
+fn before_looking(fault: Fault, command: Command) -> Option<Answer> {
+    match (fault, command) {
+        (Fault::RefusesAll, _) => Some(Refusal::Length.into()),
+        (Fault::DoneToAll, _) => Some(Answer::Done),
+        (Fault::WaitsBeforeLooking, Command::Deliver { message }) => {
+            Some(Answer::Waits { message })
+        }
+        (Fault::HeldBeforeLooking, Command::Release { message }) => {
+            Some(Answer::Held { message, mask: 0 })
+        }
+        (Fault::HeardBeforeLooking, Command::Hear { hearer, .. }) => {
+            Some(Answer::Heard { controller: hearer })
+        }
+        (Fault::NeverHears, Command::Hear { .. }) => Some(Refusal::NoSuchCrash.into()),
+        _ => None,
+    }
+}
+
+fn invented(fault: Fault, mut answer: Answer) -> Answer {
+    match (fault, &mut answer) {
+        (Fault::InventsLost, Answer::Crashed { lost: figure, .. })
+        | (Fault::InventsUndone, Answer::Rolled { undone: figure, .. })
+        | (
+            Fault::InventsReplayed,
+            Answer::Crashed {
+                replayed: figure, ..
+            }
+            | Answer::Rolled {
+                replayed: figure, ..
+            },
+        ) => *figure += 1,
+        _ => {}
+    }
+    answer
+}
+
+/// A pair taken for condemned by its number alone: any end of its owner will do.
+pub(super) fn condemned_by_number(vector: &Vector, ends: &Row) -> bool {
+    vector.iter().enumerate().any(|(owner, pair)| {
+        (0..INCARNATIONS as u32)
+            .map(|incarnation| ends.word(owner, incarnation))
+            .any(|end| end != 0 && pair.number > end)
+    })
+}
+
+/// The lexicographically larger of each two pairs: a later incarnation hides an earlier one.
+pub(super) fn larger_of_each(ours: &Vector, theirs: &Vector) -> Vector {
+    array::from_fn(|owner: usize| Pair::max(ours[owner], theirs[owner]))
+}
+
+/// Makes of the table that the sound step left the one that the faulty machine would leave.
+fn bend(fault: Fault, before: &[u32], after: &mut [u32], answer: Answer) {
+    if fault == Fault::WritesNoWord {
+        return after.copy_from_slice(before);
+    }
+    let (Some(before), Some(mut after)) = (Table::new(before), Table::new(after)) else {
+        return;
+    };
+    match (fault, answer) {
+        (Fault::HeldKept, Answer::Crashed { .. } | Answer::Rolled { .. }) => {
+            keep_held(&before, &mut after);
+        }
+        (
+            _,
+            Answer::Rolled {
+                controller, kept, ..
+            },
+        ) => bend_rollback(fault, &before, &mut after, controller as usize, kept),
+        _ => {}
+    }
+}
+
+/// A rollback of b to `kept` that wrote one word too many or too few.
+fn bend_rollback(
+    fault: Fault,
+    before: &Table<&[u32]>,
+    after: &mut Table<&mut [u32]>,
+    b: usize,
+    kept: u32,
+) {
+    let Controller {
+        incarnation,
+        stable,
+        ..
+    } = before.controller(b);
+    if fault == Fault::EndWordOnRollback {
+        after.set_end(b, b, incarnation, kept);
+    } else if stable < kept {
+        let known = before.known(b).word(b, incarnation);
+        after.set_known(b, b, incarnation, known);
+        if fault == Fault::KeptNotLogged {
+            let counts = after.controller(b);
+            after.set_controller(b, Controller { stable, ..counts });
+        }
+    }
+}
+
+/// Holds again what the step dropped.
+fn keep_held(before: &Table<&[u32]>, after: &mut Table<&mut [u32]>) {
+    for message in 1..=before.sent() {
+        if before.message(message).state == state::HELD {
+            after.set_state(message, state::HELD);
+        }
+    }
+}

@@ -1,0 +1,122 @@
+//! The generators reach every answer, every refusal, and the limits of a house.
+
+use reference::generate::{damaged, in_form_table, senseless, wrong_length, Profile, Random, Walk};
+use reference::lines;
+use reference::machine::{step, Answer, Command};
+use reference::table::Table;
+use std::collections::BTreeSet;
+
+/// The answers without their numbers, but a refusal with its own and the letter of its step.
+#[derive(Default)]
+struct Seen {
+    answers: BTreeSet<String>,
+    refusals: BTreeSet<(u32, char)>,
+}
+
+impl Seen {
+    fn note(&mut self, command: Command, answer: Answer) {
+        let letter = lines::write(command).chars().next();
+        match answer {
+            Answer::Refused { number } => {
+                self.refusals.extend(letter.map(|letter| (number, letter)));
+            }
+            _ => {
+                let line = lines::render(&answer);
+                self.answers
+                    .extend(line.split(' ').next().map(str::to_owned));
+            }
+        }
+    }
+
+    /// The steps that were refused with this number.
+    fn refused(&self, number: u32) -> String {
+        let with_number = self.refusals.iter().filter(|(seen, _)| *seen == number);
+        with_number.map(|(_, letter)| letter).collect()
+    }
+}
+
+const ANSWERS: [&str; 10] = [
+    "crashed",
+    "delivered",
+    "done",
+    "dropped",
+    "heard",
+    "held",
+    "released",
+    "rolled",
+    "sent",
+    "waits",
+];
+
+/// Which steps are refused with each number from 3 on, in the order of their letters.
+const REFUSED: [(u32, &str); 11] = [
+    (3, "CHKLSTX"),
+    (4, "DR"),
+    (5, "KO"),
+    (6, "ST"),
+    (7, "DR"),
+    (8, "L"),
+    (9, "H"),
+    (10, "H"),
+    (11, "S"),
+    (12, "DX"),
+    (13, "HX"),
+];
+
+#[test]
+fn lists_reach_everything() {
+    let mut seen = Seen::default();
+    let mut sizes = BTreeSet::new();
+    let mut degrees_released = BTreeSet::new();
+    let (mut incarnation, mut live, mut sent) = (0, 0, 0);
+    for profile in Profile::ALL {
+        for seed in 0..150 {
+            let mut walk = Walk::new(seed, profile);
+            while let Some((command, answer)) = walk.next() {
+                seen.note(command, answer);
+                let table = Table::new(walk.table()).expect("the right length");
+                sizes.insert(table.n());
+                sent = sent.max(table.sent());
+                if let Answer::Released { message, .. } = answer {
+                    let sender = table.message(message).sender as usize;
+                    degrees_released.insert(table.controller(sender).degree);
+                }
+                for c in 0..table.n() as usize {
+                    incarnation = incarnation.max(table.controller(c).incarnation);
+                    live = live.max(table.controller(c).live);
+                }
+            }
+        }
+    }
+    assert!(seen.answers.iter().eq(&ANSWERS), "{:?}", seen.answers);
+    for (number, letters) in REFUSED {
+        assert_eq!(seen.refused(number), letters, "refused {number}");
+    }
+    assert_eq!((incarnation, live, sent), (15, 64, 128));
+    assert!(sizes.iter().eq(&[1, 2, 3, 4, 5, 6, 7, 8]), "{sizes:?}");
+    assert!(degrees_released.into_iter().eq(0..=8));
+}
+
+/// On lent tables a step of each letter is accepted, and each refusal is given.
+#[test]
+fn lent_tables_reach_everything() {
+    let mut random = Random::new(21);
+    let mut seen = Seen::default();
+    for _ in 0..4_000 {
+        let mut words = match random.below(8) {
+            0 => wrong_length(&mut random),
+            1 => damaged(&mut random).0,
+            _ => in_form_table(&mut random),
+        };
+        for _ in 0..10 {
+            let command = senseless(&mut random);
+            seen.note(command, step(&mut words, command));
+        }
+    }
+    assert!(seen.answers.iter().eq(&ANSWERS), "{:?}", seen.answers);
+    assert_eq!(seen.refused(1), "CDHKLORSTX");
+    assert_eq!(seen.refused(2), "CDHKLRSTX");
+    for (number, letters) in REFUSED {
+        assert_eq!(seen.refused(number), letters, "refused {number}");
+    }
+}

@@ -1,0 +1,144 @@
+//! When a table is in form, said a second time: word by word, by position alone.
+
+use reference::generate::{damaged, in_form_table, noise, wrong_length, Profile, Random, Walk};
+use reference::machine::{step, Answer, Command};
+use reference::table::{in_form, WORDS};
+use std::ops::RangeInclusive;
+
+/// The words that a position may hold, given the others.
+fn range(words: &[u32], position: usize) -> RangeInclusive<u32> {
+    let n = words[0];
+    let is_controller = |c: usize| (c as u32) < n;
+    let only_for = |used: bool, range| if used { range } else { 0..=0 };
+    match position {
+        0 => 1..=8,
+        1 => 0..=128,
+        2..=15 => 0..=0,
+        16..=47 => {
+            let record = position - 16;
+            let live = words[position - record % 4 + 2];
+            let ranges = [0..=n, 0..=15, 1..=64, 1..=live];
+            only_for(is_controller(record / 4), ranges[record % 4].clone())
+        }
+        48..=2_095 => {
+            let record = (position - 48) % 1_024;
+            let (holder, owner) = (record / 128, record / 16 % 8);
+            only_for(is_controller(holder) && is_controller(owner), 0..=64)
+        }
+        2_096..=12_335 => {
+            let record = position - 2_096;
+            let (c, place, field) = (record / 1_280, record / 20 % 64, record % 20);
+            let live = words[16 + 4 * c + 2];
+            let used = is_controller(c) && (place as u32) < live;
+            only_for(used, place_range(words, position, place as u32, field))
+        }
+        _ => {
+            let record = position - 12_336;
+            let (message, field) = (record / 22, record % 22);
+            let used = (message as u32) < words[1];
+            only_for(used, message_range(words, position, field))
+        }
+    }
+}
+
+fn place_range(words: &[u32], position: usize, place: u32, field: usize) -> RangeInclusive<u32> {
+    match field {
+        0 => 0..=15,
+        1 => place + 1..=place + 1,
+        2 => 0..=words[1],
+        3 => u32::from(place == 0)..=1,
+        _ => pair_range(words, position, field - 4),
+    }
+}
+
+fn message_range(words: &[u32], position: usize, field: usize) -> RangeInclusive<u32> {
+    match field {
+        0 => 1..=5,
+        1 | 2 => 0..=words[0].wrapping_sub(1),
+        3 => 0..=15,
+        4 => 1..=64,
+        5 => 0..=u32::MAX,
+        _ => pair_range(words, position, field - 6),
+    }
+}
+
+/// A pair is incarnation and number, and an empty number has incarnation 0.
+fn pair_range(words: &[u32], position: usize, field: usize) -> RangeInclusive<u32> {
+    let owned = ((field / 2) as u32) < words[0];
+    let is_incarnation = field.is_multiple_of(2);
+    if !owned || is_incarnation && words[position + 1] == 0 {
+        0..=0
+    } else if is_incarnation {
+        0..=15
+    } else {
+        0..=64
+    }
+}
+
+fn in_form_by_position(words: &[u32]) -> bool {
+    words.len() == WORDS && (0..WORDS).all(|at| range(words, at).contains(&words[at]))
+}
+
+#[test]
+fn random_tables_in_form() {
+    let mut random = Random::new(1);
+    for _ in 0..300 {
+        let words = in_form_table(&mut random);
+        assert!(in_form(&words) && in_form_by_position(&words));
+    }
+}
+
+#[test]
+fn one_damaged_word() {
+    let mut random = Random::new(2);
+    let mut spoilt = 0;
+    for _ in 0..3_000 {
+        let (words, position) = damaged(&mut random);
+        let expected = in_form_by_position(&words);
+        assert_eq!(in_form(&words), expected, "word {position}");
+        spoilt += usize::from(!expected);
+    }
+    assert!((500..2_500).contains(&spoilt), "{spoilt} of 3000 damaged");
+}
+
+/// Every word of a house, just outside of its range on both sides.
+#[test]
+fn every_word_has_its_range() {
+    let walk = || {
+        let mut walk = Walk::new(5, &Profile::CRASHES);
+        walk.by_ref().for_each(drop);
+        walk.table().to_vec()
+    };
+    let mut words = walk();
+    for position in 0..WORDS {
+        let word = words[position];
+        let allowed = range(&words, position);
+        for outside in [
+            allowed.start().checked_sub(1),
+            allowed.end().checked_add(1),
+            allowed.end().checked_add(1_000_000),
+        ] {
+            words[position] = outside.unwrap_or(word);
+            assert_eq!(in_form(&words), outside.is_none(), "word {position}");
+        }
+        words[position] = word;
+    }
+    assert!(in_form(&words));
+}
+
+#[test]
+fn noise_and_other_lengths_are_refused_and_left_alone() {
+    let mut random = Random::new(3);
+    for round in 0..200 {
+        let (mut words, number) = if round % 2 == 0 {
+            (noise(&mut random), 2)
+        } else {
+            (wrong_length(&mut random), 1)
+        };
+        assert!(!in_form(&words));
+        let before = words.clone();
+        let answer = step(&mut words, Command::Checkpoint { controller: 0 });
+        assert_eq!(answer, Answer::Refused { number });
+        assert!(words == before);
+    }
+}

@@ -1,0 +1,64 @@
+//! Random lists of the sound machine: demand 3 holds, the table agrees with its history after each
+//! step, and a refused step changes no word.
+
+use reference::demand::Judge;
+use reference::facts;
+use reference::generate::{Profile, Walk};
+use reference::machine::Answer;
+
+/// Walks so many lists, and returns how many steps they had.
+fn walk_lists(profile: &'static Profile, lists: u64) -> usize {
+    (0..lists).map(|seed| walk_list(profile, seed)).sum()
+}
+
+fn walk_list(profile: &'static Profile, seed: u64) -> usize {
+    let mut walk = Walk::new(seed, profile);
+    let mut judge = Judge::default();
+    let mut before = walk.table().to_vec();
+    let mut steps = 0;
+    while let Some((command, answer)) = walk.next() {
+        let place = || format!("{} list {seed}, step {steps}: {command:?}", profile.name);
+        if matches!(answer, Answer::Refused { .. }) {
+            assert!(before == walk.table(), "{}: refused, and wrote", place());
+        } else {
+            before.copy_from_slice(walk.table());
+        }
+        judge.record(command, answer);
+        let history = judge.history().expect("a list begins with an opening");
+        let facts = facts::check(walk.table(), history);
+        assert_eq!(facts, Ok(()), "{}", place());
+        steps += 1;
+    }
+    assert_eq!(judge.finish(), [], "{} list {seed}", profile.name);
+    steps
+}
+
+#[test]
+fn mixed() {
+    assert!(walk_lists(&Profile::MIXED, 8_000) > 500_000);
+}
+
+#[test]
+fn crashes() {
+    assert!(walk_lists(&Profile::CRASHES, 3_500) > 400_000);
+}
+
+#[test]
+fn partial() {
+    assert!(walk_lists(&Profile::PARTIAL, 2_500) > 250_000);
+}
+
+#[test]
+fn full() {
+    assert!(walk_lists(&Profile::FULL, 80) > 40_000);
+}
+
+#[test]
+fn worn() {
+    assert!(walk_lists(&Profile::WORN, 250) > 60_000);
+}
+
+#[test]
+fn wild() {
+    assert!(walk_lists(&Profile::WILD, 6_000) > 200_000);
+}
