@@ -1,7 +1,7 @@
 -- Rules look only at words of the table: on states with the same words they give the same, and leave the same words.
-use mathlib.Core.Path.{_≡_, refl, sym, ap, ap₂, _∙_, subst}
+use mathlib.Core.Path.{_≡_, refl, ap, ap₂, _∙_, subst}
 use mathlib.Core.Bool.{Bool, true, false, cond, not, _&&_, _||_}
-use mathlib.Core.List.{List, [], _∷_}
+use mathlib.Core.List.{List, _∷_}
 use Prim.Native.Nat.{ℕ, zero, suc, _+_, _-_, _*_, _≤_, _<_, max}
 use native.Mathlib.Nat.{zero-lt-suc}
 use native.Mathlib.Omega.{arith}
@@ -9,15 +9,15 @@ use lib.ListN.{set}
 use Rattle.base.specs.Choice.{_==_, _≤?_, _<?_}
 use Rattle.base.specs.Ranges.{anyb, first}
 use Rattle.base.specs.Lists.{tab}
-use Rattle.table.specs.Field.{Field, State, Head, Controller, Known, End, Place, Message, SentCount, Incarnation, LiveCount, StableCount, PlaceIncarnation, PlaceNumber, Cause, Flag, PairIncarnation, PairNumber, MessageState, Sender, SendingNumber, MessagePairIncarnation, MessagePairNumber, messageHead}
+use Rattle.table.specs.Field.{State, Head, Controller, Known, End, Place, Message, SentCount, Incarnation, LiveCount, StableCount, PlaceIncarnation, PlaceNumber, Cause, MessageState, messageHead}
 use Rattle.table.specs.Change.{put, putPart, inPlaces, clearPlaces, putStates}
 use Rattle.table.specs.Layout.{controllers, incarnations, places, messages}
-use Rattle.table.specs.Words.{Agree, agree-put, agree-part}
+use Rattle.table.specs.Words.{state, words, words-same, Agree, agree-put, agree-part}
 use Rattle.table.specs.Numbering.{numberOf, recordOf, messageOf}
 use Rattle.rules.specs.Vector.{Pair, Vector, pair, noPair, incarnation, number, empty, pairOf, placeVector, messageVector, flat, knownStable, filterPair, filtered, condemnedPair, condemned}
-use Rattle.rules.specs.Form.{held, released, delivered, lost, dropped}
+use Rattle.rules.specs.Form.{held, released, delivered, dropped}
 use Rattle.rules.specs.Shared.{newest, interval, logged, loggedTo, causedFrom, causes, newVector, restarted, orphanedFrom, dropHeld, startAnew, latestFlagged, replayed}
-use Rattle.rules.specs.Steps.{message, sent, letOut, begun, checkpointed, told, crashed, noted, lowestCondemned, rolled}
+use Rattle.rules.specs.Steps.{message, sent, letOut, begun, told, noted, lowestCondemned}
 use Rattle.laws.specs.Facts.{Near}
 
 -- what is made of the values of a function below a bound
@@ -26,11 +26,13 @@ unfolding tab
 tab-same zero f g h = refl
 tab-same (suc n) f g h = ap₂ (λ a l. a ∷ l) (h 0 (zero-lt-suc n)) (tab-same n (λ i. f (suc i)) (λ i. g (suc i)) (λ i l. h (suc i) (omega arith)))
 
+-- whether some index passes
 pub anyb-same : (n : ℕ) (f g : ℕ → Bool) → ((i : ℕ) → i < n → f i ≡ g i) → anyb n f ≡ anyb n g
 unfolding anyb
 anyb-same zero f g h = refl
 anyb-same (suc n) f g h = ap₂ (λ (x y : Bool). x || y) (anyb-same n f g (λ i l. h i (omega arith))) (h n (omega arith))
 
+-- the first that passes
 pub first-same : (n : ℕ) (f g : ℕ → Bool) → ((i : ℕ) → i < n → f i ≡ g i) → first n f ≡ first n g
 unfolding first
 first-same zero f g h = refl
@@ -43,6 +45,7 @@ pub agree-clear : (σ τ : State) (c p q : ℕ) → Agree σ τ → Agree (clear
 unfolding clearPlaces
 agree-clear σ τ c p q e g v = ap (cond (inPlaces c p q g) 0) (e g v)
 
+-- states put that are the same for each record of the table
 pub agree-states : (σ τ : State) (s u : ℕ → ℕ) → ((r : ℕ) → r < messages → s r ≡ u r) → Agree σ τ → Agree (putStates σ s) (putStates τ u)
 unfolding putStates
 agree-states σ τ s u h e (Head i) v = e (Head i) v
@@ -52,6 +55,7 @@ agree-states σ τ s u h e (End b a t) v = e (End b a t) v
 agree-states σ τ s u h e (Place c p k) v = e (Place c p k) v
 agree-states σ τ s u h e (Message r k) v = ap₂ (λ x y. cond (k == 0) x y) (h r (v .0)) (e (Message r k) v)
 
+-- one of two changes, by one test
 agree-cond : (σ τ σ′ τ′ : State) (b : Bool) → Agree σ τ → Agree σ′ τ′ → Agree (cond b σ σ′) (cond b τ τ′)
 agree-cond σ τ σ′ τ′ true e e′ = e
 agree-cond σ τ σ′ τ′ false e e′ = e′
@@ -67,9 +71,11 @@ module _ (σ τ : State) (e : Agree σ τ) where
   pub controller-same : (c k : ℕ) → c < controllers → k < 4 → σ (Controller c k) ≡ τ (Controller c k)
   controller-same c k cl kl = e (Controller c k) (cl, omega arith)
 
+  -- a word of a place
   pub place-same : (c p k : ℕ) → c < controllers → p < places → k < 20 → σ (Place c p k) ≡ τ (Place c p k)
   place-same c p k cl pl kl = e (Place c p k) (cl, pl, omega arith)
 
+  -- a word of a message
   pub message-same : (r k : ℕ) → r < messages → k < 22 → σ (Message r k) ≡ τ (Message r k)
   message-same r k rl kl = e (Message r k) (rl, omega arith)
 
@@ -80,27 +86,33 @@ module _ (σ τ : State) (e : Agree σ τ) where
       tab-same controllers _ _
       (λ a l. ap₂ pair (place-same c p (4 + 2 * a) cl pl (omega arith)) (place-same c p (4 + 2 * a + 1) cl pl (omega arith)))
 
+  -- the vector of a message
   pub messageVector-same : (r : ℕ) → r < messages → messageVector σ r ≡ messageVector τ r
   unfolding messageVector
   messageVector-same r rl =
       tab-same controllers _ _ (λ a l. ap₂ pair (message-same r (6 + 2 * a) rl (omega arith)) (message-same r (6 + 2 * a + 1) rl (omega arith)))
 
+  -- whether a pair is known stable
   pub knownStable-same : (b a : ℕ) (p : Pair) → b < controllers → a < controllers → incarnation p < incarnations → knownStable σ b a p ≡ knownStable τ b a p
   unfolding knownStable
   knownStable-same b a p bl al tl = ap (λ x. number p ≤? x) (e (Known b a (incarnation p)) (bl, al, tl))
 
+  -- a pair filtered
   pub filterPair-same : (b a : ℕ) (p : Pair) → b < controllers → a < controllers → incarnation p < incarnations → filterPair σ b a p ≡ filterPair τ b a p
   unfolding filterPair
   filterPair-same b a p bl al tl = ap (λ x. cond x noPair p) (knownStable-same b a p bl al tl)
 
+  -- a vector filtered
   pub filtered-same : (b : ℕ) (v : Vector) → b < controllers → Near v → filtered σ b v ≡ filtered τ b v
   unfolding filtered
   filtered-same b v bl near = tab-same controllers _ _ (λ a l. filterPair-same b a (pairOf v a) bl l (near a l))
 
+  -- whether a pair is condemned
   pub condemnedPair-same : (b a : ℕ) (p : Pair) → b < controllers → a < controllers → incarnation p < incarnations → condemnedPair σ b a p ≡ condemnedPair τ b a p
   unfolding condemnedPair
   condemnedPair-same b a p bl al tl = ap (λ x. not (empty p) && (not (x == 0) && (x <? number p))) (e (End b a (incarnation p)) (bl, al, tl))
 
+  -- whether a vector is condemned
   pub condemned-same : (b : ℕ) (v : Vector) → b < controllers → Near v → condemned σ b v ≡ condemned τ b v
   unfolding condemned
   condemned-same b v bl near = anyb-same controllers _ _ (λ a l. condemnedPair-same b a (pairOf v a) bl l (near a l))
@@ -112,16 +124,19 @@ module _ (σ τ : State) (e : Agree σ τ) where
       anyb-same (σ (LiveCount c) - k) _ _ (λ i l. ap (λ x. x == r + 1) (place-same c (k + i) 2 cl (omega arith) (omega arith)))
       ∙ ap (λ n. anyb (n - k) (λ (i : ℕ). τ (Cause c (k + i)) == r + 1)) (controller-same c 2 cl (omega arith))
 
+  -- the highest flagged number
   pub latestFlagged-same : (c k : ℕ) → c < controllers → k ≤ places → latestFlagged σ c k ≡ latestFlagged τ c k
   unfolding latestFlagged numberOf
   latestFlagged-same c zero cl kl = refl
   latestFlagged-same c (suc p) cl kl =
       ap₂ (λ (x y : ℕ). cond (x == 1) (p + 1) y) (place-same c p 3 cl (omega arith) (omega arith)) (latestFlagged-same c p cl (omega arith))
 
+  -- how much is replayed
   pub replayed-same : (c k : ℕ) → c < controllers → k ≤ places → replayed σ c k ≡ replayed τ c k
   unfolding replayed numberOf
   replayed-same c k cl kl = ap (λ x. k - x) (latestFlagged-same c k cl kl)
 
+  -- the lowest condemned place
   pub lowestCondemned-same : (b : ℕ) → b < controllers → σ (LiveCount b) ≤ places → ((p : ℕ) → p < σ (LiveCount b) → Near (placeVector σ b p)) →
       lowestCondemned σ b ≡ lowestCondemned τ b
   unfolding lowestCondemned
@@ -139,6 +154,7 @@ module _ (σ τ : State) (e : Agree σ τ) where
       subst (λ i. Agree (put (put σ (StableCount c) j) (Known c c (σ (Incarnation c))) j) (put (put τ (StableCount c) j) (Known c c i) j))
       (controller-same c 1 cl (omega arith)) (agree-put _ _ (Known c c (σ (Incarnation c))) j (agree-put σ τ (StableCount c) j e))
 
+  -- logging, if there is anything to log
   pub agree-loggedTo : (c j : ℕ) → c < controllers → Agree (loggedTo σ c j) (loggedTo τ c j)
   unfolding loggedTo
   agree-loggedTo c j cl =
@@ -152,11 +168,13 @@ module _ (σ τ : State) (e : Agree σ τ) where
       agree-states σ τ _ _
       (λ r l. λ d. cond (causedFrom-same c k r cl ll d) (h r l d) (message-same r 0 l (omega arith) d)) e
 
+  -- whether a message is held and from an undone interval
   pub orphanedFrom-same : (c k r : ℕ) → r < messages → orphanedFrom σ c k r ≡ orphanedFrom τ c k r
   unfolding numberOf
   orphanedFrom-same c k r l =
       λ d. (message-same r 0 l (omega arith) d == held) && ((message-same r 1 l (omega arith) d == c) && (k <? message-same r 4 l (omega arith) d))
 
+  -- held messages dropped
   pub agree-dropHeld : (c k : ℕ) → Agree (dropHeld σ c k) (dropHeld τ c k)
   unfolding dropHeld
   agree-dropHeld c k =
@@ -169,11 +187,13 @@ module _ (σ τ : State) (e : Agree σ τ) where
       let v = filtered-same c (placeVector σ c (k - 1)) cl near ∙ ap (filtered τ c) (placeVector-same c (k - 1) cl (omega arith)) in
       λ d. set (v d) c (pair (controller-same c 1 cl (omega arith) d + 1) (k + 1))
 
+  -- the words that starting anew writes
   agree-written : (c k i l : ℕ) (v : Vector) → Agree (writtenAnew σ c k i l v) (writtenAnew τ c k i l v)
   agree-written c k i l v =
       agree-put _ _ (Known c c (i + 1)) _ (agree-put _ _ (StableCount c) _ (agree-put _ _ (LiveCount c) _ (agree-put _ _ (Incarnation c) _
       (agree-part _ _ (Place c k 0) 0 _ (agree-clear σ τ c k l e)))))
 
+  -- starting anew, without the messages that it drops
   pub agree-restarted : (c k : ℕ) → c < controllers → k ≤ places → 1 ≤ k → Near (placeVector σ c (k - 1)) → Agree (restarted σ c k) (restarted τ c k)
   unfolding restarted numberOf
   agree-restarted c k cl kl k1 near =
@@ -196,10 +216,12 @@ module _ (σ τ : State) (e : Agree σ τ) where
       let written : State → ℕ → ℕ → ℕ → Vector → State = λ ρ m t x v. put (putPart ρ (Message m 0) 0 (message held s r t x p v)) SentCount (m + 1) in
       subst (Agree (sent σ s r p)) (λ d. written τ (m d) (t d) (x d) (v d)) (agree-put _ _ SentCount _ (agree-part σ τ (Message (σ SentCount) 0) 0 _ e))
 
+  -- a message let out
   pub agree-letOut : (r : ℕ) (v : Vector) → Agree (letOut σ r v) (letOut τ r v)
   unfolding letOut
   agree-letOut r v = agree-put _ _ (MessageState r) released (agree-part σ τ (Message r 0) messageHead (flat v) e)
 
+  -- an interval begun
   pub agree-begun : (c m : ℕ) (v : Vector) → c < controllers → Agree (begun σ c m v) (begun τ c m v)
   unfolding begun numberOf recordOf
   agree-begun c m v cl =
@@ -216,6 +238,7 @@ module _ (σ τ : State) (e : Agree σ τ) where
       subst (Agree (noted σ b a t)) (λ d. written τ (e (End a a t) (al, al, tl) d) (e (Known b a t) (bl, al, tl) d))
       (agree-put _ _ (Known b a t) _ (agree-put σ τ (End b a t) _ e))
 
+  -- known words told
   pub agree-told : (a b : ℕ) → a < controllers → b < controllers → Agree (told σ a b) (told τ a b)
   unfolding told
   agree-told a b al bl =
@@ -227,3 +250,7 @@ pub agree-startAnew : (σ τ : State) → Agree σ τ → (c k : ℕ) → c < co
     Agree (startAnew σ c k) (startAnew τ c k)
 unfolding startAnew
 agree-startAnew σ τ e c k cl kl k1 near = agree-dropHeld _ _ (agree-restarted σ τ e c k cl kl k1 near) c k
+
+-- a call has applied a rule to the table of σ
+pub called : (rule : State → State) (σ : State) {t u : List ℕ} → t ≡ words σ → u ≡ words (rule (state t)) → Agree (rule (state (words σ))) (rule σ) → u ≡ words (rule σ)
+called rule σ e q h = q ∙ ap (λ t. words (rule (state t))) e ∙ words-same (rule (state (words σ))) (rule σ) h

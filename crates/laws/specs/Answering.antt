@@ -2,13 +2,14 @@
 use mathlib.Core.Path.{_≡_, refl, sym, ap, _∙_}
 use mathlib.Core.Bool.{Bool, true, false, not, cond, _&&_}
 use mathlib.Core.List.{List}
-use Prim.Native.Nat.{ℕ}
+use Prim.Native.Nat.{ℕ, _<_}
 use lib.ListN.{length}
 use borrow.Author.Tests.{eq-eqb, ne-eqb}
 use Rattle.base.specs.Cases.{Case, firstOf}
-use Rattle.table.specs.Field.{State}
-use Rattle.table.specs.Layout.{tableWords}
+use Rattle.table.specs.Field.{State, Size}
+use Rattle.table.specs.Layout.{controllers, tableWords}
 use Rattle.table.specs.Words.{state, words, words-state}
+use Rattle.laws.specs.Facts.{ControllerForm, form, below-8, controllerForm}
 use Rattle.rules.specs.Limits.{house}
 use Rattle.rules.specs.Form.{inForm}
 use Rattle.rules.specs.Steps.{After, refusing}
@@ -22,7 +23,17 @@ pub record Lent (t : List ℕ) : Type 0 where
   pub long : length t ≡ tableWords
   pub good : inForm house (state t) ≡ true
 
--- the same for a step that may not look at the form
+-- a controller below n of a table that the host's refusals let pass
+pub record Named (t : List ℕ) (c : ℕ) : Type 0 where
+  pub long : length t ≡ tableWords
+  pub size : c < state t Size
+  pub below : c < controllers
+  pub own : ControllerForm (state t) c
+
+pub named : (t : List ℕ) (c : ℕ) → Lent t → c < state t Size → Named t c
+named t c h l = let f = form (state t) (h .good) in record { long = h .long; size = l; below = below-8 f c l; own = controllerForm f c l }
+
+-- the same as `Lent` for a step that may not look at the form
 pub record LentFor (t : List ℕ) (x : Command) : Type 0 where
   pub long : length t ≡ tableWords
   pub good : looksAtForm x ≡ true → inForm house (state t) ≡ true

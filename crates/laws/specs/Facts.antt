@@ -1,15 +1,13 @@
 -- What being in form says of each word.
-use mathlib.Core.Path.{_≡_, refl, sym, ap, _∙_, subst}
-use mathlib.Core.Bool.{Bool, true, false, cond, _&&_, _||_}
-use mathlib.Core.List.{List, []}
-use mathlib.Core.Logic.{_≢_}
-use Prim.Native.Nat.{ℕ, _+_, _-_, _≤_, _<_}
+use mathlib.Core.Path.{_≡_, refl}
+use mathlib.Core.Bool.{Bool, true, _&&_, _||_}
+use Prim.Native.Nat.{ℕ, _+_, _≤_, _<_}
 use native.Mathlib.Omega.{arith}
-use borrow.Author.Tests.{leb-true, ltb-true, ltb-false, eqb-true, eq-eqb, lt-ltb, le-ltb}
+use borrow.Author.Tests.{leb-true, ltb-true, eqb-true, lt-ltb, le-ltb}
 use Rattle.base.specs.Choice.{_==_, _≤?_, _<?_, and-left, and-right, cond-ind, le?}
 use Rattle.base.specs.Ranges.{allb, allb-get}
-use Rattle.base.specs.Cases.{allOf, passed}
-use Rattle.table.specs.Field.{State, Head, Controller, Known, End, Place, Message, Size, SentCount, Degree, Incarnation, LiveCount, StableCount, PlaceIncarnation, PlaceNumber, Cause, Flag, MessageState, Sender, Receiver, SendingIncarnation, SendingNumber}
+use Rattle.base.specs.Cases.{passed}
+use Rattle.table.specs.Field.{State, Controller, Known, End, Place, Message, Size, SentCount, Degree, Incarnation, LiveCount, StableCount, PlaceIncarnation, PlaceNumber, Cause, Flag, MessageState, Sender, Receiver, SendingIncarnation, SendingNumber}
 use Rattle.table.specs.Layout.{controllers, incarnations, places, messages, controllerWords, placeWords, messageWords}
 use Rattle.table.specs.Numbering.{numberOf}
 use Rattle.rules.specs.Limits.{house, lastIncarnation}
@@ -30,6 +28,7 @@ pub record Form (σ : State) : Type 0 where
   pub places-ok : allb controllers (λ (c : ℕ). allb places (placeOk house (σ Size) σ c)) ≡ true
   pub messages-ok : allb messages (messageOk house (σ Size) σ) ≡ true
 
+-- what the whole test says
 pub form : (σ : State) → inForm house σ ≡ true → Form σ
 unfolding inForm
 form σ e =
@@ -68,6 +67,7 @@ record PairForm (n a : ℕ) (p : Pair) : Type 0 where
 or-else : (x : ℕ) (b : Bool) → ((0 <? x) || b) ≡ true → x ≡ 0 → b ≡ true
 or-else x b e z = rw (le-ltb 0 x (omega arith)) at e
 
+-- a pair that passed its test
 pair-form : (n a : ℕ) (p : Pair) → pairOk house n a p ≡ true → PairForm n a p
 unfolding pairOk
 pair-form n a p e =
@@ -85,6 +85,7 @@ pair-form n a p e =
     let t = eqb-true (incarnation p) 0 (passed _ 1 q) in
     record { incarnation-le = omega arith; number-le = omega arith; empty-incarnation = λ z. t; beyond-number = λ g. x; beyond-incarnation = λ g. t })
 
+-- a vector whose pairs all passed
 pub vectorForm : (n : ℕ) (v : Vector) → vectorOk house n v ≡ true → VectorForm n v
 unfolding vectorOk
 vectorForm n v e =
@@ -129,9 +130,11 @@ pub record MessageForm (σ : State) (r : ℕ) : Type 0 where
   pub vector : VectorForm (σ Size) (messageVector σ r)
 
 module _ {σ : State} (f : Form σ) where
+  -- a controller of the house has its words in the table
   pub below-8 : (c : ℕ) → c < σ Size → c < controllers
   below-8 c h = omega arith
 
+  -- the words of a controller of the house
   pub controllerForm : (c : ℕ) → c < σ Size → ControllerForm σ c
   unfolding controllerOk
   controllerForm c h =
@@ -152,13 +155,16 @@ module _ {σ : State} (f : Form σ) where
       zeros-get controllerWords (λ (k : ℕ). σ (Controller c k)) k
       (rw (le-ltb c (σ Size) h) at (allb-get (controllerOk house (σ Size) σ) controllers c (f .controllers-ok) cl)) kl
 
+  -- no controller has more live intervals than places
   pub live-below : (c : ℕ) → c < controllers → σ (LiveCount c) ≤ places
   live-below c h =
       le? (c + 1) (σ Size) (λ l. controllerForm c (omega arith) .live-le) (λ l. omega (arith, no-controller c 2 h (omega arith) (omega arith)))
 
+  -- the test of one place
   place-ok : (c p : ℕ) → c < controllers → p < places → placeOk house (σ Size) σ c p ≡ true
   place-ok c p cl pl = allb-get _ places p (allb-get (λ (c : ℕ). allb places (placeOk house (σ Size) σ c)) controllers c (f .places-ok) cl) pl
 
+  -- the words of a live place
   pub placeForm : (c p : ℕ) → c < σ Size → p < σ (LiveCount c) → PlaceForm σ c p
   unfolding placeOk
   placeForm c p h l =
@@ -177,6 +183,7 @@ module _ {σ : State} (f : Form σ) where
   unfolding placeOk
   no-place c p k cl pl l kl = zeros-get placeWords (λ (k : ℕ). σ (Place c p k)) k (rw (le-ltb _ _ l) at (place-ok c p cl pl)) kl
 
+  -- the words of a used message record
   pub messageForm : (r : ℕ) → r < σ SentCount → MessageForm σ r
   unfolding messageOk
   messageForm r l =
@@ -203,36 +210,45 @@ module _ {σ : State} (f : Form σ) where
   abbrev top : ℕ → ℕ → ℕ
   top b a = highest house (σ Size) b a
 
+  -- the test of one known and one end word
   row : (b a t : ℕ) → b < controllers → a < controllers → t < incarnations → ((σ (Known b a t) ≤? top b a) && (σ (End b a t) ≤? top b a)) ≡ true
   unfolding rowOk
   row b a t bl al tl =
       allb-get (λ (t : ℕ). (σ (Known b a t) ≤? top b a) && (σ (End b a t) ≤? top b a)) incarnations t
       (allb-get (rowOk house (σ Size) σ b) controllers a (allb-get (λ (b : ℕ). allb controllers (rowOk house (σ Size) σ b)) controllers b (f .rows-ok) bl) al) tl
 
+  -- a known word is at most the highest that its row may have
   known-top : (b a t : ℕ) → b < controllers → a < controllers → t < incarnations → σ (Known b a t) ≤ top b a
   known-top b a t bl al tl = leb-true _ _ (and-left (σ (Known b a t) ≤? top b a) _ (row b a t bl al tl))
 
+  -- and so is an end word
   end-top : (b a t : ℕ) → b < controllers → a < controllers → t < incarnations → σ (End b a t) ≤ top b a
   end-top b a t bl al tl = leb-true _ _ (and-right (σ (Known b a t) ≤? top b a) _ (row b a t bl al tl))
 
+  -- that highest number is at most 64
   top-le : (b a : ℕ) → top b a ≤ 64
   unfolding highest
   top-le b a = cond-ind (λ x. x ≤ 64) ((b <? σ Size) && (a <? σ Size)) (λ e. omega arith) (λ e. omega arith)
 
+  -- and 0 where holder or owner is not of the house
   top-none : (b a : ℕ) → (b < σ Size → a < σ Size → ⊥) → top b a ≡ 0
   unfolding highest
   top-none b a out =
       cond-ind (λ x. x ≡ 0) ((b <? σ Size) && (a <? σ Size))
       (λ e. absurd (out (ltb-true _ _ (and-left (b <? σ Size) _ e)) (ltb-true _ _ (and-right (b <? σ Size) _ e)))) (λ e. refl)
 
+  -- known words are at most 64
   pub known-le : (b a t : ℕ) → b < controllers → a < controllers → t < incarnations → σ (Known b a t) ≤ 64
   known-le b a t bl al tl = omega (arith, top-le b a, known-top b a t bl al tl)
 
+  -- end words are at most 64
   pub end-le : (b a t : ℕ) → b < controllers → a < controllers → t < incarnations → σ (End b a t) ≤ 64
   end-le b a t bl al tl = omega (arith, top-le b a, end-top b a t bl al tl)
 
+  -- the known words of controllers from n on
   pub no-known : (b a t : ℕ) → b < controllers → a < controllers → t < incarnations → (b < σ Size → a < σ Size → ⊥) → σ (Known b a t) ≡ 0
   no-known b a t bl al tl out = omega (arith, top-none b a out, known-top b a t bl al tl)
 
+  -- the end words of controllers from n on
   pub no-end : (b a t : ℕ) → b < controllers → a < controllers → t < incarnations → (b < σ Size → a < σ Size → ⊥) → σ (End b a t) ≡ 0
   no-end b a t bl al tl out = omega (arith, top-none b a out, end-top b a t bl al tl)

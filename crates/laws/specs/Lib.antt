@@ -1,4 +1,5 @@
 pub mod Facts
 pub mod Allowed
 pub mod Agree
+pub mod Found
 pub mod Answering

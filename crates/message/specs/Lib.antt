@@ -1,0 +1,3 @@
+pub mod Write
+pub mod Ready
+pub mod Leaves
