@@ -92,13 +92,13 @@ length-interval t x cause flag v = length-append (t ∷ x ∷ cause ∷ flag ∷
 unfoldable pub zeroWords : ℕ → List ℕ
 zeroWords n = replicate n 0
 
-zero-at : (n i : ℕ) → getD (zeroWords n) i 0 ≡ 0
+pub zero-at : (n i : ℕ) → getD (zeroWords n) i 0 ≡ 0
 unfolding zeroWords
 zero-at zero i = refl
 zero-at (suc n) zero = refl
 zero-at (suc n) (suc i) = zero-at n i
 
-length-zero : (n : ℕ) → length (zeroWords n) ≡ n
+pub length-zero : (n : ℕ) → length (zeroWords n) ≡ n
 unfolding zeroWords
 length-zero n = length-replicate n 0
 

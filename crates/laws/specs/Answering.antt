@@ -72,3 +72,11 @@ answered t x o h e = e ∙ sym (rw (eq-eqb (length t) tableWords (h .long), lets
     lets : (b : Bool) → looksAtForm x ≡ b → (looksAtForm x && not (inForm house (state t))) ≡ false
     lets true q = rw (q, h .good q)
     lets false q = rw q
+
+-- a step that looks at the form has a table in form
+pub lent-as : (t : List ℕ) (x y : Command) → LentFor t x → x ≡ y → looksAtForm y ≡ true → Lent t
+lent-as t x y h e l = record { long = h .long; good = h .good (ap looksAtForm e ∙ l) }
+
+-- an arm of a match on the command
+pub by-command : (σ : State) (x y : Command) (o : Out) → o ≡ written (perform house σ y) → x ≡ y → o ≡ written (perform house σ x)
+by-command σ x y o e q = e ∙ sym (ap (λ (z : Command). written (perform house σ z)) q)

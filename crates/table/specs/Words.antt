@@ -10,9 +10,9 @@ use lib.Seq.{getD-set-same, getD-set-other}
 use Rattle.base.specs.Choice.{le?}
 use Rattle.base.specs.Lists.{tab, tab-of, getD-tab, length-tab}
 use Rattle.base.specs.Splice.{splice, splice-of, length-splice, splice-below, splice-in, splice-above}
-use Rattle.table.specs.Field.{Field, Known, Place, Message, State, same, word, wordOf}
+use Rattle.table.specs.Field.{Field, Controller, Known, Place, Message, State, same, word, wordOf}
 use Rattle.table.specs.Change.{put, put-ind, inPart, putPart, part-ind, clearPlaces, clear-ind}
-use Rattle.table.specs.Layout.{controllers, incarnations, places, messages, placeWords, messageWords, placesFrom, chainWords, tableWords, Valid, at, fieldAt, stands, at-lt, field-at, at-one, at-next}
+use Rattle.table.specs.Layout.{controllers, controllerWords, incarnations, places, messages, placeWords, messageWords, placesFrom, chainWords, tableWords, Valid, at, fieldAt, stands, at-lt, field-at, at-one, at-next}
 
 -- the state of a table, and the table of a state
 abbrev pub state : List ℕ → State
@@ -72,6 +72,9 @@ words-splice σ τ a r h inside outside =
 pub record Fits (f : Field) (k : ℕ) (r : List ℕ) : Type 0 where
   pub end : at (wordOf f k) + length r ≤ tableWords
   pub valid : (i : ℕ) → i < length r → Valid (wordOf f (k + i))
+
+pub fits-controller : (c : ℕ) (r : List ℕ) → c < controllers → length r ≤ controllerWords → Fits (Controller c 0) 0 r
+fits-controller c r cl l = record { end = omega arith; valid = λ i h. (cl, omega arith) }
 
 pub fits-place : (c p k : ℕ) (r : List ℕ) → c < controllers → p < places → k + length r ≤ placeWords → Fits (Place c p 0) k r
 fits-place c p k r cl pl l = record { end = omega arith; valid = λ i h. (cl, pl, omega arith) }

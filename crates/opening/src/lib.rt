@@ -1,0 +1,74 @@
+// The step O: a house is opened in a table, whatever stood in it before.
+ghost use mathlib.Core.Path.{_≡_};
+ghost use Prim.Native.Nat.{_<_};
+ghost use lib.ListN.{length};
+ghost use Rattle.base.specs.Cases.{firstOf};
+ghost use Rattle.table.specs.Layout.{controllers, controllerWords, tableWords};
+ghost use Rattle.table.specs.Words.{state, words};
+ghost use Rattle.rules.specs.Steps.{openRefusals, stepOpen};
+ghost use Rattle.rules.specs.Step.{out, written};
+ghost use Rattle.opening.specs.Opened.{controllerRecord, firstVector, beginsAt};
+use rules::Answer;
+
+pub fn open_refusal(n: u32, k: u32) -> u32
+    ensures { λ no. ⌜ no ≡ firstOf (openRefusals n k) ⌝ }
+{
+    if (n == 0) | ((table::CONTROLLERS as u32) < n) | (n < k) {
+        return 5;
+    }
+    0
+}
+
+// A controller's four words: degree k, incarnation 0, one live interval, which is stable.
+pub fn write_controller(d: &mut [u32], k: u32)
+    requires { ⌜ length (now d) ≡ controllerWords ⌝ }
+    ensures { λ _. ⌜ now (d .exit) ≡ controllerRecord k ⌝ }
+{
+    d[0] = k;
+    d[1] = 0;
+    d[2] = 1;
+    d[3] = 1;
+}
+
+// The vector of c's first interval: its own pair (0,1) alone.
+pub fn first_vector(c: usize) -> [[u32; 2]; 8]
+    requires { ⌜ c < controllers ⌝ }
+    ensures { λ v. ⌜ v ≡ firstVector c ⌝ }
+{
+    let mut v = [[0u32; 2]; 8];
+    let own = [0, 1];
+    v[c] = own;
+    v
+}
+
+// Controller c has interval (0,1), flagged, stable and known to it.
+pub fn open_controller(t: &mut [u32], c: usize, k: u32)
+    requires { ⌜ (length (now t) ≡ tableWords) × (c < controllers) ⌝ }
+    ensures { λ _. ⌜ now (t .exit) ≡ words (beginsAt (state (now (t .entry))) c k) ⌝ }
+{
+    let from = table::CONTROLLERS_FROM + c * table::CONTROLLER_WORDS;
+    let to = from + table::CONTROLLER_WORDS;
+    write_controller(&mut t[from..to], k);
+    t[table::KNOWN + c * table::ROWS_WORDS + c * table::INCARNATIONS] = 1;
+    let v = first_vector(c);
+    interval::write_place(t, c, 0, 0, 1, 0, 1, v);
+}
+
+// O n k, on a table of the right length.
+pub fn open(t: &mut [u32], n: u32, k: u32) -> Answer
+    requires { ⌜ length (now t) ≡ tableWords ⌝ }
+    ensures { λ a. ⌜ out a (now (t .exit)) ≡ written (stepOpen (state (now (t .entry))) n k) ⌝ }
+{
+    let no = open_refusal(n, k);
+    if no != 0 {
+        return Answer::Refused(no);
+    }
+    interval::clear(t);
+    t[table::SIZE] = n;
+    let mut c = 0;
+    while c < n as usize {
+        open_controller(t, c, k);
+        c += 1;
+    }
+    Answer::Done
+}
