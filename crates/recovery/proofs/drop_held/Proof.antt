@@ -1,0 +1,58 @@
+-- Before record r the records below r have been looked at (droppedTo), and no other word has changed.
+use native.Mathlib.Omega.{arith}
+use Rattle.recovery.specs.Dropping.{droppedTo, drop-none, drop-more, drop-all}
+use Rattle.table.specs.Layout.{messages, tableWords}
+use Rattle.table.specs.Words.{state, words}
+use borrow.Author.Needs.{needs}
+use mathlib.Core.Path.{_≡_, sym, _∙_}
+use Prim.Native.Nat.{_-_, _≤_}
+use lib.ListN.{length}
+use Rattle.recovery.proofs.drop_held.Statement.{statement}
+use Rattle.recovery.proofs.drop_held.Tie as tie
+
+abbrev Inv-loop : tie.InvT-loop
+Inv-loop t₀ c k x r₀ t r = (r ≤ messages) × (length t ≡ tableWords) × (t ≡ words (droppedTo (state t₀) c x r))
+
+abbrev μ-loop : tie.MeasureT-loop
+μ-loop t₀ c k x r₀ t r = messages - r
+
+number-of-requires : tie.Need-number-of-requires Inv-loop μ-loop
+number-of-requires c κs = search needs
+
+loop-holds : tie.Need-loop-holds Inv-loop μ-loop
+loop-holds c = (search needs, c .before .before .before .pre, drop-none _ _ _ (c .before .before .before .pre))
+
+drop-one-requires : tie.Need-drop-one-requires Inv-loop μ-loop
+drop-one-requires c κs = search needs
+
+add-r : tie.Need-add-r Inv-loop μ-loop
+add-r c = omega arith
+
+loop-less : tie.Need-loop-less Inv-loop μ-loop
+loop-less c = search needs
+
+loop-again : tie.Need-loop-again Inv-loop μ-loop
+loop-again c =
+    let l = c .before .before .before .before .before .loop in
+    (search needs, c .before .t .given ∙ l .inv .1, drop-more (l .t) _ _ _ _ _ (l .inv .2) (c .before .before .before .before .loop-test .taken) (c .before .before .drop-one .ensures))
+
+same-length : tie.Need-same-length Inv-loop μ-loop
+same-length c = c .before .loop .inv .1 ∙ sym (c .before .before .before .before .before .pre)
+
+returns : tie.Need-returns Inv-loop μ-loop
+returns c = drop-all _ _ _ _ _ _ (c .before .loop .inv .2) (c .before .before .number-of .ensures) (c .before .loop .inv .0) (c .loop-test .left)
+
+pub drop-held-spec : {M : Type 1} → statement M
+drop-held-spec =
+    tie.close
+    (tie.spec
+    Inv-loop
+    μ-loop
+    number-of-requires
+    loop-holds
+    drop-one-requires
+    add-r
+    loop-less
+    loop-again
+    same-length
+    returns)

@@ -1,0 +1,9 @@
+pub mod Removal
+pub mod States
+pub mod Dropping
+pub mod Settling
+pub mod Anew
+pub mod Ready
+pub mod Crashing
+pub mod Rolling
+pub mod Hearing
