@@ -1,0 +1,3 @@
+pub mod Demanded
+pub mod Beyond
+pub mod Agreement

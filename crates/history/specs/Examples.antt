@@ -1,0 +1,231 @@
+-- Histories computed: what the steps and answers of document 01's Listing A, and of another list, say of intervals, chains and
+-- crashes.
+use mathlib.Core.Path.{_≡_, refl}
+use mathlib.Core.Bool.{true, false, false≢true}
+use mathlib.Core.List.{List, [], _∷_}
+use Prim.Native.Nat.{ℕ}
+use lib.ListN.{take}
+use Rattle.rules.specs.Report.{report}
+use Rattle.rules.specs.declared.Answer.{Answer}
+use Rattle.rules.specs.declared.Answer.the-variants.{Done, Sent, Released, Held, Delivered, Crashed, Heard, Rolled, Refused}
+use Rattle.rules.specs.declared.Command.{Command}
+use Rattle.rules.specs.declared.Command.the-variants.{Open, SetDegree, Send, Release, Deliver, Log, Checkpoint, Crash, Hear}
+use Rattle.history.specs.History.{interval, History, sameInterval, at, atInterval, newest, member, those, oldest, degreeSet, sentFrom, joined, leaving, stabilized, hearing, losing, opening, delivering, logging, checkpointing, restarting, crashing, rollingBack, says, value, fed}
+use Rattle.history.specs.Demand.{RestsOnLost, named}
+
+-- a line of the listing: the step and its answer
+pub record Line : Type 0 where
+  pub step : Command
+  pub answer : Answer
+
+-- a line by its parts
+abbrev pub line : Command → Answer → Line
+line x a = record { step = x; answer = a }
+
+-- Listing A after its opening
+abbrev pub listing : List Line
+listing =
+    -- 1 to 3: message 1 from controller 0 to 1
+    line (Send 0 1 7) (Sent 1) ∷ line (Release 1) (Released 1 0) ∷ line (Deliver 1) (Delivered 1 0 2)
+    -- 4 to 6: message 2 from controller 1 to 2
+    ∷ line (Send 1 2 9) (Sent 2) ∷ line (Release 2) (Released 2 2) ∷ line (Deliver 2) (Delivered 2 0 2)
+    -- 7 to 10: message 3 from controller 2 to 0, and what it rests on of controller 2 is logged
+    ∷ line (Send 2 0 5) (Sent 3) ∷ line (Release 3) (Held 3 6) ∷ line (Log 2 1) Done ∷ line (Release 3) (Released 3 2)
+    -- 11 and 12: controller 1 crashes, and message 3 is delivered
+    ∷ line (Crash 1) (Crashed 1 0 1 1 0) ∷ line (Deliver 3) (Delivered 3 0 2)
+    -- 13 to 15: controllers 2 and 0 hear of the crash
+    ∷ line (Hear 2 1 0) (Rolled 2 1 1 0) ∷ line (Hear 0 1 0) (Rolled 0 1 1 0) ∷ line (Deliver 3) (Refused 7)
+    ∷ []
+
+-- the history after all lines of a list
+unfoldable pub all : List Line → History → History
+all [] h = h
+all (x ∷ l) h = all l (fed (x .step) (x .answer) h)
+
+-- the history after the first i lines
+abbrev pub after : ℕ → History
+after i = all (take i listing) (opening 3 1)
+
+-- what it says, moment by moment
+pub record ListingA : Type 0 where
+  -- an opening: one interval, stable, resting on itself alone; the degree is given
+  pub opened-chain : after 0 .chain 1 ≡ interval 1 0 1 ∷ []
+  pub opened-stable : after 0 .stable (interval 1 0 1) ≡ true
+  pub opened-self : after 0 .rests (interval 1 0 1) (interval 1 0 1) ≡ true
+  pub opened-alone : after 0 .rests (interval 1 0 1) (interval 0 0 1) ≡ false
+  pub opened-degree : after 0 .degree 2 ≡ 1
+  -- a message is sent from the newest live interval; a delivery begins the next number, which is not stable
+  pub first-from : after 1 .sending 1 ≡ interval 0 0 1
+  pub first-to : after 1 .receiver 1 ≡ 1
+  pub second-from : after 4 .sending 2 ≡ interval 1 0 2
+  pub delivered-chain : after 6 .chain 2 ≡ interval 2 0 2 ∷ interval 2 0 1 ∷ []
+  pub delivered-unstable : after 6 .stable (interval 2 0 2) ≡ false
+  -- it rests on itself, on the live interval before it, on the sending interval, and on what that rests on
+  pub rests-self : after 6 .rests (interval 2 0 2) (interval 2 0 2) ≡ true
+  pub rests-before : after 6 .rests (interval 2 0 2) (interval 2 0 1) ≡ true
+  pub rests-sender : after 6 .rests (interval 2 0 2) (interval 1 0 2) ≡ true
+  pub rests-sender-before : after 6 .rests (interval 2 0 2) (interval 1 0 1) ≡ true
+  pub rests-sender-sender : after 6 .rests (interval 2 0 2) (interval 0 0 1) ≡ true
+  pub rests-not-back : after 6 .rests (interval 1 0 2) (interval 2 0 2) ≡ false
+  -- `held` changes nothing; a log makes the oldest that is not stable so, and a release nothing
+  pub held-unstable : after 8 .stable (interval 2 0 2) ≡ false
+  pub logged-stable : after 9 .stable (interval 2 0 2) ≡ true
+  pub logged-only : after 9 .stable (interval 1 0 2) ≡ false
+  -- a crash: what is not stable is lost in it and leaves; what is stable is not lost; the new interval is stable; its controller alone has heard
+  pub crashed-lost : after 11 .lost (interval 1 0 2) 0 ≡ true
+  pub crashed-kept : after 11 .lost (interval 1 0 1) 0 ≡ false
+  pub crashed-chain : after 11 .chain 1 ≡ interval 1 1 2 ∷ interval 1 0 1 ∷ []
+  pub crashed-incarnation : after 11 .incarnation 1 ≡ 1
+  pub crashed-stable : after 11 .stable (interval 1 1 2) ≡ true
+  pub crashed-rests : after 11 .rests (interval 1 1 2) (interval 1 0 1) ≡ true
+  pub crashed-forgets : after 11 .rests (interval 1 1 2) (interval 1 0 2) ≡ false
+  pub crashed-heard : after 11 .heard 1 1 0 ≡ true
+  pub crashed-unheard : after 11 .heard 2 1 0 ≡ false
+  -- what was stable of controller 2 still rests on the lost interval, and so does what message 3 begins
+  pub orphan : after 12 .rests (interval 0 0 2) (interval 1 0 2) ≡ true
+  -- hearings: the numbers above 1 leave, lost they are not, and the new interval rests on what was kept alone
+  pub heard : after 13 .heard 2 1 0 ≡ true
+  pub rolled-chain : after 13 .chain 2 ≡ interval 2 1 2 ∷ interval 2 0 1 ∷ []
+  pub rolled-not-lost : after 13 .lost (interval 2 0 2) 0 ≡ false
+  pub rolled-stable : after 13 .stable (interval 2 1 2) ≡ true
+  pub rolled-clean : after 13 .rests (interval 2 1 2) (interval 1 0 2) ≡ false
+  pub not-yet-heard : after 13 .heard 0 1 0 ≡ false
+  pub last-chain : after 14 .chain 0 ≡ interval 0 1 2 ∷ interval 0 0 1 ∷ []
+  -- a refused step changes nothing
+  pub refused-chain : after 15 .chain 0 ≡ interval 0 1 2 ∷ interval 0 0 1 ∷ []
+
+-- all of it, by computing
+pub listing-a : ListingA
+unfolding all fed says report value sameInterval at atInterval newest member those oldest degreeSet sentFrom joined leaving stabilized hearing losing opening delivering logging checkpointing restarting crashing rollingBack
+listing-a =
+    record {
+      opened-chain = refl;
+      opened-stable = refl;
+      opened-self = refl;
+      opened-alone = refl;
+      opened-degree = refl;
+      first-from = refl;
+      first-to = refl;
+      second-from = refl;
+      delivered-chain = refl;
+      delivered-unstable = refl;
+      rests-self = refl;
+      rests-before = refl;
+      rests-sender = refl;
+      rests-sender-before = refl;
+      rests-sender-sender = refl;
+      rests-not-back = refl;
+      held-unstable = refl;
+      logged-stable = refl;
+      logged-only = refl;
+      crashed-lost = refl;
+      crashed-kept = refl;
+      crashed-chain = refl;
+      crashed-incarnation = refl;
+      crashed-stable = refl;
+      crashed-rests = refl;
+      crashed-forgets = refl;
+      crashed-heard = refl;
+      crashed-unheard = refl;
+      orphan = refl;
+      heard = refl;
+      rolled-chain = refl;
+      rolled-not-lost = refl;
+      rolled-stable = refl;
+      rolled-clean = refl;
+      not-yet-heard = refl;
+      last-chain = refl;
+      refused-chain = refl;
+    }
+
+-- The words of demand 3 on this list: controller 2's interval (0,2) is one to undo once controller 2 has heard, not before; its
+-- (0,1) never is; and the mask 6 names controllers 1 and 2.
+pub record ListingAJudged : Type 0 where
+  pub orphan-heard : RestsOnLost (after 15) (after 13) 2 (interval 2 0 2)
+  pub orphan-unheard : RestsOnLost (after 15) (after 12) 2 (interval 2 0 2) → ⊥
+  pub first-kept : after 15 .rests (interval 2 0 1) (interval 1 0 2) ≡ false
+  pub named-0 : named 6 0 ≡ false
+  pub named-1 : named 6 1 ≡ true
+  pub named-2 : named 6 2 ≡ true
+  pub named-3 : named 6 3 ≡ false
+
+-- all of it, by computing
+pub listing-a-judged : ListingAJudged
+unfolding all fed says report value sameInterval at atInterval newest member those oldest degreeSet sentFrom joined leaving stabilized hearing losing opening delivering logging checkpointing restarting crashing rollingBack
+listing-a-judged =
+    record {
+      orphan-heard = record { on = interval 1 0 2; crash = 0; rests = refl; lost = refl; heard = refl };
+      orphan-unheard = λ r. false≢true (r .heard);
+      first-kept = refl;
+      named-0 = refl;
+      named-1 = refl;
+      named-2 = refl;
+      named-3 = refl;
+    }
+
+-- Another list: controller 0 gets message 1, which rests on stable intervals alone, and then messages 3 and 4 from an interval of
+-- controller 1 that is not stable; nothing of controller 0 is logged.
+abbrev pub deliveries : List Line
+deliveries =
+    line (Send 1 0 0) (Sent 1) ∷ line (Release 1) (Released 1 0) ∷ line (Deliver 1) (Delivered 1 0 2)
+    ∷ line (Send 2 1 0) (Sent 2) ∷ line (Release 2) (Released 2 0) ∷ line (Deliver 2) (Delivered 2 0 2)
+    ∷ line (Send 1 0 0) (Sent 3) ∷ line (Release 3) (Released 3 2) ∷ line (Deliver 3) (Delivered 3 0 3)
+    ∷ line (Send 1 0 0) (Sent 4) ∷ line (Release 4) (Released 4 2) ∷ line (Deliver 4) (Delivered 4 0 4)
+    ∷ []
+
+-- the history after it and these steps more
+abbrev pub then : List Line → History
+then l = all l (all deliveries (opening 3 3))
+
+-- the crash of controller 1
+abbrev pub crash : Line
+crash = line (Crash 1) (Crashed 1 0 1 1 0)
+
+-- what the history says after each of some steps
+pub record Deliveries : Type 0 where
+  -- L: the two oldest that are not stable, and not the third
+  pub logged-first : then (line (Log 0 2) Done ∷ []) .stable (interval 0 0 2) ≡ true
+  pub logged-second : then (line (Log 0 2) Done ∷ []) .stable (interval 0 0 3) ≡ true
+  pub logged-third : then (line (Log 0 2) Done ∷ []) .stable (interval 0 0 4) ≡ false
+  -- X after that loses the third alone
+  pub lost-third : then (line (Log 0 2) Done ∷ line (Crash 0) (Crashed 0 0 3 1 2) ∷ []) .lost (interval 0 0 4) 0 ≡ true
+  pub lost-second : then (line (Log 0 2) Done ∷ line (Crash 0) (Crashed 0 0 3 1 2) ∷ []) .lost (interval 0 0 3) 0 ≡ false
+  -- C: all of its controller, and of no other
+  pub checkpoint-own : then (line (Checkpoint 0) Done ∷ []) .stable (interval 0 0 4) ≡ true
+  pub checkpoint-other : then (line (Checkpoint 0) Done ∷ []) .stable (interval 1 0 2) ≡ false
+  -- K: the degree of one controller
+  pub degree-own : then (line (SetDegree 0 1) Done ∷ []) .degree 0 ≡ 1
+  pub degree-other : then (line (SetDegree 0 1) Done ∷ []) .degree 1 ≡ 3
+  -- `heard`: the chain stays
+  pub heard-marks : then (crash ∷ line (Hear 2 1 0) (Heard 2) ∷ []) .heard 2 1 0 ≡ true
+  pub heard-chain : then (crash ∷ line (Hear 2 1 0) (Heard 2) ∷ []) .chain 2 ≡ interval 2 0 1 ∷ []
+  -- `rolled`: what rests on the lost interval leaves, and the kept interval becomes stable
+  pub rolled-before : then (crash ∷ []) .stable (interval 0 0 2) ≡ false
+  pub rolled-kept : then (crash ∷ line (Hear 0 1 0) (Rolled 0 2 2 1) ∷ []) .stable (interval 0 0 2) ≡ true
+  pub rolled-gone : then (crash ∷ line (Hear 0 1 0) (Rolled 0 2 2 1) ∷ []) .stable (interval 0 0 3) ≡ false
+  pub rolled-chain : then (crash ∷ line (Hear 0 1 0) (Rolled 0 2 2 1) ∷ []) .chain 0 ≡ interval 0 1 3 ∷ interval 0 0 2 ∷ interval 0 0 1 ∷ []
+  -- an opening that is done begins anew
+  pub opened-anew : then (line (Open 3 0) Done ∷ []) .chain 0 ≡ interval 0 0 1 ∷ []
+
+-- all of it, by computing
+pub deliveries-hold : Deliveries
+unfolding all fed says report value sameInterval at atInterval newest member those oldest degreeSet sentFrom joined leaving stabilized hearing losing opening delivering logging checkpointing restarting crashing rollingBack
+deliveries-hold =
+    record {
+      logged-first = refl;
+      logged-second = refl;
+      logged-third = refl;
+      lost-third = refl;
+      lost-second = refl;
+      checkpoint-own = refl;
+      checkpoint-other = refl;
+      degree-own = refl;
+      degree-other = refl;
+      heard-marks = refl;
+      heard-chain = refl;
+      rolled-before = refl;
+      rolled-kept = refl;
+      rolled-gone = refl;
+      rolled-chain = refl;
+      opened-anew = refl;
+    }

@@ -1,0 +1,1 @@
+// The history of a house and demand 3, as definitions (specs/). No code.

@@ -1,0 +1,99 @@
+-- The digits of a mask are the owners of non-empty pairs.
+use mathlib.Core.Path.{_≡_, refl, sym, ap, ap₂, _∙_}
+use mathlib.Core.Bool.{Bool, true, false, not, cond}
+use Prim.Native.Nat.{ℕ, zero, suc, _+_, _-_, _*_, _/_, _%_, _^_, _≤_, _<_}
+use native.Mathlib.Nat.{div-eq-of-lt}
+use native.Mathlib.Omega.{arith}
+use lib.Count.{ones, onesIn, ones-cat}
+use lib.ListN.{length}
+use lib.Pow.{pow-mono, high, low, field, mod-mod-pow}
+use Rattle.base.specs.Choice.{_==_, cond-ind, le?}
+use Rattle.table.specs.Layout.{controllers}
+use Rattle.rules.specs.Vector.{Vector, number, empty, pairOf, maskTo, mask}
+use Rattle.history.specs.Demand.{named}
+use Rattle.model.specs.Model.{Vec, full}
+use Rattle.image.specs.Vectors.{vecOf, past}
+
+-- the digit of owner a
+abbrev bit : Vector → ℕ → ℕ
+bit v a = cond (empty (pairOf v a)) 0 1
+
+-- one owner more: a digit, and the rest
+mask-suc : (n : ℕ) (v : Vector) → maskTo (suc n) v ≡ bit v n * 2 ^ n + maskTo n v
+unfolding maskTo
+mask-suc n v = go (empty (pairOf v n))
+  where
+    go : (b : Bool) → cond b 0 (2 ^ n) + maskTo n v ≡ cond b 0 1 * 2 ^ n + maskTo n v
+    go true = omega arith
+    go false = omega arith
+
+-- a digit is 0 or 1
+bit-le : (v : Vector) (a : ℕ) → bit v a ≤ 1
+bit-le v a = cond-ind (λ x. x ≤ 1) (empty (pairOf v a)) (λ e. omega arith) (λ e. omega arith)
+
+-- n digits
+mask-lt : (n : ℕ) (v : Vector) → maskTo n v < 2 ^ n
+unfolding maskTo
+mask-lt zero v = omega arith
+mask-lt (suc n) v = go (empty (pairOf v n)) (mask-lt n v)
+  where
+    go : (b : Bool) → maskTo n v < 2 ^ n → cond b 0 (2 ^ n) + maskTo n v < 2 ^ suc n
+    go true h = omega arith
+    go false h = omega arith
+
+-- the digits below n are those of the rest
+digit-below : (d n r a : ℕ) → r < 2 ^ n → a < n → (d * 2 ^ n + r) / 2 ^ a % 2 ≡ r / 2 ^ a % 2
+digit-below d n r a rl al =
+    let j : ℕ = n - (1 + a) in
+    let e : n - (1 + a) + (1 + a) ≡ n = omega arith in
+    let m : ℕ = d * 2 ^ n + r in
+    let s : (d * 2 ^ n + r) % 2 ^ (1 + a) ≡ r % 2 ^ (1 + a) = sym (mod-mod-pow m j (1 + a)) ∙ rw (e, low d n rl) in
+    sym (field m 1 a) ∙ ap (λ z. z / 2 ^ a) s ∙ field r 1 a
+
+-- a digit is its own rest
+bit-mod : (v : Vector) (a : ℕ) → bit v a % 2 ≡ bit v a
+bit-mod v a = let h = bit-le v a in omega arith
+
+-- digit a of the mask
+mask-digit : (n : ℕ) (v : Vector) (a : ℕ) → a < n → maskTo n v / 2 ^ a % 2 ≡ bit v a
+mask-digit zero v a l = absurd (omega arith)
+mask-digit (suc n) v a l =
+    ap (λ m. m / 2 ^ a % 2) (mask-suc n v)
+    ∙ le? (a + 1) n (λ h. digit-below (bit v n) n (maskTo n v) a (mask-lt n v) (omega arith) ∙ mask-digit n v a (omega arith))
+    (λ h. let e : a ≡ n = omega arith in
+    ap (λ i. (bit v n * 2 ^ n + maskTo n v) / 2 ^ i % 2) e ∙ ap (λ x. x % 2) (high (bit v n) n (mask-lt n v)) ∙ bit-mod v n ∙ ap (bit v) (sym e))
+
+-- "named are the controllers c whose 2 to the power c is in the mask": those with a non-empty pair, and no others
+pub named-is : (v : Vector) → length v ≡ controllers → (a : ℕ) → named (mask v) a ≡ full (vecOf v a)
+unfolding mask full
+named-is v long a =
+    le? (a + 1) controllers (λ l. ap (λ x. x == 1) (mask-digit controllers v a (omega arith)) ∙ go (empty (pairOf v a)))
+    (λ l. let m = mask-lt controllers v in
+    let p : 2 ^ controllers ≤ 2 ^ a = pow-mono {i = controllers} {j = a} (omega arith) in
+    let q : maskTo controllers v / 2 ^ a ≡ 0 = div-eq-of-lt (omega arith) in
+    ap (λ x. x % 2 == 1) q ∙ ap full (sym (past v a (omega arith))))
+  where
+    go : (b : Bool) → (cond b 0 1 == 1) ≡ not b
+    go true = refl
+    go false = refl
+
+-- how many of the first n owners have an entry
+unfoldable pub entries : ℕ → Vec → ℕ
+entries zero w = 0
+entries (suc n) w = cond (w n .number == 0) 0 1 + entries n w
+
+-- the ones of the first n digits
+ones-maskTo : (n : ℕ) (v : Vector) → ones (maskTo n v) ≡ entries n (vecOf v)
+unfolding maskTo entries ones onesIn
+ones-maskTo zero v = refl
+ones-maskTo (suc n) v =
+    ap ones (mask-suc n v) ∙ ones-cat n (bit v n) (maskTo n v) (mask-lt n v) ∙ ap₂ (λ (x y : ℕ). x + y) (go (empty (pairOf v n))) (ones-maskTo n v)
+  where
+    go : (b : Bool) → ones (cond b 0 1) ≡ cond b 0 1
+    go true = refl
+    go false = refl
+
+-- "the number of ones in the mask"
+pub ones-mask : (v : Vector) → ones (mask v) ≡ entries controllers (vecOf v)
+unfolding mask
+ones-mask v = ones-maskTo controllers v

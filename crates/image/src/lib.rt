@@ -1,0 +1,1 @@
+// A table of words as the model sees it, and each accepted step as a change of the model (specs/).
