@@ -69,12 +69,12 @@ pub record Found (n : ℕ) (m : Model) (i mask : ℕ) : Type 0 where
   pub low : (c : ℕ) → c < n → m .node c .incarnation < incarnations
 
 -- every release that answers so has
-released-found : {n : ℕ} {m : Model} {i mask j : ℕ} {p : Model} → Outcome n m (Release i) (Released i mask) j p → Found n m i mask
+released-found : {n : ℕ} {m : Model} {i said mask j : ℕ} {p : Model} → Outcome n m (Release i) (Released said mask) j p → Found n m i mask
 released-found (released i mask l w) = record { out = l; low = w }
 
 -- the same of an answer that is said to be so
-pub found : {n : ℕ} {m : Model} {i mask : ℕ} {y : Answer} {j : ℕ} {p : Model} → Outcome n m (Release i) y j p → y ≡ Released i mask → Found n m i mask
-found {n} {m} {i} {mask} {y} {j} {p} o e = released-found (subst (λ z. Outcome n m (Release i) z j p) e o)
+pub found : {n : ℕ} {m : Model} {i said mask : ℕ} {y : Answer} {j : ℕ} {p : Model} → Outcome n m (Release i) y j p → y ≡ Released said mask → Found n m i mask
+found {n} {m} {i} {said} {mask} {y} {j} {p} o e = released-found (subst (λ z. Outcome n m (Release i) z j p) e o)
 
 -- the outcome of a step on a table of a house of n controllers
 pub outcome : {n : ℕ} (t : List ℕ) (x : Command) → sizeOf t ≡ n →
@@ -90,7 +90,7 @@ follows n =
       step-fits = λ t x e unopened. kept-size (stepped t x) unopened ∙ e;
       step-keeps = λ t x h e unopened v. outcome-keeps (outcome t x e) unopened v;
       hearer-below = λ t b a i e accepted. hearer-below (outcome t (Hear b a i) e) accepted;
-      lets-out = λ t i mask e answer. found (outcome t (Release i) e) answer .out;
+      lets-out = λ t i said mask e answer. found (outcome t (Release i) e) answer .out;
     }
 
 -- Demand 3, for every table, opening and list of steps.

@@ -69,12 +69,12 @@ module _ (t : List ℕ) (n k : ℕ) (l : List Command) where
     -- "No live interval rests on one lost in a crash its controller has heard."
     pub live : (b : ℕ) → b < n → (x : Interval) → member x (end .chain b) ≡ true → RestsOnLost end end b x → ⊥
     -- "Each message that a release in the list let out under a degree K was let out with at most K controllers named";
-    pub degrees : (before after : List Command) (m mask : ℕ) → l ≡ before ++ Release m ∷ after →
-        step (upTo before .table) (Release m) .answer ≡ Released m mask →
+    pub degrees : (before after : List Command) (m said mask : ℕ) → l ≡ before ++ Release m ∷ after →
+        step (upTo before .table) (Release m) .answer ≡ Released said mask →
         ones mask ≤ upTo before .history .degree (upTo before .history .sending m .owner)
     -- "these own every interval that its sending interval rests on, that wasn't stable at that release, and that is lost
     -- anywhere in the list, before it or after."
-    pub releases : (before after : List Command) (m mask : ℕ) → l ≡ before ++ Release m ∷ after →
-        step (upTo before .table) (Release m) .answer ≡ Released m mask →
+    pub releases : (before after : List Command) (m said mask : ℕ) → l ≡ before ++ Release m ∷ after →
+        step (upTo before .table) (Release m) .answer ≡ Released said mask →
         (x : Interval) (crash : ℕ) → end .rests (end .sending m) x ≡ true → upTo before .history .stable x ≡ false → end .lost x crash ≡ true →
         named mask (x .owner) ≡ true

@@ -33,7 +33,7 @@ pub record Follows (n : ℕ) (read : List ℕ → Model) (Fits : List ℕ → Ty
   pub step-keeps : (t : List ℕ) (x : Command) (h : History) → Fits t → NotDone t x → Inv n (read t) h →
       Keeps n (read t) h (read (step t x .table)) (fed x (step t x .answer) h)
   pub hearer-below : (t : List ℕ) (b a i : ℕ) → Fits t → Accepted (step t (Hear b a i) .answer) → b < n
-  pub lets-out : (t : List ℕ) (i mask : ℕ) → Fits t → step t (Release i) .answer ≡ Released i mask → LetsOut (read t) i mask
+  pub lets-out : (t : List ℕ) (i said mask : ℕ) → Fits t → step t (Release i) .answer ≡ Released said mask → LetsOut (read t) i mask
 
 -- runs of a list in two parts
 runs-append : (r : Run) (l l′ : List Command) → runs r (l ++ l′) ≡ runs (runs r l) l′
@@ -149,13 +149,13 @@ module _ {n : ℕ} {read : List ℕ → Model} {Fits : List ℕ → Type 0} (F :
               subst (λ z. (member x (then .chain b) ≡ false) ↔ RestsOnLost (runs start z .history) then b x) (sym e)
               (hearing-exact (s .holds .inv) (s .one .1) (s .rest .ext) b (F .hearer-below _ b a i (s .holds .fits) accepted) x live);
           live = λ b below x. live-clean (at-end l O .inv) b below x;
-          degrees = λ before after m mask e released.
+          degrees = λ before after m said mask e released.
               let s = in-list l O before (Release m) after e in
-              let o = F .lets-out _ m mask (s .holds .fits) released in
+              let o = F .lets-out _ m said mask (s .holds .fits) released in
               subst (λ d. ones mask ≤ d) (sym (release-degree (s .holds .inv) m (o .pos) (o .sent))) (o .within);
-          releases = λ before after m mask e released x crash rests unstable lost.
+          releases = λ before after m said mask e released x crash rests unstable lost.
               let s = in-list l O before (Release m) after e in
-              let o = F .lets-out _ m mask (s .holds .fits) released in
+              let o = F .lets-out _ m said mask (s .holds .fits) released in
               let r = subst (λ z. Is (runs start z .history .rests (runs start z .history .sending m) x)) e rests in
               let c = release-covers (s .holds .inv) m (o .pos) (o .sent) (s .all .ext) (s .all .sending-same m (o .sent)) x r unstable in
               o .names (x .owner) ∙ c .1;
