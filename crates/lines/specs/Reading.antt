@@ -389,7 +389,7 @@ pub number-letter : (s : List ℕ) (at : ℕ) → at < length s → (getD s at 0
 unfolding numberAt numberFrom
 number-letter s at h d = sym (ap (numberFrom at) (drop-cons s at 0 h) ∙ rw (ne-eqb (getD s at 0) 32 d))
 
--- b is a digit, and k digits and a space are not too many
+-- b is a digit that stands k bytes behind the space, and not too far
 pub record Digit (b k : ℕ) : Type 0 where
   pub low : 48 ≤ b
   pub high : b ≤ 57

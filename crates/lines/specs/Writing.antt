@@ -45,9 +45,9 @@ splice-set t r a x h =
     let n : ℕ = length r in
     let l : n < length (drop a t) = simp length-drop (omega arith) in
     let u : take a (set t (a + n) x) ≡ take a t = take-set-le a t (a + n) x (omega arith) in
-    let v : drop n (drop a (set t (a + n) x)) ≡ x ∷ drop (suc n) (drop a t) =
-    ap (drop n) (drop-set-add a t n x ∙ set-split (drop a t) n x l) ∙ drop-at (take n (drop a t)) (x ∷ drop (suc n) (drop a t)) n (length-take-le n (drop a t) (omega arith))
-    in
+    let m : drop a (set t (a + n) x) ≡ take n (drop a t) ++ x ∷ drop (suc n) (drop a t) = drop-set-add a t n x ∙ set-split (drop a t) n x l in
+    let f : length (take n (drop a t)) ≡ n = length-take-le n (drop a t) (omega arith) in
+    let v : drop n (drop a (set t (a + n) x)) ≡ x ∷ drop (suc n) (drop a t) = ap (drop n) m ∙ drop-at (take n (drop a t)) (x ∷ drop (suc n) (drop a t)) n f in
     let k : suc n ≡ length (r ++ x ∷ []) = sym (length-append r (x ∷ []) ∙ add-one n) in
     ap₂ (λ (p q : List ℕ). p ++ (r ++ q)) u v
     ∙ ap (λ (q : List ℕ). take a t ++ q) (sym (append-assoc r (x ∷ []) (drop (suc n) (drop a t))) ∙ ap (λ (j : ℕ). (r ++ x ∷ []) ++ drop j (drop a t)) k)
@@ -222,7 +222,7 @@ pub line-size : (w vs : List ℕ) → length (lineOf w vs) ≤ length w + 11 * l
 unfolding lineOf
 line-size w vs = omega (arith, length-append w (spaced vs ++ lineFeed ∷ []), length-append (spaced vs) (lineFeed ∷ []), spaced-size vs)
 
--- the first i values stand behind `at`
+-- the first i values stand from `at` on, and end at `end`
 pub record Listing (t : List ℕ) (at : ℕ) (vs : List ℕ) (i : ℕ) (out : List ℕ) (end : ℕ) : Type 0 where
   pub bound : i ≤ length vs
   pub written : Written t at (spaced (take i vs)) out end
