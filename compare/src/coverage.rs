@@ -1,0 +1,144 @@
+//! What a comparison has come across, so that a test can ask for all of it.
+
+use reference::lines;
+use reference::machine::{Answer, Command};
+use reference::table::{Table, CONTROLLERS};
+use std::collections::BTreeSet;
+
+/// The answers but the refusals, in the order of the alphabet.
+const ANSWERS: [&str; 10] = [
+    "crashed",
+    "delivered",
+    "done",
+    "dropped",
+    "heard",
+    "held",
+    "released",
+    "rolled",
+    "sent",
+    "waits",
+];
+
+/// Which steps can be refused with each number, in the order of their letters.
+const REFUSED: [(u32, &str); 13] = [
+    (1, "CDHKLORSTX"),
+    (2, "CDHKLRSTX"),
+    (3, "CHKLSTX"),
+    (4, "DR"),
+    (5, "KO"),
+    (6, "ST"),
+    (7, "DR"),
+    (8, "L"),
+    (9, "H"),
+    (10, "H"),
+    (11, "S"),
+    (12, "DX"),
+    (13, "HX"),
+];
+
+/// How far a house went.
+#[derive(Clone, Copy, Debug, Default, PartialEq, Eq)]
+pub struct Extent {
+    /// The highest incarnation of a controller.
+    pub incarnation: u32,
+    /// The most live intervals of a controller.
+    pub live: u32,
+    /// The most messages sent.
+    pub sent: u32,
+}
+
+impl Extent {
+    /// As far as a house can go: incarnation 15, 64 live intervals, 128 messages.
+    pub const UTMOST: Extent = Extent {
+        incarnation: 15,
+        live: 64,
+        sent: 128,
+    };
+
+    fn farther(self, other: Extent) -> Extent {
+        Extent {
+            incarnation: self.incarnation.max(other.incarnation),
+            live: self.live.max(other.live),
+            sent: self.sent.max(other.sent),
+        }
+    }
+
+    fn of(table: Table<&[u32]>) -> Extent {
+        let counts = (0..CONTROLLERS).map(|controller| table.controller(controller));
+        let none = Extent {
+            sent: table.sent(),
+            ..Extent::default()
+        };
+        counts.fold(none, |extent, counts| {
+            extent.farther(Extent {
+                incarnation: counts.incarnation,
+                live: counts.live,
+                sent: 0,
+            })
+        })
+    }
+}
+
+/// The steps and answers seen so far.
+#[derive(Debug, Default)]
+pub struct Seen {
+    /// How many steps.
+    pub steps: u64,
+    /// The answers but the refusals, by their first words.
+    answers: BTreeSet<String>,
+    /// The refusals, each with the letter of its step.
+    refusals: BTreeSet<(u32, char)>,
+    /// How far the houses went.
+    pub extent: Extent,
+}
+
+impl Seen {
+    /// Takes note of a step.
+    pub fn note(&mut self, command: Command, answer: Answer) {
+        self.steps += 1;
+        if let Answer::Refused { number } = answer {
+            let letter = lines::write(command).chars().next();
+            self.refusals.extend(letter.map(|letter| (number, letter)));
+        } else {
+            let line = lines::render(&answer);
+            let name = line.split(' ').next();
+            self.answers.extend(name.map(str::to_owned));
+        }
+    }
+
+    /// Takes note of how far a house went, by a table in form.
+    pub fn note_extent(&mut self, words: &[u32]) {
+        if let Some(table) = Table::new(words) {
+            self.extent = self.extent.farther(Extent::of(table));
+        }
+    }
+
+    /// Adds what another has seen.
+    pub fn join(mut self, other: Seen) -> Seen {
+        self.steps += other.steps;
+        self.answers.extend(other.answers);
+        self.refusals.extend(other.refusals);
+        self.extent = self.extent.farther(other.extent);
+        self
+    }
+
+    /// Every answer was given, and every refusal from this number on, each to every step it can be
+    /// given to.
+    ///
+    /// # Panics
+    /// If one is missing.
+    pub fn assert_all(&self, first_refusal: u32) {
+        assert!(self.answers.iter().eq(&ANSWERS), "{:?}", self.answers);
+        for (number, letters) in REFUSED {
+            if number >= first_refusal {
+                assert_eq!(self.refused(number), letters, "refused {number}");
+            }
+        }
+    }
+
+    /// The letters of the steps that were refused with this number.
+    pub fn refused(&self, number: u32) -> String {
+        let with_number = self.refusals.iter().filter(|(seen, _)| *seen == number);
+        with_number.map(|(_, letter)| letter).collect()
+    }
+}
