@@ -5,6 +5,8 @@ use compare::house::{program, run, Session};
 use reference::generate::{script, Profile, Walk};
 use reference::lines;
 use reference::machine::Fault;
+use std::fs;
+use std::path::Path;
 use std::thread;
 use std::time::Duration;
 
@@ -35,6 +37,19 @@ fn listing_a() -> Vec<(String, String)> {
     columns
         .map(|(input, output)| (format!("{}\n", input.trim_end()), format!("{output}\n")))
         .collect()
+}
+
+/// The examples that README and the guide show: Listing A, and the worked example of the method's paper.
+#[test]
+fn stored_examples_are_answered_as_stored() {
+    let examples = Path::new(env!("CARGO_MANIFEST_DIR")).join("../examples");
+    for name in ["listing_a", "paper"] {
+        let [script, expected] = ["in", "out"].map(|kind| {
+            let file = examples.join(name).with_extension(kind);
+            fs::read(file).expect("a stored example")
+        });
+        assert_eq!(played(&script), expected, "{name}");
+    }
 }
 
 /// The output of the program.
