@@ -1,8 +1,8 @@
 -- Tests over the indices below a bound: all pass, some passes, the first that passes.
 use mathlib.Core.Path.{_≡_, refl, sym, ap, ap₂, _∙_}
-use mathlib.Core.Bool.{Bool, true, false, cond, _&&_, _||_, and-false, or-true}
+use mathlib.Core.Bool.{Bool, true, false, cond, _&&_, _||_, and-false, and-true, and-assoc, or-true}
 use Prim.Native.Nat.{ℕ, zero, suc, _+_, _≤_, _<_}
-use native.Mathlib.Nat.{not-suc-le-zero, le-of-suc-le-suc, zero-lt-suc}
+use native.Mathlib.Nat.{not-suc-le-zero, le-of-suc-le-suc, zero-lt-suc, add-zero, add-suc}
 use native.Mathlib.Numerals.{add-one}
 use native.Mathlib.Omega.{arith}
 use Rattle.base.specs.Choice.{and-left, and-right, le?}
@@ -60,6 +60,14 @@ pub allb-ext : (f g : ℕ → Bool) (n : ℕ) → ((i : ℕ) → i < n → f i �
 unfolding allb
 allb-ext f g zero h = refl
 allb-ext f g (suc n) h = ap₂ (λ (x y : Bool). x && y) (allb-ext f g n (λ (i : ℕ) (p : i < n). h i (omega arith))) (h n (omega arith))
+
+-- a range in two parts
+pub allb-split : (f : ℕ → Bool) (k m : ℕ) → allb (k + m) f ≡ (allb k f && allb m (λ (i : ℕ). f (k + i)))
+unfolding allb
+allb-split f k zero = ap (λ (n : ℕ). allb n f) (add-zero k) ∙ sym (and-true (allb k f))
+allb-split f k (suc m) =
+    ap (λ (n : ℕ). allb n f) (add-suc k m) ∙ ap (λ (b : Bool). b && f (k + m)) (allb-split f k m)
+    ∙ and-assoc (allb k f) (allb m (λ (i : ℕ). f (k + i))) (f (k + m))
 
 pub anyb-at : (f : ℕ → Bool) (n i : ℕ) → i < n → f i ≡ true → anyb n f ≡ true
 unfolding anyb

@@ -1,7 +1,7 @@
 // The check that a table is in form: every word in its range. No branch on a word that is tested, so that the long runs
 // of words are looked at in one go.
 ghost use mathlib.Core.Path.{_≡_};
-ghost use Prim.Native.Nat.{_+_, _≤_, _<_};
+ghost use Prim.Native.Nat.{_+_, _≤_, _<_, min};
 ghost use lib.ListN.{length};
 ghost use Rattle.base.specs.Ranges.{allb};
 ghost use Rattle.table.specs.Layout.{controllers, places, messages, vectorWords, tableWords};
@@ -176,17 +176,38 @@ pub fn place_ok(t: &[u32], n: u32, c: usize, p: usize) -> bool
     }
 }
 
+// How many of the `most` records are in use.
+pub fn used(count: u32, most: usize) -> usize
+    ensures { λ r. ⌜ r ≡ min count most ⌝ }
+{
+    if (count as usize) < most {
+        count as usize
+    } else {
+        most
+    }
+}
+
+// The places of c: the live ones by themselves, and those above as one run of words.
 pub fn places_ok(t: &[u32], n: u32, c: usize) -> bool
     requires { ⌜ (length (now t) ≡ tableWords) × (c < controllers) ⌝ }
     ensures { λ r. ⌜ r ≡ allb places (placeOk house n (state (now (t .entry))) c) ⌝ }
 {
+    let live = used(
+        t[table::LIVE_COUNT + c * table::CONTROLLER_WORDS],
+        table::PLACES,
+    );
     let mut ok = true;
     let mut p = 0;
-    while p < table::PLACES {
+    while p < live {
         ok = ok & place_ok(t, n, c, p);
         p += 1;
     }
     ok
+        & all_zero(
+            t,
+            table::PLACES_FROM + c * table::CHAIN_WORDS + live * table::PLACE_WORDS,
+            (table::PLACES - live) * table::PLACE_WORDS,
+        )
 }
 
 pub fn all_places_ok(t: &[u32], n: u32) -> bool
@@ -227,17 +248,24 @@ pub fn message_ok(t: &[u32], n: u32, r: usize) -> bool
     }
 }
 
+// The messages: the sent ones by themselves, and those above as one run of words.
 pub fn messages_ok(t: &[u32], n: u32) -> bool
     requires { ⌜ length (now t) ≡ tableWords ⌝ }
     ensures { λ r. ⌜ r ≡ allb messages (messageOk house n (state (now (t .entry)))) ⌝ }
 {
+    let sent = used(t[table::SENT_COUNT], table::MESSAGES);
     let mut ok = true;
     let mut r = 0;
-    while r < table::MESSAGES {
+    while r < sent {
         ok = ok & message_ok(t, n, r);
         r += 1;
     }
     ok
+        & all_zero(
+            t,
+            table::MESSAGES_FROM + sent * table::MESSAGE_WORDS,
+            (table::MESSAGES - sent) * table::MESSAGE_WORDS,
+        )
 }
 
 pub fn in_form(t: &[u32]) -> bool
