@@ -10,44 +10,27 @@ use std::path::Path;
 use std::thread;
 use std::time::Duration;
 
-/// Input left, output right.
-const LISTING_A: &str = "\
-O 3 1      done
-S 0 1 7    sent 1
-R 1        released 1 0
-D 1        delivered 1 0 2
-S 1 2 9    sent 2
-R 2        released 2 2
-D 2        delivered 2 0 2
-S 2 0 5    sent 3
-R 3        held 3 6
-L 2 1      done
-R 3        released 3 2
-X 1        crashed 1 0 1 1 0
-D 3        delivered 3 0 2
-H 2 1 0    rolled 2 1 1 0
-H 0 1 0    rolled 0 1 1 0
-D 3        refused 7
-";
+/// The script of a stored example, and its answers.
+fn stored(name: &str) -> [Vec<u8>; 2] {
+    let examples = Path::new(env!("CARGO_MANIFEST_DIR")).join("../examples");
+    ["in", "out"].map(|kind| {
+        let file = examples.join(name).with_extension(kind);
+        fs::read(file).expect("a stored example")
+    })
+}
 
-/// The lines of the two columns.
+/// The lines of Listing A, each with its answer.
 fn listing_a() -> Vec<(String, String)> {
-    const LEFT: usize = 11;
-    let columns = LISTING_A.lines().map(|line| line.split_at(LEFT));
-    columns
-        .map(|(input, output)| (format!("{}\n", input.trim_end()), format!("{output}\n")))
-        .collect()
+    let [script, answers] = stored("listing_a").map(|text| String::from_utf8(text).expect("ASCII"));
+    let lines = |text: &str| -> Vec<String> { text.lines().map(|l| format!("{l}\n")).collect() };
+    lines(&script).into_iter().zip(lines(&answers)).collect()
 }
 
 /// The examples that README and the guide show: Listing A, and the worked example of the method's paper.
 #[test]
 fn stored_examples_are_answered_as_stored() {
-    let examples = Path::new(env!("CARGO_MANIFEST_DIR")).join("../examples");
     for name in ["listing_a", "paper"] {
-        let [script, expected] = ["in", "out"].map(|kind| {
-            let file = examples.join(name).with_extension(kind);
-            fs::read(file).expect("a stored example")
-        });
+        let [script, expected] = stored(name);
         assert_eq!(played(&script), expected, "{name}");
     }
 }

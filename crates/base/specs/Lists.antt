@@ -1,8 +1,8 @@
 -- Lists given by a function of the index, and loops that fill a list from the front.
-use mathlib.Core.Path.{_≡_, refl, sym, ap, _∙_, subst}
+use mathlib.Core.Path.{_≡_, refl, sym, ap, _∙_, subst, ap₂}
 use mathlib.Core.List.{List, [], _∷_}
 use Prim.Native.Nat.{ℕ, zero, suc, _+_, _≤_, _<_, zero-le}
-use native.Mathlib.Nat.{not-suc-le-zero, le-of-suc-le-suc}
+use native.Mathlib.Nat.{not-suc-le-zero, le-of-suc-le-suc, zero-lt-suc}
 use native.Mathlib.Omega.{arith}
 use lib.ListN.{length, getD, set, length-set}
 use lib.Seq.{ext-getD, getD-set-same, getD-set-other}
@@ -62,3 +62,9 @@ module _ {A : Type 0} (d : A) (n : ℕ) (f : ℕ → A) where
 -- a list is given by its own elements
 pub tab-getD : {A : Type 0} (d : A) (n : ℕ) (l : List A) → length l ≡ n → tab n (λ (i : ℕ). getD l i d) ≡ l
 tab-getD d n l e = sym (tab-of d n (λ (i : ℕ). getD l i d) l e (λ (i : ℕ) (h : i < n). refl))
+
+-- two functions that agree below n give one list
+pub tab-same : {A : Type 0} (n : ℕ) (f g : ℕ → A) → ((i : ℕ) → i < n → f i ≡ g i) → tab n f ≡ tab n g
+unfolding tab
+tab-same zero f g h = refl
+tab-same (suc n) f g h = ap₂ (λ a l. a ∷ l) (h 0 (zero-lt-suc n)) (tab-same n (λ i. f (suc i)) (λ i. g (suc i)) (λ i l. h (suc i) (omega arith)))

@@ -1,14 +1,13 @@
 -- Rules look only at words of the table: on states with the same words they give the same, and leave the same words.
 use mathlib.Core.Path.{_≡_, refl, ap, ap₂, _∙_, subst}
-use mathlib.Core.Bool.{Bool, true, false, cond, not, _&&_, _||_}
-use mathlib.Core.List.{List, _∷_}
+use mathlib.Core.Bool.{Bool, true, false, cond, not, _&&_}
+use mathlib.Core.List.{List}
 use Prim.Native.Nat.{ℕ, zero, suc, _+_, _-_, _*_, _≤_, _<_, max}
-use native.Mathlib.Nat.{zero-lt-suc}
 use native.Mathlib.Omega.{arith}
 use lib.ListN.{set}
 use Rattle.base.specs.Choice.{_==_, _≤?_, _<?_}
-use Rattle.base.specs.Ranges.{anyb, first}
-use Rattle.base.specs.Lists.{tab}
+use Rattle.base.specs.Ranges.{anyb, first, anyb-same, first-same}
+use Rattle.base.specs.Lists.{tab-same}
 use Rattle.table.specs.Field.{State, Head, Controller, Known, End, Place, Message, SentCount, Incarnation, LiveCount, StableCount, PlaceIncarnation, PlaceNumber, Cause, MessageState, messageHead}
 use Rattle.table.specs.Change.{put, putPart, inPlaces, clearPlaces, putStates}
 use Rattle.table.specs.Layout.{controllers, incarnations, places, messages}
@@ -19,26 +18,6 @@ use Rattle.rules.specs.Form.{held, released, delivered, dropped}
 use Rattle.rules.specs.Shared.{newest, interval, logged, loggedTo, causedFrom, causes, newVector, restarted, orphanedFrom, dropHeld, startAnew, latestFlagged, replayed}
 use Rattle.rules.specs.Steps.{message, sent, letOut, begun, told, noted, lowestCondemned}
 use Rattle.laws.specs.Facts.{Near}
-
--- what is made of the values of a function below a bound
-pub tab-same : {A : Type 0} (n : ℕ) (f g : ℕ → A) → ((i : ℕ) → i < n → f i ≡ g i) → tab n f ≡ tab n g
-unfolding tab
-tab-same zero f g h = refl
-tab-same (suc n) f g h = ap₂ (λ a l. a ∷ l) (h 0 (zero-lt-suc n)) (tab-same n (λ i. f (suc i)) (λ i. g (suc i)) (λ i l. h (suc i) (omega arith)))
-
--- whether some index passes
-pub anyb-same : (n : ℕ) (f g : ℕ → Bool) → ((i : ℕ) → i < n → f i ≡ g i) → anyb n f ≡ anyb n g
-unfolding anyb
-anyb-same zero f g h = refl
-anyb-same (suc n) f g h = ap₂ (λ (x y : Bool). x || y) (anyb-same n f g (λ i l. h i (omega arith))) (h n (omega arith))
-
--- the first that passes
-pub first-same : (n : ℕ) (f g : ℕ → Bool) → ((i : ℕ) → i < n → f i ≡ g i) → first n f ≡ first n g
-unfolding first
-first-same zero f g h = refl
-first-same (suc n) f g h =
-    ap₂ (λ (b : Bool) (k : ℕ). cond b 0 (suc k)) (h 0 (zero-lt-suc n))
-    (first-same n (λ i. f (suc i)) (λ i. g (suc i)) (λ i l. h (suc i) (omega arith)))
 
 -- places cleared, and states put
 pub agree-clear : (σ τ : State) (c p q : ℕ) → Agree σ τ → Agree (clearPlaces σ c p q) (clearPlaces τ c p q)

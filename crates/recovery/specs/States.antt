@@ -1,4 +1,5 @@
 -- States of messages put one by one, and what a table keeps where only states of messages were put.
+use Rattle.base.specs.Lists.{tab-same}
 use mathlib.Core.Path.{_≡_, refl, sym, ap, _∙_}
 use mathlib.Core.Bool.{cond}
 use mathlib.Core.List.{List}
@@ -13,7 +14,6 @@ use Rattle.table.specs.Change.{put, putStates}
 use Rattle.table.specs.Layout.{controllers}
 use Rattle.table.specs.Words.{state, words, word-at, Agree}
 use Rattle.rules.specs.Vector.{Vector, pair, messageVector, condemnedPair, condemned}
-use Rattle.laws.specs.Agree.{tab-same}
 
 -- a table of the words of σ has them
 pub agree-words : (σ : State) {t : List ℕ} → t ≡ words σ → Agree (state t) σ
