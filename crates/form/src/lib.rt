@@ -12,14 +12,6 @@ ghost use Rattle.rules.specs.Form.{pairOk, vectorOk, controllerOk, highest, row
 ghost use Rattle.vector.specs.At.{vectorAt};
 ghost use Rattle.form.specs.Runs.{zerosFrom};
 
-const LAST_INCARNATION: u32 = 15;
-
-const LAST_NUMBER: u32 = 64;
-
-const HELD: u32 = 1;
-
-const DROPPED: u32 = 5;
-
 pub fn all_zero(t: &[u32], at: usize, k: usize) -> bool
     requires { ⌜ at + k ≤ length (now t) ⌝ }
     ensures { λ r. ⌜ r ≡ zerosFrom (now (t .entry)) at k ⌝ }
@@ -38,7 +30,7 @@ pub fn pair_ok(n: u32, a: usize, i: u32, x: u32) -> bool
     ensures { λ r. ⌜ r ≡ pairOk house n a (pair i x) ⌝ }
 {
     if a < n as usize {
-        (x <= LAST_NUMBER) & (i <= LAST_INCARNATION) & ((0 < x) | (i == 0))
+        (x <= table::LAST_NUMBER) & (i <= table::LAST_INCARNATION) & ((0 < x) | (i == 0))
     } else {
         (x == 0) & (i == 0)
     }
@@ -66,7 +58,7 @@ pub fn controller_ok(t: &[u32], n: u32, c: usize) -> bool
         let live = t[table::LIVE_COUNT + c * table::CONTROLLER_WORDS];
         let stable = t[table::STABLE_COUNT + c * table::CONTROLLER_WORDS];
         (t[table::DEGREE + c * table::CONTROLLER_WORDS] <= n)
-            & (t[table::INCARNATION + c * table::CONTROLLER_WORDS] <= LAST_INCARNATION)
+            & (t[table::INCARNATION + c * table::CONTROLLER_WORDS] <= table::LAST_INCARNATION)
             & (1 <= live)
             & (live <= table::PLACES as u32)
             & (1 <= stable)
@@ -98,7 +90,7 @@ pub fn highest_known(n: u32, b: usize, a: usize) -> u32
     ensures { λ r. ⌜ r ≡ highest house n b a ⌝ }
 {
     if (b < n as usize) & (a < n as usize) {
-        LAST_NUMBER
+        table::LAST_NUMBER
     } else {
         0
     }
@@ -156,7 +148,7 @@ pub fn place_ok(t: &[u32], n: u32, c: usize, p: usize) -> bool
         let number = table::number_of(t, c, q + 1);
         let flag = t[table::FLAG + c * table::CHAIN_WORDS + p * table::PLACE_WORDS];
         (t[table::PLACE_INCARNATION + c * table::CHAIN_WORDS + p * table::PLACE_WORDS]
-            <= LAST_INCARNATION)
+            <= table::LAST_INCARNATION)
             & (t[table::PLACE_NUMBER + c * table::CHAIN_WORDS + p * table::PLACE_WORDS] == number)
             & (t[table::CAUSE + c * table::CHAIN_WORDS + p * table::PLACE_WORDS]
                 <= t[table::SENT_COUNT])
@@ -231,13 +223,13 @@ pub fn message_ok(t: &[u32], n: u32, r: usize) -> bool
     if q < t[table::SENT_COUNT] {
         let state = t[table::MESSAGE_STATE + r * table::MESSAGE_WORDS];
         let number = t[table::SENDING_NUMBER + r * table::MESSAGE_WORDS];
-        (HELD <= state)
-            & (state <= DROPPED)
+        (table::HELD <= state)
+            & (state <= table::DROPPED)
             & (t[table::SENDER + r * table::MESSAGE_WORDS] < n)
             & (t[table::RECEIVER + r * table::MESSAGE_WORDS] < n)
-            & (t[table::SENDING_INCARNATION + r * table::MESSAGE_WORDS] <= LAST_INCARNATION)
+            & (t[table::SENDING_INCARNATION + r * table::MESSAGE_WORDS] <= table::LAST_INCARNATION)
             & (1 <= number)
-            & (number <= LAST_NUMBER)
+            & (number <= table::LAST_NUMBER)
             & vector_ok(t, n, table::MESSAGE_VECTOR + r * table::MESSAGE_WORDS)
     } else {
         all_zero(

@@ -15,14 +15,6 @@ ghost use Rattle.laws.specs.Answering.{Lent};
 ghost use Rattle.message.specs.Write.{MessageTable, Begins, delivers};
 use rules::Answer;
 
-const HELD: u32 = 1;
-
-const RELEASED: u32 = 2;
-
-const DELIVERED: u32 = 3;
-
-const DROPPED: u32 = 5;
-
 // The words of a message record, lent from inside the table.
 pub fn write_message(
     d: &mut [u32],
@@ -93,7 +85,7 @@ pub fn send(t: &mut [u32], s: u32, r: u32, p: u32) -> Answer
     let m = table::message_of(t, sent);
     let from = table::MESSAGES_FROM + sent as usize * table::MESSAGE_WORDS;
     let to = from + table::MESSAGE_WORDS;
-    write_message(&mut t[from..to], HELD, s, r, i, x, p, f);
+    write_message(&mut t[from..to], table::HELD, s, r, i, x, p, f);
     t[table::SENT_COUNT] = sent + 1;
     Answer::Sent(m)
 }
@@ -118,7 +110,7 @@ pub fn release(t: &mut [u32], m: u32) -> Answer
     requires { ⌜ Lent (now t) ⌝ }
     ensures { λ a. ⌜ out a (now (t .exit)) ≡ written (stepRelease (state (now (t .entry))) m) ⌝ }
 {
-    let no = message_refusal(t, m, HELD);
+    let no = message_refusal(t, m, table::HELD);
     if no != 0 {
         return Answer::Refused(no);
     }
@@ -131,7 +123,7 @@ pub fn release(t: &mut [u32], m: u32) -> Answer
         return Answer::Held(m, mask);
     }
     store_vector(t, r, f);
-    t[table::MESSAGE_STATE + r * table::MESSAGE_WORDS] = RELEASED;
+    t[table::MESSAGE_STATE + r * table::MESSAGE_WORDS] = table::RELEASED;
     Answer::Released(m, mask)
 }
 
@@ -148,7 +140,7 @@ pub fn begin_interval(t: &mut [u32], c: usize, m: u32, r: usize, v: [[u32; 2]; 8
     w[c] = own;
     interval::write_place(t, c, live as usize, i, x, m, 0, w);
     t[table::LIVE_COUNT + c * table::CONTROLLER_WORDS] = live + 1;
-    t[table::MESSAGE_STATE + r * table::MESSAGE_WORDS] = DELIVERED;
+    t[table::MESSAGE_STATE + r * table::MESSAGE_WORDS] = table::DELIVERED;
     Answer::Delivered(m, i, x)
 }
 
@@ -157,7 +149,7 @@ pub fn deliver(t: &mut [u32], m: u32) -> Answer
     requires { ⌜ Lent (now t) ⌝ }
     ensures { λ a. ⌜ out a (now (t .exit)) ≡ written (stepDeliver house (state (now (t .entry))) m) ⌝ }
 {
-    let no = message_refusal(t, m, RELEASED);
+    let no = message_refusal(t, m, table::RELEASED);
     if no != 0 {
         return Answer::Refused(no);
     }
@@ -165,7 +157,7 @@ pub fn deliver(t: &mut [u32], m: u32) -> Answer
     let c = t[table::RECEIVER + r * table::MESSAGE_WORDS] as usize;
     let sent = vector::message_vector(t, r);
     if vector::condemned_vector(t, c, sent) {
-        t[table::MESSAGE_STATE + r * table::MESSAGE_WORDS] = DROPPED;
+        t[table::MESSAGE_STATE + r * table::MESSAGE_WORDS] = table::DROPPED;
         return Answer::Dropped(m);
     }
     let live = t[table::LIVE_COUNT + c * table::CONTROLLER_WORDS];

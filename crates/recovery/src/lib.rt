@@ -16,29 +16,19 @@ ghost use Rattle.interval.specs.Chain.{Chain};
 ghost use Rattle.recovery.specs.Removal.{fate, settled, droppedOne, CauseOf, Causes, Starts, Rolls};
 use rules::Answer;
 
-const HELD: u32 = 1;
-
-const RELEASED: u32 = 2;
-
-const LOST: u32 = 4;
-
-const DROPPED: u32 = 5;
-
-const LAST_INCARNATION: u32 = 15;
-
 // The state that the cause in record r of an interval that c lost, or that c undid, gets.
 pub fn fate_of(t: &[u32], c: usize, r: usize, crashed: bool) -> u32
     requires { ⌜ CauseOf (now t) c r ⌝ }
     ensures { λ s. ⌜ s ≡ fate (state (now (t .entry))) c crashed r ⌝ }
 {
     if crashed {
-        return LOST;
+        return table::LOST;
     }
     let v = vector::message_vector(t, r);
     if vector::condemned_vector(t, c, v) {
-        DROPPED
+        table::DROPPED
     } else {
-        RELEASED
+        table::RELEASED
     }
 }
 
@@ -73,11 +63,11 @@ pub fn drop_one(t: &mut [u32], c: u32, x: u32, r: usize)
     requires { ⌜ (length (now t) ≡ tableWords) × (r < messages) ⌝ }
     ensures { λ _. ⌜ now (t .exit) ≡ words (droppedOne (state (now (t .entry))) c x r) ⌝ }
 {
-    if (t[table::MESSAGE_STATE + r * table::MESSAGE_WORDS] == HELD)
+    if (t[table::MESSAGE_STATE + r * table::MESSAGE_WORDS] == table::HELD)
         & ((t[table::SENDER + r * table::MESSAGE_WORDS] == c)
             & (x < t[table::SENDING_NUMBER + r * table::MESSAGE_WORDS]))
     {
-        t[table::MESSAGE_STATE + r * table::MESSAGE_WORDS] = DROPPED;
+        t[table::MESSAGE_STATE + r * table::MESSAGE_WORDS] = table::DROPPED;
     }
 }
 
@@ -139,7 +129,7 @@ pub fn crash_refusal(t: &[u32], c: u32) -> u32
     if table::PLACES as u32 <= t[table::STABLE_COUNT + a * table::CONTROLLER_WORDS] {
         return 12;
     }
-    if LAST_INCARNATION <= t[table::INCARNATION + a * table::CONTROLLER_WORDS] {
+    if table::LAST_INCARNATION <= t[table::INCARNATION + a * table::CONTROLLER_WORDS] {
         return 13;
     }
     0
@@ -199,7 +189,7 @@ pub fn hear_refusal(s: &[u32], b: u32, a: u32, t: u32) -> u32
     if (n <= b) | (n <= a) {
         return 3;
     }
-    if LAST_INCARNATION < t {
+    if table::LAST_INCARNATION < t {
         return 9;
     }
     let h = b as usize;
@@ -235,7 +225,7 @@ pub fn hear(s: &mut [u32], b: u32, a: u32, t: u32) -> Answer
     if live as usize <= p {
         return Answer::Heard(b);
     }
-    if LAST_INCARNATION <= own {
+    if table::LAST_INCARNATION <= own {
         s[table::ENDS + h * table::ROWS_WORDS + c * table::INCARNATIONS + i] = 0;
         s[table::KNOWN + h * table::ROWS_WORDS + c * table::INCARNATIONS + i] = known;
         return Answer::Refused(13);

@@ -47,6 +47,22 @@ pub const MESSAGES_FROM: usize = PLACES_FROM + CONTROLLERS * CHAIN_WORDS;
 
 pub const TABLE_WORDS: usize = MESSAGES_FROM + MESSAGES * MESSAGE_WORDS;
 
+// The last incarnation, and the highest interval number.
+pub const LAST_INCARNATION: u32 = 15;
+
+pub const LAST_NUMBER: u32 = 64;
+
+// States of a message; 0 is unused.
+pub const HELD: u32 = 1;
+
+pub const RELEASED: u32 = 2;
+
+pub const DELIVERED: u32 = 3;
+
+pub const LOST: u32 = 4;
+
+pub const DROPPED: u32 = 5;
+
 // The head.
 pub const SIZE: usize = 0;
 
