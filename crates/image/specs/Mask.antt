@@ -9,6 +9,7 @@ use lib.ListN.{length}
 use lib.Pow.{pow-mono, high, low, field, mod-mod-pow}
 use Rattle.base.specs.Choice.{_==_, cond-ind, le?}
 use Rattle.table.specs.Layout.{controllers}
+use Rattle.laws.specs.Mask.{mask-lt}
 use Rattle.rules.specs.Vector.{Vector, number, empty, pairOf, maskTo, mask}
 use Rattle.history.specs.Demand.{named}
 use Rattle.model.specs.Model.{Vec, full}
@@ -30,16 +31,6 @@ mask-suc n v = go (empty (pairOf v n))
 -- a digit is 0 or 1
 bit-le : (v : Vector) (a : ℕ) → bit v a ≤ 1
 bit-le v a = cond-ind (λ x. x ≤ 1) (empty (pairOf v a)) (λ e. omega arith) (λ e. omega arith)
-
--- n digits
-mask-lt : (n : ℕ) (v : Vector) → maskTo n v < 2 ^ n
-unfolding maskTo
-mask-lt zero v = omega arith
-mask-lt (suc n) v = go (empty (pairOf v n)) (mask-lt n v)
-  where
-    go : (b : Bool) → maskTo n v < 2 ^ n → cond b 0 (2 ^ n) + maskTo n v < 2 ^ suc n
-    go true h = omega arith
-    go false h = omega arith
 
 -- the digits below n are those of the rest
 digit-below : (d n r a : ℕ) → r < 2 ^ n → a < n → (d * 2 ^ n + r) / 2 ^ a % 2 ≡ r / 2 ^ a % 2

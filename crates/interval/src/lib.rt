@@ -7,7 +7,7 @@ ghost use Rattle.table.specs.Field.{Place};
 ghost use Rattle.table.specs.Change.{putPart, clearPlaces};
 ghost use Rattle.table.specs.Layout.{controllers, places, placeWords, tableWords};
 ghost use Rattle.table.specs.Words.{state, words};
-ghost use Rattle.rules.specs.Shared.{interval, latestFlagged, replayed};
+ghost use Rattle.rules.specs.Shared.{interval, latestFlagged};
 ghost use Rattle.rules.specs.Steps.{lowestCondemned};
 ghost use Rattle.interval.specs.Chain.{Chain, zeroWords};
 

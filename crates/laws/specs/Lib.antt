@@ -3,3 +3,4 @@ pub mod Allowed
 pub mod Agree
 pub mod Found
 pub mod Answering
+pub mod Mask

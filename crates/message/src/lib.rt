@@ -9,7 +9,7 @@ ghost use Rattle.table.specs.Layout.{messages, messageWords, tableWords};
 ghost use Rattle.table.specs.Words.{state, words};
 ghost use Rattle.rules.specs.Limits.{house};
 ghost use Rattle.rules.specs.Vector.{flat};
-ghost use Rattle.rules.specs.Steps.{message, sendRefusals, messageRefusals, begun, stepSend, stepRelease, stepDeliver};
+ghost use Rattle.rules.specs.Steps.{message, sendRefusals, messageRefusals, stepSend, stepRelease, stepDeliver};
 ghost use Rattle.rules.specs.Step.{out, written};
 ghost use Rattle.laws.specs.Answering.{Lent};
 ghost use Rattle.message.specs.Write.{MessageTable, Begins, delivers};

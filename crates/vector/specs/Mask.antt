@@ -1,23 +1,13 @@
 -- The mask of the non-empty pairs, as a loop over the owners makes it.
 use mathlib.Core.Path.{_≡_, refl, sym, ap, _∙_}
-use mathlib.Core.Bool.{Bool, true, false, cond}
-use Prim.Native.Nat.{ℕ, zero, suc, _+_, _*_, _^_, _≤_, _<_}
-use native.Mathlib.Nat.{pow-suc}
+use mathlib.Core.Bool.{Bool, cond}
+use Prim.Native.Nat.{ℕ, _+_, _^_, _≤_, _<_}
 use native.Mathlib.Numerals.{add-one}
 use native.Mathlib.Omega.{arith}
 use lib.Pow.{pow-mono}
 use borrow.Author.Tests.{eq-eqb, ne-eqb}
 use Rattle.table.specs.Layout.{controllers}
 use Rattle.rules.specs.Vector.{Vector, number, pairOf, empty, maskTo, mask}
-
-bit-lt : (b : Bool) (p m : ℕ) → m < p → cond b 0 p + m < p * 2
-bit-lt true p m h = omega arith
-bit-lt false p m h = omega arith
-
-pub mask-lt : (n : ℕ) (v : Vector) → maskTo n v < 2 ^ n
-unfolding maskTo
-mask-lt zero v = omega arith
-mask-lt (suc n) v = rw pow-suc (bit-lt (empty (pairOf v n)) (2 ^ n) (maskTo n v) (mask-lt n v))
 
 -- none yet, one more that is empty, one more that is not, all
 pub mask-none : (v : Vector) → 0 ≡ maskTo 0 v

@@ -1,7 +1,8 @@
 -- Before owner a the mask is that of the first a pairs, and `bit` is 2 to the power a.
 use Rattle.rules.specs.Vector.{maskTo, mask}
 use Rattle.table.specs.Layout.{controllers}
-use Rattle.vector.specs.Mask.{mask-lt, mask-none, mask-more-empty, mask-more-full, mask-all, bit-small}
+use Rattle.laws.specs.Mask.{mask-lt}
+use Rattle.vector.specs.Mask.{mask-none, mask-more-empty, mask-more-full, mask-all, bit-small}
 use mathlib.Core.Logic.{⊎-elim}
 use native.Mathlib.Numerals.{add-one}
 use native.Mathlib.Nat.{pow-suc}
