@@ -8,11 +8,11 @@ use borrow.Author.Tests.{lt-ltb, le-ltb}
 use Rattle.base.specs.Lists.{tab, tab-getD, length-tab}
 use Rattle.table.specs.Field.{State, Known, Degree, Incarnation, LiveCount, StableCount, Flag}
 use Rattle.table.specs.Change.{put}
-use Rattle.table.specs.Layout.{controllers, incarnations, places, tableWords, at}
+use Rattle.table.specs.Layout.{controllers, incarnations, places, tableWords, position}
 use Rattle.table.specs.Words.{state, words, words-state, wrote, fits-known, lent-part}
 use Rattle.table.specs.Numbering.{numberOf}
 use Rattle.laws.specs.Answering.{Named}
-use Rattle.rules.specs.Shared.{newest, logged, loggedTo}
+use Rattle.rules.specs.Shared.{newestPlace, logged, loggedTo}
 use Rattle.rules.specs.Steps.{checkpointed, told}
 
 pub record Logs (t : List ℕ) (c : ℕ) : Type 0 where
@@ -28,14 +28,14 @@ unfoldable pub toldRow : State → ℕ → ℕ → List ℕ
 toldRow σ a b = tab incarnations (λ (t : ℕ). max (σ (Known b a t)) (σ (Known a a t)))
 
 -- the words that the steps write
-pub writes-degree : (t : List ℕ) (c k : ℕ) → Named t c → set t (at (Degree c)) k ≡ words (put (state t) (Degree c) k)
+pub writes-degree : (t : List ℕ) (c k : ℕ) → Named t c → set t (position (Degree c)) k ≡ words (put (state t) (Degree c) k)
 writes-degree t c k h = wrote (state t) (Degree c) k (words-state t (h .long)) (h .below, omega arith)
 
 pub writes-log : (t : List ℕ) (c j x : ℕ) → Logs t c → x ≡ numberOf (state t) c j →
-    set (set t (at (StableCount c)) j) (at (Known c c (state t (Incarnation c)))) x ≡ words (logged (state t) c j)
+    set (set t (position (StableCount c)) j) (position (Known c c (state t (Incarnation c)))) x ≡ words (logged (state t) c j)
 unfolding logged
 writes-log t c j x h e =
-    ap (set (set t (at (StableCount c)) j) (at (Known c c (state t (Incarnation c))))) e
+    ap (set (set t (position (StableCount c)) j) (position (Known c c (state t (Incarnation c))))) e
     ∙ wrote _ (Known c c (state t (Incarnation c))) _ (wrote (state t) (StableCount c) j (words-state t (h .long)) (h .named, omega arith)) (h .named, h .named, h .near)
 
 -- "if any": some are not yet stable, or none
@@ -48,8 +48,8 @@ unfolding loggedTo
 logs-none t c j l h = rw (le-ltb (state t (StableCount c)) j h) (words-state t l)
 
 -- a checkpoint: after the logging, the flag of the newest place
-pub writes-flag : (t u : List ℕ) (c p : ℕ) → u ≡ words (loggedTo (state t) c (state t (LiveCount c))) → c < controllers → p ≡ newest (state t) c → p < places →
-    set u (at (Flag c p)) 1 ≡ words (checkpointed (state t) c)
+pub writes-flag : (t u : List ℕ) (c p : ℕ) → u ≡ words (loggedTo (state t) c (state t (LiveCount c))) → c < controllers → p ≡ newestPlace (state t) c → p < places →
+    set u (position (Flag c p)) 1 ≡ words (checkpointed (state t) c)
 unfolding checkpointed
 writes-flag t u c p e h q l = wrote _ (Flag c p) 1 e (h, l, omega arith) ∙ ap (λ (i : ℕ). words (put (loggedTo (state t) c (state t (LiveCount c))) (Flag c i) 1)) q
 
@@ -62,7 +62,7 @@ unfolding rowWords toldRow
 told-words σ a b = tab-getD 0 incarnations _ (length-tab incarnations _)
 
 -- T: b's row of a, from word i on, was lent and came back as what b is told
-pub lent-row : (t ys row : List ℕ) (a b i e : ℕ) → Named t a → Named t b → ys ≡ rowWords row → row ≡ toldRow (state t) a b → i ≡ at (Known b a 0) → e ≡ i + incarnations →
+pub lent-row : (t ys row : List ℕ) (a b i e : ℕ) → Named t a → Named t b → ys ≡ rowWords row → row ≡ toldRow (state t) a b → i ≡ position (Known b a 0) → e ≡ i + incarnations →
     take i t ++ (ys ++ drop (e - i) (drop i t)) ≡ words (told (state t) a b)
 unfolding told toldRow
 lent-row t ys row a b i e n m q r w z =

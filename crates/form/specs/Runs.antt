@@ -9,8 +9,8 @@ use lib.ListN.{getD}
 use borrow.Author.Tests.{le-ltb}
 use Rattle.base.specs.Choice.{_==_}
 use Rattle.base.specs.Ranges.{allb, allb-split, allb-ext}
-use Rattle.table.specs.Field.{Field, Head, Controller, Place, Message, LiveCount, SentCount}
-use Rattle.table.specs.Layout.{at, headWords, controllerWords, places, messages, placeWords, messageWords, chainWords, placesFrom, messagesFrom}
+use Rattle.table.specs.Field.{Field, OfHead, OfController, OfPlace, OfMessage, LiveCount, SentCount}
+use Rattle.table.specs.Layout.{position, headWords, controllerWords, places, messages, placeWords, messageWords, chainWords, placesFrom, messagesFrom}
 use Rattle.table.specs.Words.{state}
 use Rattle.rules.specs.Limits.{house}
 use Rattle.rules.specs.Form.{zeros, placeOk, messageOk}
@@ -20,22 +20,22 @@ unfoldable pub zerosFrom : List ℕ → ℕ → ℕ → Bool
 zerosFrom t a k = zeros k (λ (i : ℕ). getD t (a + i) 0)
 
 -- they are those of the fields f 0, f 1, ..
-zeros-fields : (t : List ℕ) (a k : ℕ) (f : ℕ → Field) → ((i : ℕ) → a + i ≡ at (f i)) → zerosFrom t a k ≡ zeros k (λ (i : ℕ). state t (f i))
+zeros-fields : (t : List ℕ) (a k : ℕ) (f : ℕ → Field) → ((i : ℕ) → a + i ≡ position (f i)) → zerosFrom t a k ≡ zeros k (λ (i : ℕ). state t (f i))
 unfolding zerosFrom
 zeros-fields t a k f e = ap (zeros k) (fun-ext (λ (i : ℕ). ap (λ (j : ℕ). getD t j 0) (e i)))
 
 module _ (t : List ℕ) where
-  pub zeros-head : zerosFrom t 2 (headWords - 2) ≡ zeros (headWords - 2) (λ (k : ℕ). state t (Head (2 + k)))
-  zeros-head = zeros-fields t 2 (headWords - 2) (λ (k : ℕ). Head (2 + k)) (λ (k : ℕ). refl)
+  pub zeros-head : zerosFrom t 2 (headWords - 2) ≡ zeros (headWords - 2) (λ (k : ℕ). state t (OfHead (2 + k)))
+  zeros-head = zeros-fields t 2 (headWords - 2) (λ (k : ℕ). OfHead (2 + k)) (λ (k : ℕ). refl)
 
-  pub zeros-controller : (c : ℕ) → zerosFrom t (at (Controller c 0)) controllerWords ≡ zeros controllerWords (λ (k : ℕ). state t (Controller c k))
-  zeros-controller c = zeros-fields t (at (Controller c 0)) controllerWords (Controller c) (λ (k : ℕ). omega arith)
+  pub zeros-controller : (c : ℕ) → zerosFrom t (position (OfController c 0)) controllerWords ≡ zeros controllerWords (λ (k : ℕ). state t (OfController c k))
+  zeros-controller c = zeros-fields t (position (OfController c 0)) controllerWords (OfController c) (λ (k : ℕ). omega arith)
 
-  pub zeros-place : (c p : ℕ) → zerosFrom t (at (Place c p 0)) placeWords ≡ zeros placeWords (λ (k : ℕ). state t (Place c p k))
-  zeros-place c p = zeros-fields t (at (Place c p 0)) placeWords (Place c p) (λ (k : ℕ). omega arith)
+  pub zeros-place : (c p : ℕ) → zerosFrom t (position (OfPlace c p 0)) placeWords ≡ zeros placeWords (λ (k : ℕ). state t (OfPlace c p k))
+  zeros-place c p = zeros-fields t (position (OfPlace c p 0)) placeWords (OfPlace c p) (λ (k : ℕ). omega arith)
 
-  pub zeros-message : (r : ℕ) → zerosFrom t (at (Message r 0)) messageWords ≡ zeros messageWords (λ (k : ℕ). state t (Message r k))
-  zeros-message r = zeros-fields t (at (Message r 0)) messageWords (Message r) (λ (k : ℕ). omega arith)
+  pub zeros-message : (r : ℕ) → zerosFrom t (position (OfMessage r 0)) messageWords ≡ zeros messageWords (λ (k : ℕ). state t (OfMessage r k))
+  zeros-message r = zeros-fields t (position (OfMessage r 0)) messageWords (OfMessage r) (λ (k : ℕ). omega arith)
 
 -- m records of w words each, one after the other, are 0
 zeros-records : (t : List ℕ) (a w m : ℕ) → zerosFrom t a (m * w) ≡ allb m (λ (i : ℕ). zerosFrom t (a + i * w) w)
@@ -59,23 +59,23 @@ unused t f a w k n l h =
     ∙ ap (λ (m : ℕ). allb m f) (omega arith)
 
 -- a place from the live count on, and a message from the messages sent on, is right if it is 0
-place-free : (t : List ℕ) (n c p : ℕ) → state t (LiveCount c) ≤ p → placeOk house n (state t) c p ≡ zerosFrom t (at (Place c p 0)) placeWords
+place-free : (t : List ℕ) (n c p : ℕ) → state t (LiveCount c) ≤ p → placeOk house n (state t) c p ≡ zerosFrom t (position (OfPlace c p 0)) placeWords
 unfolding placeOk
 place-free t n c p l = rw (le-ltb p (state t (LiveCount c)) l) (sym (zeros-place t c p))
 
-message-free : (t : List ℕ) (n r : ℕ) → state t SentCount ≤ r → messageOk house n (state t) r ≡ zerosFrom t (at (Message r 0)) messageWords
+message-free : (t : List ℕ) (n r : ℕ) → state t SentCount ≤ r → messageOk house n (state t) r ≡ zerosFrom t (position (OfMessage r 0)) messageWords
 unfolding messageOk
 message-free t n r l = rw (le-ltb r (state t SentCount) l) (sym (zeros-message t r))
 
 -- the places of c, and the messages, of which the first k are in use
 pub all-places : (t : List ℕ) (n c k : ℕ) (ok rest : Bool) → k ≡ min (state t (LiveCount c)) places → ok ≡ allb k (placeOk house n (state t) c) →
-    rest ≡ zerosFrom t (at (Place c k 0)) ((places - k) * placeWords) → (ok && rest) ≡ allb places (placeOk house n (state t) c)
+    rest ≡ zerosFrom t (position (OfPlace c k 0)) ((places - k) * placeWords) → (ok && rest) ≡ allb places (placeOk house n (state t) c)
 all-places t n c k ok rest e p z =
     (λ d. p d && z d)
     ∙ unused t (placeOk house n (state t) c) (placesFrom + c * chainWords) placeWords k places (omega arith) (λ q l u. place-free t n c q (omega arith))
 
 pub all-messages : (t : List ℕ) (n k : ℕ) (ok rest : Bool) → k ≡ min (state t SentCount) messages → ok ≡ allb k (messageOk house n (state t)) →
-    rest ≡ zerosFrom t (at (Message k 0)) ((messages - k) * messageWords) → (ok && rest) ≡ allb messages (messageOk house n (state t))
+    rest ≡ zerosFrom t (position (OfMessage k 0)) ((messages - k) * messageWords) → (ok && rest) ≡ allb messages (messageOk house n (state t))
 all-messages t n k ok rest e p z =
     (λ d. p d && z d)
     ∙ unused t (messageOk house n (state t)) messagesFrom messageWords k messages (omega arith) (λ q l u. message-free t n q (omega arith))

@@ -7,15 +7,15 @@ use native.Mathlib.Omega.{arith}
 use lib.ListN.{length, length-set}
 use borrow.Author.Tests.{eq-eqb, lt-leb}
 use Rattle.base.specs.Choice.{_==_, _<?_, cond-ind}
-use Rattle.table.specs.Field.{State, Known, End, Place, Size, Incarnation, LiveCount, StableCount, PlaceIncarnation, MessageState, placeHead, same}
+use Rattle.table.specs.Field.{State, Known, End, OfPlace, Size, Incarnation, LiveCount, StableCount, PlaceIncarnation, MessageState, placeHead, same}
 use Rattle.table.specs.Change.{put, put-same, putPart, clearPlaces, putStates}
 use Rattle.table.specs.Layout.{controllers, incarnations, places}
 use Rattle.table.specs.Numbering.{numberOf}
 use Rattle.rules.specs.Limits.{lastIncarnation}
 use Rattle.rules.specs.Vector.{pair, placeVector, messageVector, filtered, condemned}
-use Rattle.rules.specs.Form.{released, lost, dropped}
-use Rattle.rules.specs.Shared.{interval, logged, loggedTo, causedFrom, causes, newVector, restarted, dropHeld, startAnew}
-use Rattle.rules.specs.Steps.{crashed, noted, rolled}
+use Rattle.rules.specs.Form.{stateReleased, stateLost, stateDropped}
+use Rattle.rules.specs.Shared.{placeRecord, logged, loggedTo, causedFrom, causes, newVector, restarted, dropHeld, startAnew}
+use Rattle.rules.specs.Steps.{crashed, noted, rolledBack}
 use Rattle.model.specs.Model.{entry, Node, Model, putNode, loggedNode, endNode, noteNode, newVec, anewNode, filtered as filteredFor}
 use Rattle.laws.specs.Facts.{Near, Form, placeForm}
 use Rattle.laws.specs.Agree.{agree-restarted}
@@ -28,7 +28,7 @@ use Rattle.image.specs.Begin.{written, written-incarnation, written-vec,
 use Rattle.image.specs.Nodes.{image-loggedTo, image-end, image-noted}
 
 -- places below the freed ones stay
-clear-kept : (σ : State) (c p q x k : ℕ) → x < p → clearPlaces σ c p q (Place c x k) ≡ σ (Place c x k)
+clear-kept : (σ : State) (c p q x k : ℕ) → x < p → clearPlaces σ c p q (OfPlace c x k) ≡ σ (OfPlace c x k)
 unfolding clearPlaces
 clear-kept σ c p q x k l = simp (eq-eqb c c refl, lt-leb p x l)
 
@@ -54,7 +54,7 @@ module _ (σ : State) (z : Tight σ) (c k : ℕ) (cl : c < controllers) (k1 : 1 
   freed = clearPlaces σ c k live
 
   abbrev words : List ℕ
-  words = interval t (k + 1) 0 0 (newVector σ c k)
+  words = placeRecord t (k + 1) 0 0 (newVector σ c k)
 
   abbrev τ : State
   τ = written freed c k t (k + 1) 0 0 (newVector σ c k)
@@ -69,7 +69,7 @@ module _ (σ : State) (z : Tight σ) (c k : ℕ) (cl : c < controllers) (k1 : 1 
   long = length-set (filtered σ c (placeVector σ c (k - 1))) c _ ∙ length-filtered σ c (placeVector σ c (k - 1))
 
   -- a word of a kept place
-  kept-word : (x w : ℕ) → 1 ≤ x → x ≤ k → τ (Place c (x - 1) w) ≡ σ (Place c (x - 1) w)
+  kept-word : (x w : ℕ) → 1 ≤ x → x ≤ k → τ (OfPlace c (x - 1) w) ≡ σ (OfPlace c (x - 1) w)
   kept-word x w p q = written-other freed c k t (k + 1) 0 0 (newVector σ c k) (x - 1) w (omega arith) ∙ clear-kept σ c k live (x - 1) w (omega arith)
 
   -- starting anew on a tight state
@@ -90,7 +90,7 @@ module _ (σ : State) (z : Tight σ) (c k : ℕ) (cl : c < controllers) (k1 : 1 
       (away-put c σ (put (put τ (Incarnation c) t) (LiveCount c) (k + 1)) (StableCount c) (k + 1) (λ a. a refl)
       (away-put c σ (put τ (Incarnation c) t) (LiveCount c) (k + 1) (λ a. a refl)
       (away-put c σ τ (Incarnation c) t (λ a. a refl)
-      (away-part c σ freed (Place c k 0) 0 words (λ i a. a refl) (away-clear c σ σ k live (nothing-else c σ)))))))
+      (away-part c σ freed (OfPlace c k 0) 0 words (λ i a. a refl) (away-clear c σ σ k live (nothing-else c σ)))))))
     where
       here : k + 1 - 1 ≡ k
       here = omega arith
@@ -189,7 +189,7 @@ pub image-crashed : (σ : State) (c : ℕ) → Renewable σ c (σ (StableCount c
 unfolding crashed numberOf
 image-crashed σ c r =
     let k = σ (StableCount c) in
-    let s : ℕ → ℕ = λ r. lost in
+    let s : ℕ → ℕ = λ r. stateLost in
     let τ = put (causes σ c k s) (End c c (σ (Incarnation c))) k in
     let e : image τ ≡ putNode (image σ) c (endNode c (image σ .node c)) = image-ended σ c k s (r .controller-lt) (omega arith) in
     image-startAnew τ c k (renewable-end (renewable-causes r k s) c c (σ (Incarnation c)) k)
@@ -197,10 +197,10 @@ image-crashed σ c r =
 
 -- H: "kept intervals not yet stable, if any, are logged as by L; each cause of an undone interval becomes dropped .. else
 -- released again; then start anew."
-pub image-rolled : (σ : State) (b k : ℕ) → Renewable σ b k → image (rolled σ b k) ≡ putNode (image σ) b (anewNode b (loggedNode b (image σ .node b) k) k)
-unfolding rolled
+pub image-rolled : (σ : State) (b k : ℕ) → Renewable σ b k → image (rolledBack σ b k) ≡ putNode (image σ) b (anewNode b (loggedNode b (image σ .node b) k) k)
+unfolding rolledBack
 image-rolled σ b k r =
-    let s : ℕ → ℕ = λ r. cond (condemned σ b (messageVector σ r)) dropped released in
+    let s : ℕ → ℕ = λ r. cond (condemned σ b (messageVector σ r)) stateDropped stateReleased in
     let τ = causes (loggedTo σ b k) b k s in
     let e : image τ ≡ putNode (image σ) b (loggedNode b (image σ .node b) k) =
     image-causes (loggedTo σ b k) b k s ∙ image-loggedTo σ b k (r .controller-lt) (omega arith) in
@@ -209,7 +209,7 @@ image-rolled σ b k r =
 
 -- a hearing that must undo, whole
 pub image-heard-rolled : (σ : State) (b a t k : ℕ) → Renewable σ b k → a < controllers → t < incarnations →
-    image (rolled (noted σ b a t) b k)
+    image (rolledBack (noted σ b a t) b k)
     ≡ putNode (image σ) b (anewNode b (loggedNode b (noteNode (image σ .node b) a t (image σ .node a .ends a t)) k) k)
 image-heard-rolled σ b a t k r al tl =
     image-rolled (noted σ b a t) b k (renewable-noted r b a t)

@@ -7,14 +7,14 @@ use Prim.Native.Nat.{ℕ, _+_, _-_, _*_, _≤_, _<_}
 use native.Mathlib.Omega.{arith}
 use lib.ListN.{length, set, length-set, length-append}
 use Rattle.base.specs.Choice.{_==_, le?}
-use Rattle.table.specs.Field.{State, Place, Size, SentCount, Incarnation, LiveCount, PlaceIncarnation, PairIncarnation, PairNumber, MessageState, placeHead, same}
+use Rattle.table.specs.Field.{State, OfPlace, Size, SentCount, Incarnation, LiveCount, PlaceIncarnation, PairIncarnation, PairNumber, MessageState, placeHead, same}
 use Rattle.table.specs.Change.{put, put-same, putPart}
 use Rattle.table.specs.Layout.{controllers, places, messages, placeWords}
 use Rattle.table.specs.Words.{Agree}
 use Rattle.table.specs.Numbering.{numberOf, recordOf}
 use Rattle.rules.specs.Vector.{Vector, pair, placeVector, messageVector, flat, filtered, merged}
-use Rattle.rules.specs.Form.{delivered}
-use Rattle.rules.specs.Shared.{newest, interval}
+use Rattle.rules.specs.Form.{stateDelivered}
+use Rattle.rules.specs.Shared.{newestPlace, placeRecord}
 use Rattle.rules.specs.Steps.{begun}
 use Rattle.model.specs.Model.{entry, Vec, Letter, larger, mergedFor, putNode, beginNode, filtered as filteredFor}
 use Rattle.laws.specs.Facts.{Form, controllerForm, placeForm, messageForm}
@@ -26,36 +26,36 @@ use Rattle.image.specs.Changes.{nothing-else, away-put, away-part, part-
 use Rattle.image.specs.Vectors.{vecOf, past, place-vec, message-vec, length-place, length-message, length-filtered, length-merged, filter-vec, merge-vec, set-vec, length-flat, part-entry}
 
 -- an interval has the words of a place
-pub length-interval : (t x m f : ℕ) (v : Vector) → length (interval t x m f v) ≡ placeWords
-unfolding interval
+pub length-interval : (t x m f : ℕ) (v : Vector) → length (placeRecord t x m f v) ≡ placeWords
+unfolding placeRecord
 length-interval t x m f v = length-append (t ∷ x ∷ m ∷ f ∷ []) (flat v) ∙ ap (λ n. 4 + n) (length-flat v)
 
 -- the words of an interval in place p of c
 module _ (σ : State) (c p t x m f : ℕ) (v : Vector) where
   -- the state with these words
   abbrev pub written : State
-  written = putPart σ (Place c p 0) 0 (interval t x m f v)
+  written = putPart σ (OfPlace c p 0) 0 (placeRecord t x m f v)
 
   -- its incarnation
   pub written-incarnation : written (PlaceIncarnation c p) ≡ t
-  unfolding interval
-  written-incarnation = part-at σ (Place c p 0) 0 (interval t x m f v) 0 0 (omega (arith, length-interval t x m f v)) refl
+  unfolding placeRecord
+  written-incarnation = part-at σ (OfPlace c p 0) 0 (placeRecord t x m f v) 0 0 (omega (arith, length-interval t x m f v)) refl
 
   -- its vector
   pub written-vec : Tight written → length v ≡ controllers → placeVec written c p ≡ vecOf v
-  unfolding interval
+  unfolding placeRecord
   written-vec z e =
-      fun-ext (λ a. le? (a + 1) controllers (λ l. part-entry σ (Place c p 0) 0 placeHead (t ∷ x ∷ m ∷ f ∷ []) v refl a (omega arith))
+      fun-ext (λ a. le? (a + 1) controllers (λ l. part-entry σ (OfPlace c p 0) 0 placeHead (t ∷ x ∷ m ∷ f ∷ []) v refl a (omega arith))
       (λ l. ap₂ entry (z (PairIncarnation c p a) (λ u. let h = u .2 in omega arith)) (z (PairNumber c p a) (λ u. let h = u .2 in omega arith))
       ∙ sym (past v a (omega arith))))
 
   -- the other places
-  pub written-other : (q k : ℕ) → q ≢ p → written (Place c q k) ≡ σ (Place c q k)
-  written-other q k ne = part-other σ (Place c p 0) (Place c q k) 0 (interval t x m f v) (λ i h e. ne (cc))
+  pub written-other : (q k : ℕ) → q ≢ p → written (OfPlace c q k) ≡ σ (OfPlace c q k)
+  written-other q k ne = part-other σ (OfPlace c p 0) (OfPlace c q k) 0 (placeRecord t x m f v) (λ i h e. ne (cc))
 
   -- no word outside the table
   pub tight-written : Tight σ → c < controllers → p < places → Tight written
-  tight-written z cl pl = tight-part σ (Place c p 0) 0 (interval t x m f v) (λ i h. (cl, pl, omega (arith, length-interval t x m f v))) z
+  tight-written z cl pl = tight-part σ (OfPlace c p 0) 0 (placeRecord t x m f v) (λ i h. (cl, pl, omega (arith, length-interval t x m f v))) z
 
 -- D: "a new interval begins"
 module _ (σ : State) (z : Tight σ) (c m : ℕ) (v : Vector) (w : Vec) (cl : c < controllers) (ll : σ (LiveCount c) < places) (long : length v ≡ controllers) where
@@ -87,8 +87,8 @@ module _ (σ : State) (z : Tight σ) (c m : ℕ) (v : Vector) (w : Vec) (cl : c 
       (ap (placeVec τ c) here ∙ written-vec σ c live t (live + 1) m 0 own (tight-written σ c live t (live + 1) m 0 own z cl ll) (length-set v c _ ∙ long) ∙ e)
       (λ x p q. fun-ext (λ a. ap₂ entry (written-other σ c live t (live + 1) m 0 own (x - 1) (placeHead + 2 * a) (omega arith))
       (written-other σ c live t (live + 1) m 0 own (x - 1) (placeHead + 2 * a + 1) (omega arith))))))
-      (away-put c σ (put τ (LiveCount c) (live + 1)) (MessageState (recordOf σ m)) delivered (λ a. a refl)
-      (away-put c σ τ (LiveCount c) (live + 1) (λ a. a refl) (away-part c σ σ (Place c live 0) 0 (interval t (live + 1) m 0 own) (λ i a. a refl) (nothing-else c σ))))
+      (away-put c σ (put τ (LiveCount c) (live + 1)) (MessageState (recordOf σ m)) stateDelivered (λ a. a refl)
+      (away-put c σ τ (LiveCount c) (live + 1) (λ a. a refl) (away-part c σ σ (OfPlace c live 0) 0 (placeRecord t (live + 1) m 0 own) (λ i a. a refl) (nothing-else c σ))))
     where
       here : live + 1 - 1 ≡ live
       here = omega arith
@@ -108,7 +108,7 @@ node-vec σ c x p q = within-in (σ (LiveCount c)) noVec (λ x. placeVec σ c (x
 
 -- the vector of D: both filtered, merged, with the own pair
 abbrev pub bothFor : State → ℕ → ℕ → Vector
-bothFor σ c r = merged (filtered σ c (placeVector σ c (newest σ c))) (filtered σ c (messageVector σ r))
+bothFor σ c r = merged (filtered σ c (placeVector σ c (newestPlace σ c))) (filtered σ c (messageVector σ r))
 
 -- the new interval's vector is the model's
 begun-vec : (σ : State) → Tight σ → (c r t x : ℕ) → c < controllers → 1 ≤ σ (LiveCount c) →
@@ -116,10 +116,10 @@ begun-vec : (σ : State) → Tight σ → (c r t x : ℕ) → c < controllers �
     ≡ mergedFor c (entry t x) (filteredFor (nodeOf σ c) (nodeOf σ c .vec (σ (LiveCount c)))) (filteredFor (nodeOf σ c) (letterOf σ r .vec))
 unfolding mergedFor
 begun-vec σ z c r t x cl l1 =
-    let v = filtered σ c (placeVector σ c (newest σ c)) in
+    let v = filtered σ c (placeVector σ c (newestPlace σ c)) in
     let w = filtered σ c (messageVector σ r) in
     let ours : vecOf v ≡ filteredFor (nodeOf σ c) (nodeOf σ c .vec (σ (LiveCount c))) =
-    filtered-place σ z c (newest σ c) ∙ sym (ap (filteredFor (nodeOf σ c)) (node-vec σ c (σ (LiveCount c)) l1 (omega arith))) in
+    filtered-place σ z c (newestPlace σ c) ∙ sym (ap (filteredFor (nodeOf σ c)) (node-vec σ c (σ (LiveCount c)) l1 (omega arith))) in
     let theirs : vecOf w ≡ filteredFor (nodeOf σ c) (letterOf σ r .vec) = filtered-message σ z c r in
     let all : vecOf (merged v w) ≡ (λ a. larger (vecOf v a) (vecOf w a)) = merge-vec v w (length-filtered σ c _) (length-filtered σ c _) in
     set-vec (merged v w) c (pair t x) (omega (arith, length-merged v w))
@@ -138,15 +138,15 @@ image-begun σ f c m h ll m1 ml =
     let e = agree-view σ in
     let n : σ (LiveCount c) ≡ ω (LiveCount c) = controller-same σ ω e c 2 cl (omega arith) in
     let s : σ SentCount ≡ ω SentCount = e SentCount (omega arith) in
-    let ours : filtered σ c (placeVector σ c (newest σ c)) ≡ filtered ω c (placeVector ω c (newest ω c)) =
-    filtered-same σ ω e c _ cl (placeForm f c (newest σ c) h (omega arith) .vector .near)
-    ∙ ap (filtered ω c) (placeVector-same σ ω e c (newest σ c) cl (omega arith) ∙ ap (λ x. placeVector ω c (x - 1)) n) in
+    let ours : filtered σ c (placeVector σ c (newestPlace σ c)) ≡ filtered ω c (placeVector ω c (newestPlace ω c)) =
+    filtered-same σ ω e c _ cl (placeForm f c (newestPlace σ c) h (omega arith) .vector .near)
+    ∙ ap (filtered ω c) (placeVector-same σ ω e c (newestPlace σ c) cl (omega arith) ∙ ap (λ x. placeVector ω c (x - 1)) n) in
     let theirs : filtered σ c (messageVector σ (m - 1)) ≡ filtered ω c (messageVector ω (m - 1)) =
     filtered-same σ ω e c _ cl (messageForm f (m - 1) (omega arith) .vector .near) ∙ ap (filtered ω c) (messageVector-same σ ω e (m - 1) rl) in
     let letter : letterOf ω (m - 1) ≡ image σ .letter m = sym (within-in (ω SentCount) noLetter (λ i. letterOf ω (i - 1)) m m1 (omega arith)) in
     image-rule (λ τ. begun τ c m (bothFor τ c (m - 1))) σ
     (subst (λ v. Agree (begun σ c m (bothFor σ c (m - 1))) (begun ω c m v)) (ap₂ merged ours theirs) (agree-begun σ ω e c m (bothFor σ c (m - 1)) cl))
-    (tight-put _ (MessageState (m - 1)) delivered (rl, omega arith) (tight-put _ (LiveCount c) _ (cl, omega arith)
+    (tight-put _ (MessageState (m - 1)) stateDelivered (rl, omega arith) (tight-put _ (LiveCount c) _ (cl, omega arith)
     (tight-written ω c (ω (LiveCount c)) _ _ m 0 _ (view-tight σ) cl (omega arith))))
     ∙ decode-begun ω (view-tight σ) c m (bothFor ω c (m - 1)) (letterOf ω (m - 1) .vec) cl (omega arith) (length-merged _ _)
     (begun-vec ω (view-tight σ) c (m - 1) _ _ cl (omega arith))

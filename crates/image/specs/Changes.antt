@@ -7,7 +7,7 @@ use mathlib.Core.Logic.{_≢_}
 use Prim.Native.Nat.{ℕ, _+_, _-_, _*_, _<_}
 use native.Mathlib.Omega.{arith}
 use lib.ListN.{length, getD}
-use Rattle.table.specs.Field.{Field, State, Known, End, Place, LiveCount, Flag, MessageState, placeHead, same, word, wordOf, word-of}
+use Rattle.table.specs.Field.{Field, State, Known, End, OfPlace, LiveCount, Flag, MessageState, placeHead, same, word, wordOf, word-of}
 use Rattle.table.specs.Change.{put, put-ind, put-same, put-other, putPart, part-ind, clearPlaces, clear-ind, putStates, states-ind}
 use Rattle.model.specs.Model.{entry, at₂}
 use Rattle.model.specs.Tests.{at₂-ind}
@@ -85,5 +85,5 @@ image-flag σ c p x =
     (node-path refl refl refl refl refl refl refl (λ d. within (view σ (LiveCount c)) noVec (λ x a. entry (word-k (x - 1) (placeHead + 2 * a) (omega arith) d) (word-k (x - 1) (placeHead + 2 * a + 1) (omega arith) d))))
     (view-away c σ _ (away-put c σ σ (Flag c p) x (λ a. a refl) (nothing-else c σ)))
   where
-    word-k : (q k : ℕ) → k ≢ 3 → view (put σ (Flag c p) x) (Place c q k) ≡ view σ (Place c q k)
-    word-k q k ne = ap (λ y. cond (valid (Place c q k)) y 0) (put-other σ (Flag c p) (Place c q k) x (λ e. ne (ap word e)))
+    word-k : (q k : ℕ) → k ≢ 3 → view (put σ (Flag c p) x) (OfPlace c q k) ≡ view σ (OfPlace c q k)
+    word-k q k ne = ap (λ y. cond (valid (OfPlace c q k)) y 0) (put-other σ (Flag c p) (OfPlace c q k) x (λ e. ne (ap word e)))

@@ -3,7 +3,7 @@ use mathlib.Core.Path.{_≡_, refl, sym, ap, _∙_, fun-ext}
 use mathlib.Core.Logic.{_≢_}
 use Prim.Native.Nat.{ℕ, _-_}
 use native.Mathlib.Omega.{arith}
-use Rattle.table.specs.Field.{Field, State, Head, Controller, Known, End, Place, Message, SentCount, Degree, Incarnation, LiveCount, StableCount, PlaceIncarnation, PairIncarnation, PairNumber, Sender, Receiver, SendingIncarnation, SendingNumber, MessagePairIncarnation, MessagePairNumber}
+use Rattle.table.specs.Field.{Field, State, OfHead, OfController, Known, End, OfPlace, OfMessage, SentCount, Degree, Incarnation, LiveCount, StableCount, PlaceIncarnation, PairIncarnation, PairNumber, Sender, Receiver, SendingIncarnation, SendingNumber, MessagePairIncarnation, MessagePairNumber}
 use Rattle.table.specs.Words.{Agree}
 use Rattle.table.specs.Numbering.{recordOf}
 use Rattle.history.specs.History.{interval}
@@ -82,12 +82,12 @@ model-path a b c = λ i. record { node = a i; sent = b i; letter = c i }
 
 -- a field that is neither a word of controller c nor the state of a message
 abbrev pub Away : ℕ → Field → Type 0
-Away c (Head i) = Unit {0}
-Away c (Controller b k) = b ≢ c
+Away c (OfHead i) = Unit {0}
+Away c (OfController b k) = b ≢ c
 Away c (Known b a t) = b ≢ c
 Away c (End b a t) = b ≢ c
-Away c (Place b p k) = b ≢ c
-Away c (Message r k) = k ≢ 0
+Away c (OfPlace b p k) = b ≢ c
+Away c (OfMessage r k) = k ≢ 0
 
 -- another controller's part of two states that agree on all that is its own
 node-frame : (σ τ : State) (c b : ℕ) → b ≢ c → ((g : Field) → Away c g → τ g ≡ σ g) → nodeOf τ b ≡ nodeOf σ b

@@ -10,7 +10,7 @@ use Rattle.table.specs.Change.{put, put-same, putPart}
 use Rattle.table.specs.Layout.{controllers, incarnations}
 use Rattle.table.specs.Words.{Agree, agree-put}
 use Rattle.table.specs.Numbering.{numberOf}
-use Rattle.rules.specs.Shared.{newest, logged, loggedTo}
+use Rattle.rules.specs.Shared.{newestPlace, logged, loggedTo}
 use Rattle.rules.specs.Steps.{checkpointed, told, noted}
 use Rattle.history.specs.History.{at}
 use Rattle.model.specs.Model.{putNode, degreeNode, logNode, loggedNode, tellNode, endNode, noteNode}
@@ -69,7 +69,7 @@ image-loggedTo σ c j cl il =
 pub image-checkpointed : (σ : State) (c : ℕ) → c < controllers → σ (Incarnation c) < incarnations →
     image (checkpointed σ c) ≡ putNode (image σ) c (loggedNode c (image σ .node c) (σ (LiveCount c)))
 unfolding checkpointed
-image-checkpointed σ c cl il = image-flag (loggedTo σ c (σ (LiveCount c))) c (newest σ c) 1 ∙ image-loggedTo σ c (σ (LiveCount c)) cl il
+image-checkpointed σ c cl il = image-flag (loggedTo σ c (σ (LiveCount c))) c (newestPlace σ c) 1 ∙ image-loggedTo σ c (σ (LiveCount c)) cl il
 
 -- X, first part: "c's own end word for its incarnation becomes k"
 decode-end : (σ : State) (c : ℕ) → decode (put σ (End c c (σ (Incarnation c))) (σ (StableCount c))) ≡ putNode (decode σ) c (endNode c (decode σ .node c))

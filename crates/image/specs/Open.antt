@@ -8,12 +8,12 @@ use lib.ListN.{length, getD, List·getD-eq-default}
 use borrow.Author.Tests.{eqb-true, eq-eqb, ne-eqb, ltb-true, ltb-false, lt-ltb, le-ltb}
 use Rattle.base.specs.Choice.{_==_, _<?_, and-left, and-right, cond-ind, le?}
 use Rattle.base.specs.Lists.{tab, getD-tab}
-use Rattle.table.specs.Field.{State, Head, Controller, Known, End, Place, Message, PlaceIncarnation, placeHead}
+use Rattle.table.specs.Field.{State, OfHead, OfController, Known, End, OfPlace, OfMessage, PlaceIncarnation, placeHead}
 use Rattle.table.specs.Layout.{controllers, placeWords}
 use Rattle.table.specs.Numbering.{recordOf}
 use Rattle.rules.specs.Vector.{Vector, pair}
-use Rattle.rules.specs.Shared.{interval}
-use Rattle.rules.specs.Steps.{opened}
+use Rattle.rules.specs.Shared.{placeRecord}
+use Rattle.rules.specs.Steps.{openHouse}
 use Rattle.history.specs.History.{at}
 use Rattle.model.specs.Model.{entry, at₂, openNode, noNode, openModel}
 use Rattle.model.specs.Tests.{at-ind, at-other, at₂-ind}
@@ -29,7 +29,7 @@ first c = tab controllers (λ (a : ℕ). cond (a == c) (pair 0 1) (pair 0 0))
 
 -- the words of the first interval
 abbrev words : ℕ → List ℕ
-words c = interval 0 1 0 1 (first c)
+words c = placeRecord 0 1 0 1 (first c)
 
 -- how many they are
 length-words : (c : ℕ) → length (words c) ≡ placeWords
@@ -40,10 +40,10 @@ beyond : (l : List ℕ) (i m : ℕ) → length l ≡ m → (i < m → ⊥) → g
 beyond l i m e o = let h : length l ≤ i = le? (i + 1) m (λ h. absurd (o (omega arith))) (λ h. omega arith) in List·getD-eq-default l 0 h
 
 -- an opened house has no word outside the table
-tight-opened : (n k : ℕ) → n ≤ controllers → Tight (opened n k)
-unfolding opened
-tight-opened n k nl (Head i) o = cond-ind (λ x. x ≡ 0) (i == 0) (λ e. absurd (o (omega (arith, eqb-true i 0 e)))) (λ e. refl)
-tight-opened n k nl (Controller c i) o =
+tight-opened : (n k : ℕ) → n ≤ controllers → Tight (openHouse n k)
+unfolding openHouse
+tight-opened n k nl (OfHead i) o = cond-ind (λ x. x ≡ 0) (i == 0) (λ e. absurd (o (omega (arith, eqb-true i 0 e)))) (λ e. refl)
+tight-opened n k nl (OfController c i) o =
     cond-ind (λ x. x ≡ 0) (c <? n)
     (λ e. let l = ltb-true c n e in beyond (k ∷ 0 ∷ 1 ∷ 1 ∷ []) i 4 refl (λ h. o (omega arith, omega arith))) (λ e. refl)
 tight-opened n k nl (Known b a t) o =
@@ -53,38 +53,38 @@ tight-opened n k nl (Known b a t) o =
     let x = eqb-true b a (and-left (b == a) _ q) in
     let y = eqb-true t 0 (and-right (b == a) _ q) in absurd (o (omega arith, omega arith, omega arith))) (λ e. refl)
 tight-opened n k nl (End b a t) o = refl
-tight-opened n k nl (Place c p i) o =
+tight-opened n k nl (OfPlace c p i) o =
     cond-ind (λ x. x ≡ 0) ((c <? n) && (p == 0))
     (λ e. let l = ltb-true c n (and-left (c <? n) _ e) in
     let q = eqb-true p 0 (and-right (c <? n) _ e) in
     beyond (words c) i placeWords (length-words c) (λ h. o (omega arith, omega arith, omega arith))) (λ e. refl)
-tight-opened n k nl (Message r i) o = refl
+tight-opened n k nl (OfMessage r i) o = refl
 
 module _ (n k c : ℕ) (cl : c < controllers) (l : c < n) where
   abbrev σ : State
-  σ = opened n k
+  σ = openHouse n k
 
   -- a controller's words
-  own-controller : (i : ℕ) → σ (Controller c i) ≡ getD (k ∷ 0 ∷ 1 ∷ 1 ∷ []) i 0
-  unfolding opened
+  own-controller : (i : ℕ) → σ (OfController c i) ≡ getD (k ∷ 0 ∷ 1 ∷ 1 ∷ []) i 0
+  unfolding openHouse
   own-controller i = rw (lt-ltb c n l)
 
   -- its known words
   own-known : (a t : ℕ) → σ (Known c a t) ≡ at₂ (λ a t. 0) c 0 1 a t
-  unfolding opened
+  unfolding openHouse
   own-known =
-      at₂-ind (λ a t y. opened n k (Known c a t) ≡ y) (λ a t. 0) c 0 1 (rw (lt-ltb c n l, eq-eqb c c refl))
+      at₂-ind (λ a t y. openHouse n k (Known c a t) ≡ y) (λ a t. 0) c 0 1 (rw (lt-ltb c n l, eq-eqb c c refl))
       (λ a t ne. cond-ind (λ x. x ≡ 0) ((c <? n) && ((c == a) && (t == 0)))
       (λ e. let q = and-right (c <? n) _ e in absurd (ne (sym (eqb-true c a (and-left (c == a) _ q))) (eqb-true t 0 (and-right (c == a) _ q)))) (λ e. refl))
 
   -- the words of its first place
-  own-place : (i : ℕ) → σ (Place c 0 i) ≡ getD (words c) i 0
-  unfolding opened
+  own-place : (i : ℕ) → σ (OfPlace c 0 i) ≡ getD (words c) i 0
+  unfolding openHouse
   own-place i = rw (lt-ltb c n l)
 
   -- the own pair of the first interval
   own-vec : placeVec σ c 0 ≡ at noVec c (entry 0 1)
-  unfolding interval
+  unfolding placeRecord
   own-vec =
       fun-ext (λ a. le? (a + 1) controllers
       (λ h. ap₂ entry (own-place (placeHead + 2 * a) ∙ record-word (0 ∷ 1 ∷ 0 ∷ 1 ∷ []) (first c) a 0 (placeHead + 2 * a) (omega arith) (omega arith) (omega arith))
@@ -102,7 +102,7 @@ module _ (n k c : ℕ) (cl : c < controllers) (l : c < n) where
 
   -- a controller below n
   open-node : nodeOf σ c ≡ openNode k c
-  unfolding nodeOf openNode interval opened
+  unfolding nodeOf openNode placeRecord openHouse
   open-node =
       node-path (own-controller 0) (own-controller 1) (own-controller 2) (own-controller 3) (fun-ext (λ a. fun-ext (own-known a))) refl
       (ap (λ m. within m 0 (λ x. σ (PlaceIncarnation c (x - 1)))) (own-controller 2)
@@ -114,20 +114,20 @@ module _ (n k c : ℕ) (cl : c < controllers) (l : c < n) where
       (λ x ne. within-out 1 noVec (λ x. placeVec σ c (x - 1)) x (λ p. omega arith))))
 
 -- controllers from n on
-open-none : (n k c : ℕ) → n ≤ c → nodeOf (opened n k) c ≡ noNode
-unfolding nodeOf opened noNode
+open-none : (n k c : ℕ) → n ≤ c → nodeOf (openHouse n k) c ≡ noNode
+unfolding nodeOf openHouse noNode
 open-none n k c h =
     let e = le-ltb c n h in
     node-path (rw e) (rw e) (rw e) (rw e) (fun-ext (λ a. fun-ext (λ t. rw e))) refl
-    (ap (λ m. within m 0 (λ x. opened n k (PlaceIncarnation c (x - 1)))) (rw e) ∙ fun-ext (λ x. within-out 0 0 _ x (λ p. p)))
-    (ap (λ m. within m noVec (λ x. placeVec (opened n k) c (x - 1))) (rw e) ∙ fun-ext (λ x. within-out 0 noVec _ x (λ p. p)))
+    (ap (λ m. within m 0 (λ x. openHouse n k (PlaceIncarnation c (x - 1)))) (rw e) ∙ fun-ext (λ x. within-out 0 0 _ x (λ p. p)))
+    (ap (λ m. within m noVec (λ x. placeVec (openHouse n k) c (x - 1))) (rw e) ∙ fun-ext (λ x. within-out 0 noVec _ x (λ p. p)))
 
 -- O: "n controllers, all with K = k; .. all else 0"
-pub image-opened : (n k : ℕ) → n ≤ controllers → image (opened n k) ≡ openModel n k
-unfolding image decode openModel opened recordOf
+pub image-opened : (n k : ℕ) → n ≤ controllers → image (openHouse n k) ≡ openModel n k
+unfolding image decode openModel openHouse recordOf
 image-opened n k nl =
-    ap decode (tight-view (opened n k) (tight-opened n k nl))
+    ap decode (tight-view (openHouse n k) (tight-opened n k nl))
     ∙ model-path
-    (fun-ext (λ c. cond-ind (λ x. nodeOf (opened n k) c ≡ x) (c <? n)
+    (fun-ext (λ c. cond-ind (λ x. nodeOf (openHouse n k) c ≡ x) (c <? n)
     (λ e. let l = ltb-true c n e in open-node n k c (omega arith) l) (λ e. open-none n k c (ltb-false c n e))))
-    refl (fun-ext (λ i. within-out 0 noLetter (λ i. letterOf (opened n k) (i - 1)) i (λ p. p)))
+    refl (fun-ext (λ i. within-out 0 noLetter (λ i. letterOf (openHouse n k) (i - 1)) i (λ p. p)))

@@ -16,9 +16,9 @@ use Rattle.table.specs.Numbering.{numberOf, recordOf, messageOf}
 use Rattle.table.specs.Words.{state, words, word-at}
 use Rattle.rules.specs.Limits.{house, lastIncarnation}
 use Rattle.rules.specs.Vector.{Vector, placeVector, messageVector, filtered, condemned, mask, conflict}
-use Rattle.rules.specs.Form.{inForm, dropped, held, released}
-use Rattle.rules.specs.Shared.{newest, logged, loggedTo, causes, restarted, dropHeld, startAnew, replayed}
-use Rattle.rules.specs.Steps.{After, refusing, opened, openRefusals, stepOpen, degreeRefusals, stepDegree, sent, sendRefusals, stepSend, letOut, release, messageRefusals, stepRelease, begun, deliver, stepDeliver, logRefusals, stepLog, checkpointed, checkpointRefusals, stepCheckpoint, told, tellRefusals, stepTell, crashed, crashRefusals, stepCrash, noted, lowestCondemned, rolled, hear, hearRefusals, stepHear}
+use Rattle.rules.specs.Form.{inForm, stateDropped, stateHeld, stateReleased}
+use Rattle.rules.specs.Shared.{newestPlace, logged, loggedTo, causes, restarted, dropHeld, startAnew, replayed}
+use Rattle.rules.specs.Steps.{After, refusing, openHouse, openRefusals, stepOpen, degreeRefusals, stepDegree, sent, sendRefusals, stepSend, letOut, release, messageRefusals, stepRelease, begun, deliver, stepDeliver, logRefusals, stepLog, checkpointed, checkpointRefusals, stepCheckpoint, told, tellRefusals, stepTell, crashed, crashRefusals, stepCrash, noted, lowestCondemned, rolledBack, hear, hearRefusals, stepHear}
 use Rattle.rules.specs.Step.{perform, looksAtForm, stepOn, Out, lent, step}
 use Rattle.rules.specs.declared.Answer.{Answer}
 use Rattle.rules.specs.declared.Answer.the-variants.{Done, Sent, Delivered, Crashed, Refused}
@@ -62,7 +62,7 @@ stepped-refusing σ x cases o h = cond-ind (Stepped σ x) (firstOf cases == 0) (
 
 -- O
 stepped-open : (σ : State) (n k : ℕ) → Stepped σ (Open n k) (stepOpen σ n k)
-unfolding stepOpen opened
+unfolding stepOpen openHouse
 stepped-open σ n k =
     stepped-refusing σ (Open n k) (openRefusals n k) _
     (λ e. let d = openAllowed n k e in
@@ -120,7 +120,7 @@ module _ (σ : State) (f : Form σ) (i : ℕ) (i1 : 1 ≤ i) (il : i ≤ σ Sent
 
   -- message i can be delivered
   deliver-found : condemned σ receiver theirs ≡ false →
-      conflict receiver (filtered σ receiver (placeVector σ receiver (newest σ receiver))) (filtered σ receiver theirs) ≡ false →
+      conflict receiver (filtered σ receiver (placeVector σ receiver (newestPlace σ receiver))) (filtered σ receiver theirs) ≡ false →
       Delivers (σ Size) (image σ) i
   deliver-found e e′ =
       let c = receiver in
@@ -130,7 +130,7 @@ module _ (σ : State) (f : Form σ) (i : ℕ) (i1 : 1 ≤ i) (il : i ≤ σ Sent
       let cl : c < controllers = omega arith in
       let w = theirs-is in
       let new : σ (LiveCount c) ≡ m .node c .live = sym (live-is σ c cl) in
-      let ours : vecOf (filtered σ c (placeVector σ c (newest σ c))) ≡ M.filtered (m .node c) (m .node c .vec (m .node c .live)) =
+      let ours : vecOf (filtered σ c (placeVector σ c (newestPlace σ c))) ≡ M.filtered (m .node c) (m .node c .vec (m .node c .live)) =
       filtered-number σ c (chain σ f c (g .receiver-lt)) (σ (LiveCount c)) (k .live-pos) (omega arith)
       ∙ ap (λ x. M.filtered (m .node c) (m .node c .vec x)) new in
       let their : vecOf (filtered σ c theirs) ≡ M.filtered (m .node c) (m .letter i .vec) =
@@ -145,8 +145,8 @@ module _ (σ : State) (f : Form σ) (i : ℕ) (i1 : 1 ≤ i) (il : i ≤ σ Sent
             subst (λ z. Compatible (σ Size) z (M.filtered (m .node z) (m .node z .vec (m .node z .live))) (M.filtered (m .node z) (m .letter i .vec)))
             receiver-is
             (subst (λ z. Compatible (σ Size) c z (M.filtered (m .node c) (m .letter i .vec))) ours
-            (subst (Compatible (σ Size) c (vecOf (filtered σ c (placeVector σ c (newest σ c))))) their
-            (compatible (σ Size) c (filtered σ c (placeVector σ c (newest σ c))) (filtered σ c theirs) (f .size-le) e′)));
+            (subst (Compatible (σ Size) c (vecOf (filtered σ c (placeVector σ c (newestPlace σ c))))) their
+            (compatible (σ Size) c (filtered σ c (placeVector σ c (newestPlace σ c))) (filtered σ c theirs) (f .size-le) e′)));
       }
 
 module _ (σ : State) (f : Form σ) where
@@ -173,8 +173,8 @@ module _ (σ : State) (f : Form σ) where
   stepped-release : (i : ℕ) → Stepped σ (Release i) (stepRelease σ i)
   unfolding stepRelease release letOut recordOf put same putPart
   stepped-release i =
-      stepped-refusing σ (Release i) (messageRefusals σ i held) _
-      (λ e. let d = messageAllowed σ i held e in
+      stepped-refusing σ (Release i) (messageRefusals σ i stateHeld) _
+      (λ e. let d = messageAllowed σ i stateHeld e in
       let s = σ (Sender (i - 1)) in
       let v = filtered σ s (messageVector σ (i - 1)) in
       cond-ind (Stepped σ (Release i)) (ones (mask v) ≤? σ (Degree s))
@@ -187,16 +187,16 @@ module _ (σ : State) (f : Form σ) where
   stepped-deliver : (i : ℕ) → Stepped σ (Deliver i) (stepDeliver house σ i)
   unfolding stepDeliver deliver begun numberOf recordOf put same putPart
   stepped-deliver i =
-      stepped-refusing σ (Deliver i) (messageRefusals σ i released) _
-      (λ e. let d = messageAllowed σ i released e in
+      stepped-refusing σ (Deliver i) (messageRefusals σ i stateReleased) _
+      (λ e. let d = messageAllowed σ i stateReleased e in
       let r = i - 1 in
       let c = σ (Receiver r) in
       let h : c < σ Size = messageForm f r (omega arith) .receiver-lt in
       let cl : c < controllers = omega arith in
-      let ours = filtered σ c (placeVector σ c (newest σ c)) in
+      let ours = filtered σ c (placeVector σ c (newestPlace σ c)) in
       let theirs = filtered σ c (messageVector σ r) in
       cond-ind (Stepped σ (Deliver i)) (condemned σ c (messageVector σ r))
-      (λ q. outcome-as _ _ (Deliver i) refl refl (image-state σ r dropped)
+      (λ q. outcome-as _ _ (Deliver i) refl refl (image-state σ r stateDropped)
       (O.dropped i (d .message-pos) (omega (arith, sent-is σ)) (drop-found σ f i (d .message-pos) (d .message-le) q)))
       (λ q. cond-ind (Stepped σ (Deliver i)) (conflict c ours theirs) (λ q′. O.waits i)
       (λ q′. cond-ind (Stepped σ (Deliver i)) (places ≤? σ (LiveCount c)) (λ l. O.refused (Deliver i) 12)
@@ -266,7 +266,7 @@ module _ (σ : State) (f : Form σ) where
 
   -- H
   stepped-hear : (b a t : ℕ) → Stepped σ (Hear b a t) (stepHear σ b a t)
-  unfolding stepHear hear noted rolled startAnew dropHeld restarted causes numberOf put same putPart clearPlaces putStates
+  unfolding stepHear hear noted rolledBack startAnew dropHeld restarted causes numberOf put same putPart clearPlaces putStates
   stepped-hear b a t =
       stepped-refusing σ (Hear b a t) (hearRefusals σ b a t) _
       (λ e. let d = hearAllowed σ b a t e in
@@ -337,7 +337,7 @@ pub record Opened (n k : ℕ) (t : List ℕ) : Type 0 where
   pub size-le : n ≤ controllers
   pub degree-le : k ≤ n
   pub size-is : sizeOf t ≡ n
-  pub table-is : t ≡ words (opened n k)
+  pub table-is : t ≡ words (openHouse n k)
   pub model-is : modelOf t ≡ M.openModel n k
 
 -- a refusal is not `done`
@@ -346,7 +346,7 @@ not-done number e = absurd (let z : _≡_ {A = ℕ} 0 1 = cc in omega arith)
 
 -- what a done opening leaves
 pub opening-done : (t : List ℕ) (n k : ℕ) → step t (Open n k) .answer ≡ Done → Opened n k (step t (Open n k) .table)
-unfolding step lent stepOn perform stepOpen refusing opened
+unfolding step lent stepOn perform stepOpen refusing openHouse
 opening-done t n k =
     cond-ind (λ (o : Out). o .answer ≡ Done → Opened n k (o .table)) (length t == tableWords)
     (λ e. cond-ind (λ (o : After). o .answer ≡ Done → Opened n k (words (o .left))) (firstOf (openRefusals n k) == 0)
@@ -355,9 +355,9 @@ opening-done t n k =
       size-pos = d .size-pos;
       size-le = d .size-le;
       degree-le = d .degree-le;
-      size-is = word-at (opened n k) Size (omega arith);
+      size-is = word-at (openHouse n k) Size (omega arith);
       table-is = refl;
-      model-is = image-words (opened n k) ∙ image-opened n k (d .size-le);
+      model-is = image-words (openHouse n k) ∙ image-opened n k (d .size-le);
     })
     (λ q. not-done (firstOf (openRefusals n k))))
     (λ e. not-done 1)

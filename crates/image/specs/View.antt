@@ -6,19 +6,19 @@ use Prim.Native.Nat.{ℕ, _+_, _<_}
 use lib.ListN.{length}
 use borrow.Author.Tests.{lt-ltb, ltb-true}
 use Rattle.base.specs.Choice.{_<?_, and-left, and-right, cond-ind}
-use Rattle.table.specs.Field.{Field, State, Head, Controller, Known, End, Place, Message, wordOf}
+use Rattle.table.specs.Field.{Field, State, OfHead, OfController, Known, End, OfPlace, OfMessage, wordOf}
 use Rattle.table.specs.Change.{put, put-ind, putPart, part-ind, clearPlaces, clear-ind}
 use Rattle.table.specs.Layout.{controllers, incarnations, places, messages, headWords, controllerWords, placeWords, messageWords, Valid}
 use Rattle.table.specs.Words.{state, words, word-at, Agree}
 
 -- the field has a word in the table
 abbrev pub valid : Field → Bool
-valid (Head i) = i <? headWords
-valid (Controller c k) = (c <? controllers) && (k <? controllerWords)
+valid (OfHead i) = i <? headWords
+valid (OfController c k) = (c <? controllers) && (k <? controllerWords)
 valid (Known b a t) = (b <? controllers) && ((a <? controllers) && (t <? incarnations))
 valid (End b a t) = (b <? controllers) && ((a <? controllers) && (t <? incarnations))
-valid (Place c p k) = (c <? controllers) && ((p <? places) && (k <? placeWords))
-valid (Message r k) = (r <? messages) && (k <? messageWords)
+valid (OfPlace c p k) = (c <? controllers) && ((p <? places) && (k <? placeWords))
+valid (OfMessage r k) = (r <? messages) && (k <? messageWords)
 
 -- two tests passed
 two : (a b m n : ℕ) → ((a <? m) && (b <? n)) ≡ true → (a < m) × (b < n)
@@ -30,21 +30,21 @@ three a b c m n o e = let q = two b c n o (and-right (a <? m) _ e) in (ltb-true 
 
 -- a field that passes has a word
 pub valid-of : (f : Field) → valid f ≡ true → Valid f
-valid-of (Head i) e = ltb-true i headWords e
-valid-of (Controller c k) e = two c k controllers controllerWords e
+valid-of (OfHead i) e = ltb-true i headWords e
+valid-of (OfController c k) e = two c k controllers controllerWords e
 valid-of (Known b a t) e = three b a t controllers controllers incarnations e
 valid-of (End b a t) e = three b a t controllers controllers incarnations e
-valid-of (Place c p k) e = three c p k controllers places placeWords e
-valid-of (Message r k) e = two r k messages messageWords e
+valid-of (OfPlace c p k) e = three c p k controllers places placeWords e
+valid-of (OfMessage r k) e = two r k messages messageWords e
 
 -- a field with a word passes
 pub of-valid : (f : Field) → Valid f → valid f ≡ true
-of-valid (Head i) v = lt-ltb i headWords v
-of-valid (Controller c k) v = simp (lt-ltb c controllers (v .0), lt-ltb k controllerWords (v .1))
+of-valid (OfHead i) v = lt-ltb i headWords v
+of-valid (OfController c k) v = simp (lt-ltb c controllers (v .0), lt-ltb k controllerWords (v .1))
 of-valid (Known b a t) v = simp (lt-ltb b controllers (v .0), lt-ltb a controllers (v .1), lt-ltb t incarnations (v .2))
 of-valid (End b a t) v = simp (lt-ltb b controllers (v .0), lt-ltb a controllers (v .1), lt-ltb t incarnations (v .2))
-of-valid (Place c p k) v = simp (lt-ltb c controllers (v .0), lt-ltb p places (v .1), lt-ltb k placeWords (v .2))
-of-valid (Message r k) v = simp (lt-ltb r messages (v .0), lt-ltb k messageWords (v .1))
+of-valid (OfPlace c p k) v = simp (lt-ltb c controllers (v .0), lt-ltb p places (v .1), lt-ltb k placeWords (v .2))
+of-valid (OfMessage r k) v = simp (lt-ltb r messages (v .0), lt-ltb k messageWords (v .1))
 
 -- what is seen of a state: its words, and 0 elsewhere
 unfoldable pub view : State → State

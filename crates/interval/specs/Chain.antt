@@ -10,13 +10,13 @@ use lib.ListN.{length, getD, take, drop, replicate, length-append, length-replic
 use borrow.Author.Tests.{eq-eqb, ne-eqb}
 use Rattle.base.specs.Ranges.{first-at, first-none, anyb-at, anyb-none}
 use Rattle.base.specs.Lists.{length-tab, tab-of, Filled, filled-done}
-use Rattle.table.specs.Field.{State, Place, LiveCount, Flag}
+use Rattle.table.specs.Field.{State, OfPlace, LiveCount, Flag}
 use Rattle.table.specs.Change.{putPart, clearPlaces}
-use Rattle.table.specs.Layout.{controllers, places, placeWords, tableWords, at}
+use Rattle.table.specs.Layout.{controllers, places, placeWords, tableWords, position}
 use Rattle.table.specs.Words.{state, words, words-state, fits-place, lent-part, lent-places}
 use Rattle.table.specs.Numbering.{numberOf}
 use Rattle.rules.specs.Vector.{Vector, pairOf, placeVector, flat, condemnedPair, condemned}
-use Rattle.rules.specs.Shared.{interval, latestFlagged}
+use Rattle.rules.specs.Shared.{placeRecord, latestFlagged}
 use Rattle.rules.specs.Steps.{lowestCondemned}
 use Rattle.laws.specs.Facts.{Near}
 
@@ -84,8 +84,8 @@ pub length-flat : (v : Vector) → length (flat v) ≡ 16
 unfolding flat
 length-flat v = length-tab 16 _
 
-pub length-interval : (t x cause flag : ℕ) (v : Vector) → length (interval t x cause flag v) ≡ placeWords
-unfolding interval
+pub length-interval : (t x cause flag : ℕ) (v : Vector) → length (placeRecord t x cause flag v) ≡ placeWords
+unfolding placeRecord
 length-interval t x cause flag v = length-append (t ∷ x ∷ cause ∷ flag ∷ []) (flat v) ∙ ap (λ (n : ℕ). 4 + n) (length-flat v)
 
 -- n words of 0
@@ -108,13 +108,13 @@ zero-filled n i d f l = filled-done 0 n (λ (j : ℕ). 0) i d f l ∙ sym (tab-o
 
 -- the 20 words of a place were lent and came back as an interval record, or the words of places p to q as zeros
 pub lent-interval : (s ys : List ℕ) (c p b t x cause flag : ℕ) (v : Vector) → length s ≡ tableWords → c < controllers → p < places →
-    ys ≡ interval t x cause flag v → b ≡ at (Place c p 0) + placeWords →
-    take (at (Place c p 0)) s ++ (ys ++ drop (b - at (Place c p 0)) (drop (at (Place c p 0)) s)) ≡ words (putPart (state s) (Place c p 0) 0 (interval t x cause flag v))
+    ys ≡ placeRecord t x cause flag v → b ≡ position (OfPlace c p 0) + placeWords →
+    take (position (OfPlace c p 0)) s ++ (ys ++ drop (b - position (OfPlace c p 0)) (drop (position (OfPlace c p 0)) s)) ≡ words (putPart (state s) (OfPlace c p 0) 0 (placeRecord t x cause flag v))
 lent-interval s ys c p b t x cause flag v l cl pl e q =
     let n = length-interval t x cause flag v in
-    lent-part (state s) (Place c p 0) 0 b s ys _ (words-state s l) e (omega arith) (fits-place c p 0 _ cl pl (omega arith))
+    lent-part (state s) (OfPlace c p 0) 0 b s ys _ (words-state s l) e (omega arith) (fits-place c p 0 _ cl pl (omega arith))
 
-pub lent-cleared : (s ys : List ℕ) (c p q b n : ℕ) → length s ≡ tableWords → c < controllers → p ≤ q → q ≤ places → ys ≡ zeroWords n → n ≡ b - at (Place c p 0) → b ≡ at (Place c q 0) →
-    take (at (Place c p 0)) s ++ (ys ++ drop (b - at (Place c p 0)) (drop (at (Place c p 0)) s)) ≡ words (clearPlaces (state s) c p q)
+pub lent-cleared : (s ys : List ℕ) (c p q b n : ℕ) → length s ≡ tableWords → c < controllers → p ≤ q → q ≤ places → ys ≡ zeroWords n → n ≡ b - position (OfPlace c p 0) → b ≡ position (OfPlace c q 0) →
+    take (position (OfPlace c p 0)) s ++ (ys ++ drop (b - position (OfPlace c p 0)) (drop (position (OfPlace c p 0)) s)) ≡ words (clearPlaces (state s) c p q)
 lent-cleared s ys c p q b n l cl pq ql e m z =
     lent-places (state s) c p q b s ys (zeroWords n) (words-state s l) e cl pq ql (length-zero n ∙ m) z (zero-at n)

@@ -3,18 +3,18 @@
 ghost use mathlib.Core.Path.{_≡_};
 ghost use Prim.Native.Nat.{_≤_, _<_};
 ghost use lib.ListN.{length};
-ghost use Rattle.table.specs.Field.{Place};
+ghost use Rattle.table.specs.Field.{OfPlace};
 ghost use Rattle.table.specs.Change.{putPart, clearPlaces};
 ghost use Rattle.table.specs.Layout.{controllers, places, placeWords, tableWords};
 ghost use Rattle.table.specs.Words.{state, words};
-ghost use Rattle.rules.specs.Shared.{interval, latestFlagged};
+ghost use Rattle.rules.specs.Shared.{placeRecord, latestFlagged};
 ghost use Rattle.rules.specs.Steps.{lowestCondemned};
 ghost use Rattle.interval.specs.Chain.{Chain, zeroWords};
 
 // The 20 words of a place, lent from inside the table, become an interval's record.
 pub fn write_interval(d: &mut [u32], t: u32, x: u32, cause: u32, flag: u32, v: [[u32; 2]; 8])
     requires { ⌜ length (now d) ≡ placeWords ⌝ }
-    ensures { λ _. ⌜ now (d .exit) ≡ interval t x cause flag v ⌝ }
+    ensures { λ _. ⌜ now (d .exit) ≡ placeRecord t x cause flag v ⌝ }
 {
     d[0] = t;
     d[1] = x;
@@ -37,7 +37,7 @@ pub fn write_place(
     v: [[u32; 2]; 8],
 )
     requires { ⌜ (length (now s) ≡ tableWords) × (c < controllers) × (p < places) ⌝ }
-    ensures { λ _. ⌜ now (s .exit) ≡ words (putPart (state (now (s .entry))) (Place c p 0) 0 (interval t x cause flag v)) ⌝ }
+    ensures { λ _. ⌜ now (s .exit) ≡ words (putPart (state (now (s .entry))) (OfPlace c p 0) 0 (placeRecord t x cause flag v)) ⌝ }
 {
     let from = table::PLACES_FROM + c * table::CHAIN_WORDS + p * table::PLACE_WORDS;
     let to = from + table::PLACE_WORDS;

@@ -8,15 +8,15 @@ use lib.ListN.{set}
 use Rattle.base.specs.Choice.{_==_, _≤?_, _<?_}
 use Rattle.base.specs.Ranges.{anyb, first, anyb-same, first-same}
 use Rattle.base.specs.Lists.{tab-same}
-use Rattle.table.specs.Field.{State, Head, Controller, Known, End, Place, Message, SentCount, Incarnation, LiveCount, StableCount, PlaceIncarnation, PlaceNumber, Cause, MessageState, messageHead}
+use Rattle.table.specs.Field.{State, OfHead, OfController, Known, End, OfPlace, OfMessage, SentCount, Incarnation, LiveCount, StableCount, PlaceIncarnation, PlaceNumber, Cause, MessageState, messageHead}
 use Rattle.table.specs.Change.{put, putPart, inPlaces, clearPlaces, putStates}
 use Rattle.table.specs.Layout.{controllers, incarnations, places, messages}
 use Rattle.table.specs.Words.{state, words, words-same, Agree, agree-put, agree-part}
 use Rattle.table.specs.Numbering.{numberOf, recordOf, messageOf}
 use Rattle.rules.specs.Vector.{Pair, Vector, pair, noPair, incarnation, number, empty, pairOf, placeVector, messageVector, flat, knownStable, filterPair, filtered, condemnedPair, condemned}
-use Rattle.rules.specs.Form.{held, released, delivered, dropped}
-use Rattle.rules.specs.Shared.{newest, interval, logged, loggedTo, causedFrom, causes, newVector, restarted, orphanedFrom, dropHeld, startAnew, latestFlagged, replayed}
-use Rattle.rules.specs.Steps.{message, sent, letOut, begun, told, noted, lowestCondemned}
+use Rattle.rules.specs.Form.{stateHeld, stateReleased, stateDelivered, stateDropped}
+use Rattle.rules.specs.Shared.{newestPlace, placeRecord, logged, loggedTo, causedFrom, causes, newVector, restarted, orphanedFrom, dropHeld, startAnew, latestFlagged, replayed}
+use Rattle.rules.specs.Steps.{messageRecord, sent, letOut, begun, told, noted, lowestCondemned}
 use Rattle.laws.specs.Facts.{Near}
 
 -- places cleared, and states put
@@ -27,12 +27,12 @@ agree-clear σ τ c p q e g v = ap (cond (inPlaces c p q g) 0) (e g v)
 -- states put that are the same for each record of the table
 pub agree-states : (σ τ : State) (s u : ℕ → ℕ) → ((r : ℕ) → r < messages → s r ≡ u r) → Agree σ τ → Agree (putStates σ s) (putStates τ u)
 unfolding putStates
-agree-states σ τ s u h e (Head i) v = e (Head i) v
-agree-states σ τ s u h e (Controller c k) v = e (Controller c k) v
+agree-states σ τ s u h e (OfHead i) v = e (OfHead i) v
+agree-states σ τ s u h e (OfController c k) v = e (OfController c k) v
 agree-states σ τ s u h e (Known b a t) v = e (Known b a t) v
 agree-states σ τ s u h e (End b a t) v = e (End b a t) v
-agree-states σ τ s u h e (Place c p k) v = e (Place c p k) v
-agree-states σ τ s u h e (Message r k) v = ap₂ (λ x y. cond (k == 0) x y) (h r (v .0)) (e (Message r k) v)
+agree-states σ τ s u h e (OfPlace c p k) v = e (OfPlace c p k) v
+agree-states σ τ s u h e (OfMessage r k) v = ap₂ (λ x y. cond (k == 0) x y) (h r (v .0)) (e (OfMessage r k) v)
 
 -- one of two changes, by one test
 agree-cond : (σ τ σ′ τ′ : State) (b : Bool) → Agree σ τ → Agree σ′ τ′ → Agree (cond b σ σ′) (cond b τ τ′)
@@ -42,21 +42,21 @@ agree-cond σ τ σ′ τ′ false e e′ = e′
 -- what starting anew writes, by what it has read: incarnation, live count, vector
 abbrev writtenAnew : State → ℕ → ℕ → ℕ → ℕ → Vector → State
 writtenAnew σ c k i l v =
-    let begun = putPart (clearPlaces σ c k l) (Place c k 0) 0 (interval (i + 1) (k + 1) 0 0 v) in
+    let begun = putPart (clearPlaces σ c k l) (OfPlace c k 0) 0 (placeRecord (i + 1) (k + 1) 0 0 v) in
     put (put (put (put begun (Incarnation c) (i + 1)) (LiveCount c) (k + 1)) (StableCount c) (k + 1)) (Known c c (i + 1)) (k + 1)
 
 module _ (σ τ : State) (e : Agree σ τ) where
   -- a word of a controller, of a place, of a message
-  pub controller-same : (c k : ℕ) → c < controllers → k < 4 → σ (Controller c k) ≡ τ (Controller c k)
-  controller-same c k cl kl = e (Controller c k) (cl, omega arith)
+  pub controller-same : (c k : ℕ) → c < controllers → k < 4 → σ (OfController c k) ≡ τ (OfController c k)
+  controller-same c k cl kl = e (OfController c k) (cl, omega arith)
 
   -- a word of a place
-  pub place-same : (c p k : ℕ) → c < controllers → p < places → k < 20 → σ (Place c p k) ≡ τ (Place c p k)
-  place-same c p k cl pl kl = e (Place c p k) (cl, pl, omega arith)
+  pub place-same : (c p k : ℕ) → c < controllers → p < places → k < 20 → σ (OfPlace c p k) ≡ τ (OfPlace c p k)
+  place-same c p k cl pl kl = e (OfPlace c p k) (cl, pl, omega arith)
 
   -- a word of a message
-  pub message-same : (r k : ℕ) → r < messages → k < 22 → σ (Message r k) ≡ τ (Message r k)
-  message-same r k rl kl = e (Message r k) (rl, omega arith)
+  pub message-same : (r k : ℕ) → r < messages → k < 22 → σ (OfMessage r k) ≡ τ (OfMessage r k)
+  message-same r k rl kl = e (OfMessage r k) (rl, omega arith)
 
   -- vectors
   pub placeVector-same : (c p : ℕ) → c < controllers → p < places → placeVector σ c p ≡ placeVector τ c p
@@ -151,13 +151,13 @@ module _ (σ τ : State) (e : Agree σ τ) where
   pub orphanedFrom-same : (c k r : ℕ) → r < messages → orphanedFrom σ c k r ≡ orphanedFrom τ c k r
   unfolding numberOf
   orphanedFrom-same c k r l =
-      λ d. (message-same r 0 l (omega arith) d == held) && ((message-same r 1 l (omega arith) d == c) && (k <? message-same r 4 l (omega arith) d))
+      λ d. (message-same r 0 l (omega arith) d == stateHeld) && ((message-same r 1 l (omega arith) d == c) && (k <? message-same r 4 l (omega arith) d))
 
   -- held messages dropped
   pub agree-dropHeld : (c k : ℕ) → Agree (dropHeld σ c k) (dropHeld τ c k)
   unfolding dropHeld
   agree-dropHeld c k =
-      agree-states σ τ _ _ (λ r l. λ d. cond (orphanedFrom-same c k r l d) dropped (message-same r 0 l (omega arith) d)) e
+      agree-states σ τ _ _ (λ r l. λ d. cond (orphanedFrom-same c k r l d) stateDropped (message-same r 0 l (omega arith) d)) e
 
   -- starting anew
   pub newVector-same : (c k : ℕ) → c < controllers → k ≤ places → 1 ≤ k → Near (placeVector σ c (k - 1)) → newVector σ c k ≡ newVector τ c k
@@ -170,7 +170,7 @@ module _ (σ τ : State) (e : Agree σ τ) where
   agree-written : (c k i l : ℕ) (v : Vector) → Agree (writtenAnew σ c k i l v) (writtenAnew τ c k i l v)
   agree-written c k i l v =
       agree-put _ _ (Known c c (i + 1)) _ (agree-put _ _ (StableCount c) _ (agree-put _ _ (LiveCount c) _ (agree-put _ _ (Incarnation c) _
-      (agree-part _ _ (Place c k 0) 0 _ (agree-clear σ τ c k l e)))))
+      (agree-part _ _ (OfPlace c k 0) 0 _ (agree-clear σ τ c k l e)))))
 
   -- starting anew, without the messages that it drops
   pub agree-restarted : (c k : ℕ) → c < controllers → k ≤ places → 1 ≤ k → Near (placeVector σ c (k - 1)) → Agree (restarted σ c k) (restarted τ c k)
@@ -181,33 +181,33 @@ module _ (σ τ : State) (e : Agree σ τ) where
       subst (Agree (restarted σ c k)) p (agree-written c k (σ (Incarnation c)) (σ (LiveCount c)) (newVector σ c k))
 
   -- a message sent, let out; an interval begun
-  pub agree-sent : (s r p : ℕ) → s < controllers → newest σ s < places → Near (placeVector σ s (newest σ s)) → Agree (sent σ s r p) (sent τ s r p)
+  pub agree-sent : (s r p : ℕ) → s < controllers → newestPlace σ s < places → Near (placeVector σ s (newestPlace σ s)) → Agree (sent σ s r p) (sent τ s r p)
   unfolding sent
   agree-sent s r p sl nl near =
-      let n : newest σ s ≡ newest τ s = ap (λ x. x - 1) (controller-same s 2 sl (omega arith)) in
-      let v : filtered σ s (placeVector σ s (newest σ s)) ≡ filtered τ s (placeVector τ s (newest τ s)) =
-      filtered-same s _ sl near ∙ ap (filtered τ s) (placeVector-same s (newest σ s) sl nl ∙ ap (placeVector τ s) n) in
-      let t : σ (PlaceIncarnation s (newest σ s)) ≡ τ (PlaceIncarnation s (newest τ s)) =
-      place-same s (newest σ s) 0 sl nl (omega arith) ∙ ap (λ q. τ (PlaceIncarnation s q)) n in
-      let x : σ (PlaceNumber s (newest σ s)) ≡ τ (PlaceNumber s (newest τ s)) =
-      place-same s (newest σ s) 1 sl nl (omega arith) ∙ ap (λ q. τ (PlaceNumber s q)) n in
+      let n : newestPlace σ s ≡ newestPlace τ s = ap (λ x. x - 1) (controller-same s 2 sl (omega arith)) in
+      let v : filtered σ s (placeVector σ s (newestPlace σ s)) ≡ filtered τ s (placeVector τ s (newestPlace τ s)) =
+      filtered-same s _ sl near ∙ ap (filtered τ s) (placeVector-same s (newestPlace σ s) sl nl ∙ ap (placeVector τ s) n) in
+      let t : σ (PlaceIncarnation s (newestPlace σ s)) ≡ τ (PlaceIncarnation s (newestPlace τ s)) =
+      place-same s (newestPlace σ s) 0 sl nl (omega arith) ∙ ap (λ q. τ (PlaceIncarnation s q)) n in
+      let x : σ (PlaceNumber s (newestPlace σ s)) ≡ τ (PlaceNumber s (newestPlace τ s)) =
+      place-same s (newestPlace σ s) 1 sl nl (omega arith) ∙ ap (λ q. τ (PlaceNumber s q)) n in
       let m : σ SentCount ≡ τ SentCount = e SentCount (omega arith) in
-      let written : State → ℕ → ℕ → ℕ → Vector → State = λ ρ m t x v. put (putPart ρ (Message m 0) 0 (message held s r t x p v)) SentCount (m + 1) in
-      subst (Agree (sent σ s r p)) (λ d. written τ (m d) (t d) (x d) (v d)) (agree-put _ _ SentCount _ (agree-part σ τ (Message (σ SentCount) 0) 0 _ e))
+      let written : State → ℕ → ℕ → ℕ → Vector → State = λ ρ m t x v. put (putPart ρ (OfMessage m 0) 0 (messageRecord stateHeld s r t x p v)) SentCount (m + 1) in
+      subst (Agree (sent σ s r p)) (λ d. written τ (m d) (t d) (x d) (v d)) (agree-put _ _ SentCount _ (agree-part σ τ (OfMessage (σ SentCount) 0) 0 _ e))
 
   -- a message let out
   pub agree-letOut : (r : ℕ) (v : Vector) → Agree (letOut σ r v) (letOut τ r v)
   unfolding letOut
-  agree-letOut r v = agree-put _ _ (MessageState r) released (agree-part σ τ (Message r 0) messageHead (flat v) e)
+  agree-letOut r v = agree-put _ _ (MessageState r) stateReleased (agree-part σ τ (OfMessage r 0) messageHead (flat v) e)
 
   -- an interval begun
   pub agree-begun : (c m : ℕ) (v : Vector) → c < controllers → Agree (begun σ c m v) (begun τ c m v)
   unfolding begun numberOf recordOf
   agree-begun c m v cl =
       let written : State → ℕ → ℕ → State =
-      λ ρ t l. put (put (putPart ρ (Place c l 0) 0 (interval t (l + 1) m 0 (set v c (pair t (l + 1))))) (LiveCount c) (l + 1)) (MessageState (m - 1)) delivered in
+      λ ρ t l. put (put (putPart ρ (OfPlace c l 0) 0 (placeRecord t (l + 1) m 0 (set v c (pair t (l + 1))))) (LiveCount c) (l + 1)) (MessageState (m - 1)) stateDelivered in
       subst (Agree (begun σ c m v)) (λ d. written τ (controller-same c 1 cl (omega arith) d) (controller-same c 2 cl (omega arith) d))
-      (agree-put _ _ (MessageState (m - 1)) _ (agree-put _ _ (LiveCount c) _ (agree-part σ τ (Place c (σ (LiveCount c)) 0) 0 _ e)))
+      (agree-put _ _ (MessageState (m - 1)) _ (agree-put _ _ (LiveCount c) _ (agree-part σ τ (OfPlace c (σ (LiveCount c)) 0) 0 _ e)))
 
   -- what a controller is told of another
   pub agree-noted : (b a t : ℕ) → b < controllers → a < controllers → t < incarnations → Agree (noted σ b a t) (noted τ b a t)

@@ -7,12 +7,12 @@ use borrow.Author.Tests.{leb-true, ltb-true, eqb-true, lt-ltb, le-ltb}
 use Rattle.base.specs.Choice.{_==_, _≤?_, _<?_, and-left, and-right, cond-ind, le?}
 use Rattle.base.specs.Ranges.{allb, allb-get}
 use Rattle.base.specs.Cases.{passed}
-use Rattle.table.specs.Field.{State, Controller, Known, End, Place, Message, Size, SentCount, Degree, Incarnation, LiveCount, StableCount, PlaceIncarnation, PlaceNumber, Cause, Flag, MessageState, Sender, Receiver, SendingIncarnation, SendingNumber}
+use Rattle.table.specs.Field.{State, OfController, Known, End, OfPlace, OfMessage, Size, SentCount, Degree, Incarnation, LiveCount, StableCount, PlaceIncarnation, PlaceNumber, Cause, Flag, MessageState, Sender, Receiver, SendingIncarnation, SendingNumber}
 use Rattle.table.specs.Layout.{controllers, incarnations, places, messages, controllerWords, placeWords, messageWords}
 use Rattle.table.specs.Numbering.{numberOf}
 use Rattle.rules.specs.Limits.{house, lastIncarnation}
 use Rattle.rules.specs.Vector.{Pair, Vector, incarnation, number, pairOf, placeVector, messageVector}
-use Rattle.rules.specs.Form.{dropped, zeros, pairOk, vectorOk, controllerOk, highest, rowOk, placeOk, messageOk, inForm}
+use Rattle.rules.specs.Form.{stateDropped, zeros, pairOk, vectorOk, controllerOk, highest, rowOk, placeOk, messageOk, inForm}
 
 -- every incarnation of a vector has a word in the rows of known and end words
 abbrev pub Near : Vector → Type 0
@@ -121,7 +121,7 @@ pub record PlaceForm (σ : State) (c p : ℕ) : Type 0 where
 -- message record r, used
 pub record MessageForm (σ : State) (r : ℕ) : Type 0 where
   pub state-pos : 1 ≤ σ (MessageState r)
-  pub state-le : σ (MessageState r) ≤ dropped
+  pub state-le : σ (MessageState r) ≤ stateDropped
   pub sender-lt : σ (Sender r) < σ Size
   pub receiver-lt : σ (Receiver r) < σ Size
   pub incarnation-le : σ (SendingIncarnation r) ≤ lastIncarnation
@@ -149,10 +149,10 @@ module _ {σ : State} (f : Form σ) where
       }
 
   -- the words of controllers from n on
-  pub no-controller : (c k : ℕ) → c < controllers → σ Size ≤ c → k < controllerWords → σ (Controller c k) ≡ 0
+  pub no-controller : (c k : ℕ) → c < controllers → σ Size ≤ c → k < controllerWords → σ (OfController c k) ≡ 0
   unfolding controllerOk
   no-controller c k cl h kl =
-      zeros-get controllerWords (λ (k : ℕ). σ (Controller c k)) k
+      zeros-get controllerWords (λ (k : ℕ). σ (OfController c k)) k
       (rw (le-ltb c (σ Size) h) at (allb-get (controllerOk house (σ Size) σ) controllers c (f .controllers-ok) cl)) kl
 
   -- no controller has more live intervals than places
@@ -179,9 +179,9 @@ module _ {σ : State} (f : Form σ) where
       }
 
   -- the words of places from the live count on
-  pub no-place : (c p k : ℕ) → c < controllers → p < places → σ (LiveCount c) ≤ p → k < placeWords → σ (Place c p k) ≡ 0
+  pub no-place : (c p k : ℕ) → c < controllers → p < places → σ (LiveCount c) ≤ p → k < placeWords → σ (OfPlace c p k) ≡ 0
   unfolding placeOk
-  no-place c p k cl pl l kl = zeros-get placeWords (λ (k : ℕ). σ (Place c p k)) k (rw (le-ltb _ _ l) at (place-ok c p cl pl)) kl
+  no-place c p k cl pl l kl = zeros-get placeWords (λ (k : ℕ). σ (OfPlace c p k)) k (rw (le-ltb _ _ l) at (place-ok c p cl pl)) kl
 
   -- the words of a used message record
   pub messageForm : (r : ℕ) → r < σ SentCount → MessageForm σ r
@@ -200,10 +200,10 @@ module _ {σ : State} (f : Form σ) where
       }
 
   -- the words of unused message records
-  pub no-message : (r k : ℕ) → r < messages → σ SentCount ≤ r → k < messageWords → σ (Message r k) ≡ 0
+  pub no-message : (r k : ℕ) → r < messages → σ SentCount ≤ r → k < messageWords → σ (OfMessage r k) ≡ 0
   unfolding messageOk
   no-message r k rl l kl =
-      zeros-get messageWords (λ (k : ℕ). σ (Message r k)) k
+      zeros-get messageWords (λ (k : ℕ). σ (OfMessage r k)) k
       (rw (le-ltb _ _ l) at (allb-get (messageOk house (σ Size) σ) messages r (f .messages-ok) rl)) kl
 
   -- a known and an end word: at most 64, and 0 where holder or owner is not of the house

@@ -13,15 +13,15 @@ use Rattle.base.specs.Choice.{_==_, _≤?_, _<?_, le?}
 use Rattle.base.specs.Ranges.{allb, allb-all, allb-get, anyb, first}
 use Rattle.base.specs.Lists.{tab}
 use Rattle.base.specs.Cases.{allOf, passed, firstOf}
-use Rattle.table.specs.Field.{Field, State, Head, Controller, Known, End, Place, Message, Size, SentCount, LiveCount, StableCount, MessageState, messageHead, owner, second, wordOf, same}
+use Rattle.table.specs.Field.{Field, State, OfHead, OfController, Known, End, OfPlace, OfMessage, Size, SentCount, LiveCount, StableCount, MessageState, messageHead, owner, second, wordOf, same}
 use Rattle.table.specs.Layout.{controllers, incarnations, headWords}
 use Rattle.table.specs.Change.{blank, put, putPart, clearPlaces, putStates, put-ind, part-ind, clear-ind, states-ind}
 use Rattle.table.specs.Numbering.{numberOf, recordOf, messageOf}
 use Rattle.rules.specs.Limits.{house}
 use Rattle.rules.specs.Vector.{Vector, pair, noPair, placeVector, messageVector, flat, knownStable, filterPair, filtered, condemnedPair, condemned, maskTo, mask, conflictPair, conflict, mergePair, merged}
-use Rattle.rules.specs.Form.{held, released, delivered, lost, zeros, pairOk, vectorOk, controllerOk, highest, rowOk, placeOk, messageOk, inForm}
-use Rattle.rules.specs.Shared.{interval, logged, loggedTo, causedFrom, causes, newVector, restarted, dropHeld, startAnew, latestFlagged, replayed}
-use Rattle.rules.specs.Steps.{after, refusing, opened, stepOpen, message, sent, stepSend, letOut, release, stepRelease, begun, deliver, stepDeliver, stepLog, crashed, stepCrash, noted, lowestCondemned, rolled, hear, stepHear}
+use Rattle.rules.specs.Form.{stateHeld, stateReleased, stateDelivered, stateLost, zeros, pairOk, vectorOk, controllerOk, highest, rowOk, placeOk, messageOk, inForm}
+use Rattle.rules.specs.Shared.{placeRecord, logged, loggedTo, causedFrom, causes, newVector, restarted, dropHeld, startAnew, latestFlagged, replayed}
+use Rattle.rules.specs.Steps.{after, refusing, openHouse, stepOpen, messageRecord, sent, stepSend, letOut, release, stepRelease, begun, deliver, stepDeliver, stepLog, crashed, stepCrash, noted, lowestCondemned, rolledBack, hear, stepHear}
 use Rattle.rules.specs.Step.{perform, stepOn}
 use Rattle.rules.specs.declared.Answer.{Answer}
 use Rattle.rules.specs.declared.Answer.the-variants.{Done, Sent, Released, Held, Delivered, Crashed, Rolled, Refused}
@@ -95,29 +95,29 @@ quiet-causes : {σ : State} (c k : ℕ) (s : ℕ → ℕ) → ((r : ℕ) → nea
 unfolding causes
 quiet-causes {σ} c k s e q = record { rest = states-ind Rest σ _ (λ r z. rw (e r z) (q .rest (MessageState r) z)) (λ g _. q .rest g) }
 
-quiet-anew : {σ : State} (c k : ℕ) → near (Place c k 0) ≡ true → near (Controller c 0) ≡ true → near (Known c c 0) ≡ true → Quiet σ → Quiet (startAnew σ c k)
+quiet-anew : {σ : State} (c k : ℕ) → near (OfPlace c k 0) ≡ true → near (OfController c 0) ≡ true → near (Known c c 0) ≡ true → Quiet σ → Quiet (startAnew σ c k)
 unfolding startAnew dropHeld restarted
 quiet-anew {σ} c k e h l q =
     let freed : Quiet (clearPlaces σ c k (σ (LiveCount c))) = record { rest = clear-ind Rest σ c k _ (λ x i l m z. refl) (λ g _. q .rest g) } in
     let begun = quiet-put _ _ l (quiet-put _ _ h (quiet-put _ _ h (quiet-put _ _ h (quiet-part _ _ _ (λ i. e) freed)))) in
     record { rest = states-ind Rest _ _ (λ r z. rw (begun .rest (MessageState r) z)) (λ g _. begun .rest g) }
 
-quiet-rolled : {σ : State} (b k : ℕ) → near (Place b k 0) ≡ true → near (Controller b 0) ≡ true → near (Known b b 0) ≡ true →
-    (σ (StableCount b) <? k) ≡ false → ((r : ℕ) → near (MessageState r) ≡ false → causedFrom σ b k r ≡ false) → Quiet σ → Quiet (rolled σ b k)
-unfolding rolled loggedTo
+quiet-rolled : {σ : State} (b k : ℕ) → near (OfPlace b k 0) ≡ true → near (OfController b 0) ≡ true → near (Known b b 0) ≡ true →
+    (σ (StableCount b) <? k) ≡ false → ((r : ℕ) → near (MessageState r) ≡ false → causedFrom σ b k r ≡ false) → Quiet σ → Quiet (rolledBack σ b k)
+unfolding rolledBack loggedTo
 quiet-rolled b k e h l s o q = rw s (quiet-anew _ _ e h l (quiet-causes _ _ _ o q))
 
-quiet-opened : (k : ℕ) → Quiet (opened 3 k)
-unfolding opened
+quiet-opened : (k : ℕ) → Quiet (openHouse 3 k)
+unfolding openHouse
 quiet-opened k = record { rest = rest }
   where
-    rest : (g : Field) → Rest g (opened 3 k g)
-    rest (Head i) z = absurd (true≢false z)
-    rest (Controller c i) z = rw (rw and-true at z)
+    rest : (g : Field) → Rest g (openHouse 3 k g)
+    rest (OfHead i) z = absurd (true≢false z)
+    rest (OfController c i) z = rw (rw and-true at z)
     rest (Known b a t) z = le? 3 b (λ l. rw (le-ltb b 3 l)) (λ l. rw (ne-eqb b a (omega (arith, ltb-false a 3 (rw (lt-ltb b 3 l) at z))), and-false))
     rest (End b a t) z = refl
-    rest (Place c p i) z = le? 3 c (λ l. rw (le-ltb c 3 l)) (λ l. rw (ne-eqb p 0 (omega (arith, ltb-false p 3 (rw (lt-ltb c 3 l) at z))), and-false))
-    rest (Message r i) z = refl
+    rest (OfPlace c p i) z = le? 3 c (λ l. rw (le-ltb c 3 l)) (λ l. rw (ne-eqb p 0 (omega (arith, ltb-false p 3 (rw (lt-ltb c 3 l) at z))), and-false))
+    rest (OfMessage r i) z = refl
 
 -- The form check with its loops cut to the near words, and with counts that leave the others unused. A quiet state that
 -- passes it is in form.
@@ -125,7 +125,7 @@ abbrev tests : State → List Bool
 tests σ =
     (σ Size == 3)
     ∷ (σ SentCount ≤? 3)
-    ∷ zeros (headWords - 2) (λ (k : ℕ). σ (Head (2 + k)))
+    ∷ zeros (headWords - 2) (λ (k : ℕ). σ (OfHead (2 + k)))
     ∷ allb controllers (controllerOk house 3 σ)
     ∷ allb controllers (λ (c : ℕ). σ (LiveCount c) ≤? cond (c <? 3) 3 0)
     ∷ allb 3 (λ (b : ℕ). allb 3 (rowOk house 3 σ b))
@@ -157,16 +157,16 @@ in-form σ q e =
     let rows = grid controllers controllers (rowOk house 3 σ) (passed (tests σ) 5 e) (λ b a h z.
     allb-all _ incarnations (λ t _. rw (q .rest (Known b a t) z, q .rest (End b a t) z, leb·zero))) in
     let chains = grid controllers (house .places) (placeOk house 3 σ) (passed (tests σ) 6 e) (λ c p h z.
-    rw (unused (c <? 3) p _ z (allb-get _ controllers c (passed (tests σ) 4 e) h)) (allb-all _ _ (λ k _. rw (q .rest (Place c p k) z)))) in
+    rw (unused (c <? 3) p _ z (allb-get _ controllers c (passed (tests σ) 4 e) h)) (allb-all _ _ (λ k _. rw (q .rest (OfPlace c p k) z)))) in
     let records = every (house .messages) (messageOk house 3 σ) (passed (tests σ) 7 e) (λ r z.
-    rw (unused true r _ z few) (allb-all _ _ (λ k _. rw (q .rest (Message r k) (rw z))))) in
+    rw (unused true r _ z few) (allb-all _ _ (λ k _. rw (q .rest (OfMessage r k) (rw z))))) in
     rw (size, fits, passed (tests σ) 2 e, passed (tests σ) 3 e, rows, chains, records)
 
 -- A run: each step finds its state in form, gives its answer and leaves the next state, quiet if the last one was.
 data Run : State → List Command → List Answer → Type 0 where
   end : {σ : State} → Run σ [] []
-  opening : {σ : State} {k : ℕ} {xs : List Command} {ys : List Answer} → perform house σ (Open 3 k) ≡ after Done (opened 3 k) →
-      Run (opened 3 k) xs ys → Run σ (Open 3 k ∷ xs) (Done ∷ ys)
+  opening : {σ : State} {k : ℕ} {xs : List Command} {ys : List Answer} → perform house σ (Open 3 k) ≡ after Done (openHouse 3 k) →
+      Run (openHouse 3 k) xs ys → Run σ (Open 3 k ∷ xs) (Done ∷ ys)
   next : {σ τ : State} {x : Command} {xs : List Command} {y : Answer} {ys : List Answer} → (Quiet σ → Quiet τ) → allOf (tests σ) ≡ true →
       perform house σ x ≡ after y τ → Run τ xs ys → Run σ (x ∷ xs) (y ∷ ys)
 
@@ -183,24 +183,24 @@ early m l r z = ne-eqb m (r + 1) (omega (arith, leb-true m 3 l, ltb-false r 3 (r
 -- The listing. Each line has the words that its step writes. That its state passes the tests, and that the step gives its
 -- answer and leaves the state with those words, is computed.
 run : Run blank listingA rightColumn
-unfolding onesIn ones allb anyb first tab allOf firstOf same put putPart clearPlaces putStates numberOf recordOf messageOf placeVector messageVector flat knownStable filterPair filtered condemnedPair condemned maskTo mask conflictPair conflict mergePair merged zeros pairOk vectorOk controllerOk highest rowOk placeOk messageOk interval logged loggedTo causedFrom causes newVector restarted dropHeld startAnew latestFlagged replayed refusing opened stepOpen message sent stepSend letOut release stepRelease begun deliver stepDeliver stepLog crashed stepCrash noted lowestCondemned rolled hear stepHear perform
+unfolding onesIn ones allb anyb first tab allOf firstOf same put putPart clearPlaces putStates numberOf recordOf messageOf placeVector messageVector flat knownStable filterPair filtered condemnedPair condemned maskTo mask conflictPair conflict mergePair merged zeros pairOk vectorOk controllerOk highest rowOk placeOk messageOk placeRecord logged loggedTo causedFrom causes newVector restarted dropHeld startAnew latestFlagged replayed refusing openHouse stepOpen messageRecord sent stepSend letOut release stepRelease begun deliver stepDeliver stepLog crashed stepCrash noted lowestCondemned rolledBack hear stepHear perform
 run =
     let none : Vector = tab controllers (λ (_ : ℕ). noPair) in
     let one : Vector = set none 1 (pair 0 2) in
     let two : Vector = set one 2 (pair 0 2) in
     opening refl
-    (next (λ q. quiet-put SentCount 1 refl (quiet-part (Message 0 0) 0 (message held 0 1 0 1 7 none) (λ _. refl) q)) refl refl  -- S 0 1 7
-    (next (λ q. quiet-put (MessageState 0) released refl (quiet-part (Message 0 0) messageHead (flat none) (λ _. refl) q)) refl refl  -- R 1
-    (next (λ q. quiet-put (MessageState 0) delivered refl (quiet-put (LiveCount 1) 2 refl (quiet-part (Place 1 1 0) 0 (interval 0 2 1 0 one) (λ _. refl) q))) refl refl  -- D 1
-    (next (λ q. quiet-put SentCount 2 refl (quiet-part (Message 1 0) 0 (message held 1 2 0 2 9 one) (λ _. refl) q)) refl refl  -- S 1 2 9
-    (next (λ q. quiet-put (MessageState 1) released refl (quiet-part (Message 1 0) messageHead (flat one) (λ _. refl) q)) refl refl  -- R 2
-    (next (λ q. quiet-put (MessageState 1) delivered refl (quiet-put (LiveCount 2) 2 refl (quiet-part (Place 2 1 0) 0 (interval 0 2 2 0 two) (λ _. refl) q))) refl refl  -- D 2
-    (next (λ q. quiet-put SentCount 3 refl (quiet-part (Message 2 0) 0 (message held 2 0 0 2 5 two) (λ _. refl) q)) refl refl  -- S 2 0 5
+    (next (λ q. quiet-put SentCount 1 refl (quiet-part (OfMessage 0 0) 0 (messageRecord stateHeld 0 1 0 1 7 none) (λ _. refl) q)) refl refl  -- S 0 1 7
+    (next (λ q. quiet-put (MessageState 0) stateReleased refl (quiet-part (OfMessage 0 0) messageHead (flat none) (λ _. refl) q)) refl refl  -- R 1
+    (next (λ q. quiet-put (MessageState 0) stateDelivered refl (quiet-put (LiveCount 1) 2 refl (quiet-part (OfPlace 1 1 0) 0 (placeRecord 0 2 1 0 one) (λ _. refl) q))) refl refl  -- D 1
+    (next (λ q. quiet-put SentCount 2 refl (quiet-part (OfMessage 1 0) 0 (messageRecord stateHeld 1 2 0 2 9 one) (λ _. refl) q)) refl refl  -- S 1 2 9
+    (next (λ q. quiet-put (MessageState 1) stateReleased refl (quiet-part (OfMessage 1 0) messageHead (flat one) (λ _. refl) q)) refl refl  -- R 2
+    (next (λ q. quiet-put (MessageState 1) stateDelivered refl (quiet-put (LiveCount 2) 2 refl (quiet-part (OfPlace 2 1 0) 0 (placeRecord 0 2 2 0 two) (λ _. refl) q))) refl refl  -- D 2
+    (next (λ q. quiet-put SentCount 3 refl (quiet-part (OfMessage 2 0) 0 (messageRecord stateHeld 2 0 0 2 5 two) (λ _. refl) q)) refl refl  -- S 2 0 5
     (next (λ q. q) refl refl  -- R 3
     (next (λ q. quiet-put (Known 2 2 0) 2 refl (quiet-put (StableCount 2) 2 refl q)) refl refl  -- L 2 1
-    (next (λ q. quiet-put (MessageState 2) released refl (quiet-part (Message 2 0) messageHead (flat one) (λ _. refl) q)) refl refl  -- R 3
-    (next (λ q. quiet-anew 1 1 refl refl refl (quiet-put (End 1 1 0) 1 refl (quiet-causes 1 1 (λ _. lost) (early 1 refl) q))) refl refl  -- X 1
-    (next (λ q. quiet-put (MessageState 2) delivered refl (quiet-put (LiveCount 0) 2 refl (quiet-part (Place 0 1 0) 0 (interval 0 2 3 0 (set one 0 (pair 0 2))) (λ _. refl) q))) refl refl  -- D 3
+    (next (λ q. quiet-put (MessageState 2) stateReleased refl (quiet-part (OfMessage 2 0) messageHead (flat one) (λ _. refl) q)) refl refl  -- R 3
+    (next (λ q. quiet-anew 1 1 refl refl refl (quiet-put (End 1 1 0) 1 refl (quiet-causes 1 1 (λ _. stateLost) (early 1 refl) q))) refl refl  -- X 1
+    (next (λ q. quiet-put (MessageState 2) stateDelivered refl (quiet-put (LiveCount 0) 2 refl (quiet-part (OfPlace 0 1 0) 0 (placeRecord 0 2 3 0 (set one 0 (pair 0 2))) (λ _. refl) q))) refl refl  -- D 3
     (next (λ q. quiet-rolled 2 1 refl refl refl refl (early 2 refl) (quiet-put (Known 2 1 0) 1 refl (quiet-put (End 2 1 0) 1 refl q))) refl refl  -- H 2 1 0
     (next (λ q. quiet-rolled 0 1 refl refl refl refl (early 3 refl) (quiet-put (Known 0 1 0) 1 refl (quiet-put (End 0 1 0) 1 refl q))) refl refl  -- H 0 1 0
     (next (λ q. q) refl refl  -- D 3

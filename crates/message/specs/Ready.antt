@@ -15,7 +15,7 @@ use Rattle.table.specs.Words.{state}
 use Rattle.table.specs.Numbering.{recordOf}
 use Rattle.rules.specs.Limits.{house}
 use Rattle.rules.specs.Vector.{placeVector, messageVector}
-use Rattle.rules.specs.Shared.{newest}
+use Rattle.rules.specs.Shared.{newestPlace}
 use Rattle.rules.specs.Steps.{noMessage, sendRefusals, messageRefusals}
 use Rattle.laws.specs.Facts.{Near, Form, form, below-8, controllerForm, placeForm, messageForm}
 use Rattle.laws.specs.Allowed.{sendAllowed, messageAllowed}
@@ -27,7 +27,7 @@ pub record Newest (t : List ℕ) (c : ℕ) : Type 0 where
   pub named : c < controllers
   pub live-pos : 1 ≤ state t (LiveCount c)
   pub live-le : state t (LiveCount c) ≤ places
-  pub near : Near (placeVector (state t) c (newest (state t) c))
+  pub near : Near (placeVector (state t) c (newestPlace (state t) c))
 
 -- in a table in form every controller of the house has one
 newest-of : (t : List ℕ) (c : ℕ) (f : Form (state t)) → c < state t Size → Newest t c
@@ -37,7 +37,7 @@ newest-of t c f l =
       named = below-8 f c l;
       live-pos = k .live-pos;
       live-le = k .live-le;
-      near = placeForm f c (newest (state t) c) l (omega (arith, k .live-pos)) .vector .near;
+      near = placeForm f c (newestPlace (state t) c) l (omega (arith, k .live-pos)) .vector .near;
     }
 
 -- s may send, and a record is left for its message

@@ -3,13 +3,13 @@ ghost use mathlib.Core.Path.{_≡_};
 ghost use Prim.Native.Nat.{_<_};
 ghost use lib.ListN.{length};
 ghost use Rattle.base.specs.Cases.{firstOf};
-ghost use Rattle.table.specs.Field.{Message, messageHead};
+ghost use Rattle.table.specs.Field.{OfMessage, messageHead};
 ghost use Rattle.table.specs.Change.{putPart};
 ghost use Rattle.table.specs.Layout.{messages, messageWords, tableWords};
 ghost use Rattle.table.specs.Words.{state, words};
 ghost use Rattle.rules.specs.Limits.{house};
 ghost use Rattle.rules.specs.Vector.{flat};
-ghost use Rattle.rules.specs.Steps.{message, sendRefusals, messageRefusals, stepSend, stepRelease, stepDeliver};
+ghost use Rattle.rules.specs.Steps.{messageRecord, sendRefusals, messageRefusals, stepSend, stepRelease, stepDeliver};
 ghost use Rattle.rules.specs.Step.{out, written};
 ghost use Rattle.laws.specs.Answering.{Lent};
 ghost use Rattle.message.specs.Write.{MessageTable, Begins, delivers};
@@ -27,7 +27,7 @@ pub fn write_message(
     v: [[u32; 2]; 8],
 )
     requires { ⌜ length (now d) ≡ messageWords ⌝ }
-    ensures { λ _. ⌜ now (d .exit) ≡ message state s r t x p v ⌝ }
+    ensures { λ _. ⌜ now (d .exit) ≡ messageRecord state s r t x p v ⌝ }
 {
     d[0] = state;
     d[1] = s;
@@ -43,7 +43,7 @@ pub fn write_message(
 // The vector of record r is v; no other word is written.
 pub fn store_vector(t: &mut [u32], r: usize, v: [[u32; 2]; 8])
     requires { ⌜ (length (now t) ≡ tableWords) × (r < messages) ⌝ }
-    ensures { λ _. ⌜ now (t .exit) ≡ words (putPart (state (now (t .entry))) (Message r 0) messageHead (flat v)) ⌝ }
+    ensures { λ _. ⌜ now (t .exit) ≡ words (putPart (state (now (t .entry))) (OfMessage r 0) messageHead (flat v)) ⌝ }
 {
     let from = table::MESSAGE_VECTOR + r * table::MESSAGE_WORDS;
     let to = from + table::VECTOR_WORDS;

@@ -8,7 +8,7 @@ use lib.ListN.{length, set}
 use Rattle.base.specs.Cases.{firstOf}
 use Rattle.table.specs.Field.{State, End, Incarnation, LiveCount, StableCount, same}
 use Rattle.table.specs.Change.{put}
-use Rattle.table.specs.Layout.{tableWords, at}
+use Rattle.table.specs.Layout.{tableWords, position}
 use Rattle.table.specs.Words.{state, words, wrote}
 use Rattle.table.specs.Numbering.{numberOf}
 use Rattle.rules.specs.Limits.{house}
@@ -58,12 +58,12 @@ ending-ready σ c k x r =
 
 -- the code's table has its words
 ending-words : (t t₁ : List ℕ) (c x : ℕ) → Crashes t c → t₁ ≡ words (causes (state t) c (state t (StableCount c)) (fate (state t) c true)) →
-    set t₁ (at (End c c (state t (Incarnation c)))) x ≡ words (ending (state t) c x)
+    set t₁ (position (End c c (state t (Incarnation c)))) x ≡ words (ending (state t) c x)
 ending-words t t₁ c x w e = wrote _ (End c c (state t (Incarnation c))) x e (w .ready .named, w .ready .named, omega (arith, w .ready .left))
 
 -- the start may be called
 pub crash-starts : (t t₁ : List ℕ) (c x : ℕ) → Crashes t c → t₁ ≡ words (causes (state t) c (state t (StableCount c)) (fate (state t) c true)) →
-    Starts (set t₁ (at (End c c (state t (Incarnation c)))) x) c (state t (StableCount c))
+    Starts (set t₁ (position (End c c (state t (Incarnation c)))) x) c (state t (StableCount c))
 crash-starts t t₁ c x w e = ready-starts (ending (state t) c x) c _ (ending-ready (state t) c _ x (w .ready)) (ending-words t t₁ c x w e)
 
 -- the start on it is the rule's crash
@@ -74,7 +74,7 @@ ending-crashed σ c x n = ap (λ x. startAnew (ending σ c x) c (σ (StableCount
 -- answer and words after the start are those of the step
 pub crash-done : (t t₁ t₂ : List ℕ) (c x again : ℕ) → Crashes t c → x ≡ numberOf (state t) c (state t (StableCount c)) → again ≡ replayed (state t) c (state t (StableCount c)) →
     t₁ ≡ words (causes (state t) c (state t (StableCount c)) (fate (state t) c true)) →
-    t₂ ≡ words (startAnew (state (set t₁ (at (End c c (state t (Incarnation c)))) x)) c (state t (StableCount c))) →
+    t₂ ≡ words (startAnew (state (set t₁ (position (End c c (state t (Incarnation c)))) x)) c (state t (StableCount c))) →
     out (Crashed c (state t (Incarnation c)) x (state t (LiveCount c) - state t (StableCount c)) again) t₂ ≡ written (stepCrash house (state t) c)
 unfolding stepCrash
 crash-done t t₁ t₂ c x again w n a e₁ e₂ =

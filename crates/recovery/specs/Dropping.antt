@@ -11,10 +11,10 @@ use borrow.Author.Tests.{lt-ltb, le-ltb}
 use Rattle.base.specs.Choice.{_==_, _<?_, cond-ind, le?}
 use Rattle.table.specs.Field.{State, MessageState, Sender, SendingNumber}
 use Rattle.table.specs.Change.{put, putStates}
-use Rattle.table.specs.Layout.{messages, tableWords, at}
+use Rattle.table.specs.Layout.{messages, tableWords, position}
 use Rattle.table.specs.Words.{state, words, words-state, wrote, words-same, Agree, agree-put}
 use Rattle.table.specs.Numbering.{numberOf}
-use Rattle.rules.specs.Form.{held, dropped}
+use Rattle.rules.specs.Form.{stateHeld, stateDropped}
 use Rattle.rules.specs.Shared.{dropHeld}
 use Rattle.laws.specs.Agree.{agree-states}
 use Rattle.recovery.specs.Removal.{droppedOne}
@@ -22,11 +22,11 @@ use Rattle.recovery.specs.States.{agree-words, agree-trans, states-kept,
 
 -- record r is a held message of c above number x
 abbrev pub falls : State → ℕ → ℕ → ℕ → Bool
-falls σ c x r = (σ (MessageState r) == held) && ((σ (Sender r) == c) && (x <? σ (SendingNumber r)))
+falls σ c x r = (σ (MessageState r) == stateHeld) && ((σ (Sender r) == c) && (x <? σ (SendingNumber r)))
 
 -- the states after the records below i were looked at
 abbrev fallen : State → ℕ → ℕ → ℕ → ℕ → ℕ
-fallen σ c x i r = cond ((r <? i) && falls σ c x r) dropped (σ (MessageState r))
+fallen σ c x i r = cond ((r <? i) && falls σ c x r) stateDropped (σ (MessageState r))
 
 -- the words then
 unfoldable pub droppedTo : State → ℕ → ℕ → ℕ → State
@@ -34,9 +34,9 @@ droppedTo σ c x i = putStates σ (fallen σ c x i)
 
 -- record r falls: its state is stored
 pub drop-write : (t : List ℕ) (c x r : ℕ) → length t ≡ tableWords → r < messages → falls (state t) c x r ≡ true →
-    set t (at (MessageState r)) dropped ≡ words (droppedOne (state t) c x r)
+    set t (position (MessageState r)) stateDropped ≡ words (droppedOne (state t) c x r)
 unfolding droppedOne
-drop-write t c x r l h e = rw e (wrote (state t) (MessageState r) dropped (words-state t l) (h, omega arith))
+drop-write t c x r l h e = rw e (wrote (state t) (MessageState r) stateDropped (words-state t l) (h, omega arith))
 
 -- record r does not fall: no word is stored
 pub drop-keep : (t : List ℕ) (c x r : ℕ) → length t ≡ tableWords → falls (state t) c x r ≡ false → t ≡ words (droppedOne (state t) c x r)
@@ -49,7 +49,7 @@ unfolding droppedTo
 drop-none t c x l = words-state t l ∙ words-same _ _ (states-kept (state t) (fallen (state t) c x 0) (λ r. rw (le-ltb r 0 (omega arith))))
 
 -- the state of record i where it falls
-fallen-here : (σ : State) (c x i : ℕ) → falls σ c x i ≡ true → dropped ≡ fallen σ c x (i + 1) i
+fallen-here : (σ : State) (c x i : ℕ) → falls σ c x i ≡ true → stateDropped ≡ fallen σ c x (i + 1) i
 fallen-here σ c x i e = rw (lt-ltb i (i + 1) (omega arith), e)
 
 -- the states of the records other than i
@@ -70,14 +70,14 @@ falls-same : (σ τ : State) (c x i : ℕ) → Agree τ (droppedTo σ c x i) →
 unfolding droppedTo putStates
 falls-same σ τ c x i h l =
     let p : τ (MessageState i) ≡ σ (MessageState i) = h (MessageState i) (l, omega arith) ∙ rw (le-ltb i i (omega arith)) in
-    λ d. (p d == held) && ((h (Sender i) (l, omega arith) d == c) && (x <? h (SendingNumber i) (l, omega arith) d))
+    λ d. (p d == stateHeld) && ((h (Sender i) (l, omega arith) d == c) && (x <? h (SendingNumber i) (l, omega arith) d))
 
 -- the words after record i, where it fell
-fell-one : (σ τ : State) (c x i : ℕ) → Agree τ (droppedTo σ c x i) → falls σ c x i ≡ true → Agree (put τ (MessageState i) dropped) (droppedTo σ c x (i + 1))
+fell-one : (σ τ : State) (c x i : ℕ) → Agree τ (droppedTo σ c x i) → falls σ c x i ≡ true → Agree (put τ (MessageState i) stateDropped) (droppedTo σ c x (i + 1))
 unfolding droppedTo
 fell-one σ τ c x i h b =
-    agree-trans _ (put (droppedTo σ c x i) (MessageState i) dropped) _ (agree-put τ _ (MessageState i) dropped h)
-    (states-more σ (fallen σ c x i) (fallen σ c x (i + 1)) i dropped (fallen-here σ c x i b) (fallen-other σ c x i))
+    agree-trans _ (put (droppedTo σ c x i) (MessageState i) stateDropped) _ (agree-put τ _ (MessageState i) stateDropped h)
+    (states-more σ (fallen σ c x i) (fallen σ c x (i + 1)) i stateDropped (fallen-here σ c x i b) (fallen-other σ c x i))
 
 -- and where it didn't
 fell-none : (σ τ : State) (c x i : ℕ) → Agree τ (droppedTo σ c x i) → falls σ c x i ≡ false → Agree τ (droppedTo σ c x (i + 1))

@@ -11,12 +11,12 @@ use Rattle.base.specs.Choice.{_==_, _≤?_, _<?_, or-left, or-right}
 use Rattle.base.specs.Cases.{firstOf}
 use Rattle.table.specs.Field.{Field, State, Known, End, Incarnation, LiveCount, Flag, same}
 use Rattle.table.specs.Change.{put, put-ind, put-other}
-use Rattle.table.specs.Layout.{controllers, incarnations, tableWords, at}
+use Rattle.table.specs.Layout.{controllers, incarnations, tableWords, position}
 use Rattle.table.specs.Words.{state, words, words-state, length-words, wrote, words-same, Agree}
 use Rattle.table.specs.Numbering.{numberOf}
 use Rattle.rules.specs.Limits.{lastIncarnation}
 use Rattle.rules.specs.Shared.{latestFlagged, replayed}
-use Rattle.rules.specs.Steps.{hearRefusals, noted, lowestCondemned, rolled, hear, stepHear}
+use Rattle.rules.specs.Steps.{hearRefusals, noted, lowestCondemned, rolledBack, hear, stepHear}
 use Rattle.rules.specs.Step.{out, written}
 use Rattle.rules.specs.declared.Answer.the-variants.{Heard, Rolled, Refused}
 use Rattle.laws.specs.Facts.{form, below-8}
@@ -46,7 +46,7 @@ has-end σ a t l ne = rw (le-ltb lastIncarnation t l, ne-eqb (σ (End a a t)) 0 
 
 -- the known word is raised: two words are stored
 pub note-write : (t : List ℕ) (b a i : ℕ) → length t ≡ tableWords → b < controllers → a < controllers → i < incarnations → state t (Known b a i) < state t (End a a i) →
-    set (set t (at (End b a i)) (state t (End a a i))) (at (Known b a i)) (state t (End a a i)) ≡ words (noted (state t) b a i)
+    set (set t (position (End b a i)) (state t (End a a i))) (position (Known b a i)) (state t (End a a i)) ≡ words (noted (state t) b a i)
 unfolding noted
 note-write t b a i l bl al il h =
     let e = state t (End a a i) in
@@ -60,7 +60,7 @@ put-again σ f x e g v = put-ind (λ g y. σ g ≡ y) σ f x (sym e) (λ g ne. r
 
 -- the known word is high enough: one word is stored
 pub note-keep : (t : List ℕ) (b a i : ℕ) → length t ≡ tableWords → b < controllers → a < controllers → i < incarnations → state t (End a a i) ≤ state t (Known b a i) →
-    set t (at (End b a i)) (state t (End a a i)) ≡ words (noted (state t) b a i)
+    set t (position (End b a i)) (state t (End a a i)) ≡ words (noted (state t) b a i)
 unfolding noted put same
 note-keep t b a i l bl al il h =
     let e = state t (End a a i) in
@@ -148,7 +148,7 @@ module _ (t t₁ : List ℕ) (b a i : ℕ) (w : Hears t b a i) (e₁ : t₁ ≡ 
         (rw (le-leb (state t (LiveCount b)) (lowestCondemned (noted (state t) b a i) b) (omega (arith, heard-lowest))) (ap (out (Heard b)) e₁))
 
     -- the two words get their old values back
-    restored : set (set t₁ (at (End b a i)) 0) (at (Known b a i)) (state t (Known b a i)) ≡ words (state t)
+    restored : set (set t₁ (position (End b a i)) 0) (position (Known b a i)) (state t (Known b a i)) ≡ words (state t)
     unfolding noted
     restored =
         wrote _ (Known b a i) (state t (Known b a i)) (wrote _ (End b a i) 0 e₁ (w .hearer, w .teller, w .incarnation-lt)) (w .hearer, w .teller, w .incarnation-lt)
@@ -157,7 +157,7 @@ module _ (t t₁ : List ℕ) (b a i : ℕ) (w : Hears t b a i) (e₁ : t₁ ≡ 
 
     -- one is condemned, in the last incarnation: the step is refused
     pub hear-late : k < state t (LiveCount b) → lastIncarnation ≤ state t (Incarnation b) →
-        out (Refused 13) (set (set t₁ (at (End b a i)) 0) (at (Known b a i)) (state t (Known b a i))) ≡ written (stepHear (state t) b a i)
+        out (Refused 13) (set (set t₁ (position (End b a i)) 0) (position (Known b a i)) (state t (Known b a i))) ≡ written (stepHear (state t) b a i)
     unfolding stepHear hear
     hear-late l m =
         granted _ _ _ _ _ (w .free)
@@ -172,15 +172,15 @@ module _ (t t₁ : List ℕ) (b a i : ℕ) (w : Hears t b a i) (e₁ : t₁ ≡ 
 
     -- answer and words after rolling back are those of the step
     pub hear-done : (t₂ : List ℕ) (x again : ℕ) → k < state t (LiveCount b) → state t (Incarnation b) < lastIncarnation →
-        x ≡ numberOf (state t₁) b k → again ≡ replayed (state t₁) b k → t₂ ≡ words (rolled (state t₁) b k) →
+        x ≡ numberOf (state t₁) b k → again ≡ replayed (state t₁) b k → t₂ ≡ words (rolledBack (state t₁) b k) →
         out (Rolled b x (state t (LiveCount b) - k) again) t₂ ≡ written (stepHear (state t) b a i)
     unfolding stepHear hear numberOf
     hear-done t₂ x again l m n r e₂ =
         let low₀ = heard-lowest in
         let rolls = hear-rolls l m in
-        let q : t₂ ≡ words (rolled (noted (state t) b a i) b (lowestCondemned (noted (state t) b a i) b)) =
+        let q : t₂ ≡ words (rolledBack (noted (state t) b a i) b (lowestCondemned (noted (state t) b a i) b)) =
         e₂ ∙ words-same _ _ (agree-rolled (state t₁) (noted (state t) b a i) b k heard-chained (rolls-ready t₁ b k rolls) heard-agree)
-        ∙ ap (λ k. words (rolled (noted (state t) b a i) b k)) low₀ in
+        ∙ ap (λ k. words (rolledBack (noted (state t) b a i) b k)) low₀ in
         let again-is =
         r ∙ replayed-same (state t₁) (noted (state t) b a i) heard-agree b k (w .hearer) (omega (arith, w .chained .live-le)) ∙ replayed-noted (state t) b a i b k
         ∙ ap (replayed (state t) b) low₀ in

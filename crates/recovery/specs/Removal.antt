@@ -13,13 +13,13 @@ use Rattle.table.specs.Words.{state}
 use Rattle.table.specs.Numbering.{recordOf}
 use Rattle.rules.specs.Limits.{lastIncarnation}
 use Rattle.rules.specs.Vector.{placeVector, messageVector, condemned}
-use Rattle.rules.specs.Form.{held, released, lost, dropped}
+use Rattle.rules.specs.Form.{stateHeld, stateReleased, stateLost, stateDropped}
 use Rattle.laws.specs.Facts.{Near}
 
 -- the state that the cause in record r gets: lost in a crash; else dropped where c condemns its vector, and released again
 -- where it doesn't
 unfoldable pub fate : State → ℕ → Bool → ℕ → ℕ
-fate σ c crashed r = cond crashed lost (cond (condemned σ c (messageVector σ r)) dropped released)
+fate σ c crashed r = cond crashed stateLost (cond (condemned σ c (messageVector σ r)) stateDropped stateReleased)
 
 -- the cause of place p got its state
 unfoldable pub settled : State → ℕ → Bool → ℕ → State
@@ -27,7 +27,7 @@ settled σ c crashed p = cond (σ (Cause c p) == 0) σ (let r = recordOf σ (σ 
 
 -- record r was looked at for a held message of c above number x
 unfoldable pub droppedOne : State → ℕ → ℕ → ℕ → State
-droppedOne σ c x r = cond ((σ (MessageState r) == held) && ((σ (Sender r) == c) && (x <? σ (SendingNumber r)))) (put σ (MessageState r) dropped) σ
+droppedOne σ c x r = cond ((σ (MessageState r) == stateHeld) && ((σ (Sender r) == c) && (x <? σ (SendingNumber r)))) (put σ (MessageState r) stateDropped) σ
 
 -- record r may be the cause of an interval of c
 pub record CauseOf (t : List ℕ) (c r : ℕ) : Type 0 where

@@ -11,9 +11,9 @@ use Rattle.table.specs.Change.{put}
 use Rattle.table.specs.Layout.{messages}
 use Rattle.table.specs.Words.{state, words, length-words, words-same, Agree}
 use Rattle.rules.specs.Vector.{messageVector, condemnedPair, condemned}
-use Rattle.rules.specs.Form.{released, dropped}
+use Rattle.rules.specs.Form.{stateReleased, stateDropped}
 use Rattle.rules.specs.Shared.{logged, loggedTo, causes, startAnew}
-use Rattle.rules.specs.Steps.{rolled}
+use Rattle.rules.specs.Steps.{rolledBack}
 use Rattle.laws.specs.Agree.{messageVector-same, condemned-same, agree-loggedTo, agree-causes, agree-startAnew}
 use Rattle.recovery.specs.Removal.{fate, Causes, Starts, Chained, Rolls}
 use Rattle.recovery.specs.States.{agree-words}
@@ -21,12 +21,12 @@ use Rattle.recovery.specs.Ready.{Ready, chained-words, causes-of, logged
 
 -- the state that b gives the cause in record r
 abbrev judged : State → ℕ → ℕ → ℕ
-judged σ b r = cond (condemned σ b (messageVector σ r)) dropped released
+judged σ b r = cond (condemned σ b (messageVector σ r)) stateDropped stateReleased
 
 -- it is the same on states with the same words
 judged-same : (σ τ : State) (b r : ℕ) → Chained σ b → Agree σ τ → r < messages → judged σ b r ≡ judged τ b r
 judged-same σ τ b r w e l =
-    ap (λ x. cond x dropped released) (condemned-same σ τ e b (messageVector σ r) (w .named) (w .message-near r l) ∙ ap (condemned τ b) (messageVector-same σ τ e r l))
+    ap (λ x. cond x stateDropped stateReleased) (condemned-same σ τ e b (messageVector σ r) (w .named) (w .message-near r l) ∙ ap (condemned τ b) (messageVector-same σ τ e r l))
 
 -- it is decided by words that logging does not write
 judged-logged : (σ : State) (b k r : ℕ) → judged (loggedTo σ b k) b r ≡ judged σ b r
@@ -75,13 +75,13 @@ module _ (t t₁ : List ℕ) (b k : ℕ) (w : Rolls t b k) (e₁ : t₁ ≡ word
 
   -- the words after the start are those of the rule
   pub roll-done : (t₂ t₃ : List ℕ) → t₂ ≡ words (causes (state t₁) b k (fate (state t₁) b false)) → t₃ ≡ words (startAnew (state t₂) b k) →
-      t₃ ≡ words (rolled (state t) b k)
-  unfolding rolled
+      t₃ ≡ words (rolledBack (state t) b k)
+  unfolding rolledBack
   roll-done t₂ t₃ e₂ e₃ = starts-leave (undone (state t) b k) b k (undone-ready (state t) b k (rolls-ready t b k w)) (roll-settled t₂ e₂) e₃
 
 -- states with the same words are rolled back to the same words
-pub agree-rolled : (σ τ : State) (b k : ℕ) → Chained σ b → Ready σ b k → Agree σ τ → Agree (rolled σ b k) (rolled τ b k)
-unfolding rolled
+pub agree-rolled : (σ τ : State) (b k : ℕ) → Chained σ b → Ready σ b k → Agree σ τ → Agree (rolledBack σ b k) (rolledBack τ b k)
+unfolding rolledBack
 agree-rolled σ τ b k w r e =
     agree-startAnew (undone σ b k) (undone τ b k)
     (agree-causes (loggedTo σ b k) (loggedTo τ b k) (agree-loggedTo σ τ e b k (w .named)) b k (judged σ b) (judged τ b) (w .named)

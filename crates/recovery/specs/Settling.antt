@@ -10,11 +10,11 @@ use Rattle.base.specs.Choice.{_==_, cond-ind}
 use Rattle.base.specs.Ranges.{anyb, anyb-zero, anyb-step}
 use Rattle.table.specs.Field.{State, SentCount, LiveCount, Cause, MessageState}
 use Rattle.table.specs.Change.{put, putStates}
-use Rattle.table.specs.Layout.{controllers, messages, tableWords, at}
+use Rattle.table.specs.Layout.{controllers, messages, tableWords, position}
 use Rattle.table.specs.Words.{state, words, words-state, length-words, wrote, words-same, Agree, agree-put}
 use Rattle.table.specs.Numbering.{recordOf, messageOf}
 use Rattle.rules.specs.Vector.{messageVector, condemned}
-use Rattle.rules.specs.Form.{released, lost, dropped}
+use Rattle.rules.specs.Form.{stateReleased, stateLost, stateDropped}
 use Rattle.rules.specs.Shared.{causedFrom, causes}
 use Rattle.laws.specs.Facts.{Near}
 use Rattle.laws.specs.Agree.{messageVector-same, condemned-same}
@@ -22,12 +22,12 @@ use Rattle.recovery.specs.Removal.{fate, settled, CauseOf, Causes}
 use Rattle.recovery.specs.States.{agree-words, agree-trans, states-kept, states-same, states-more, messageVector-states, condemned-states}
 
 -- the fate that the code finds in a crash
-pub fate-crashed : (σ : State) (c r : ℕ) (b : Bool) → b ≡ true → lost ≡ fate σ c b r
+pub fate-crashed : (σ : State) (c r : ℕ) (b : Bool) → b ≡ true → stateLost ≡ fate σ c b r
 unfolding fate
 fate-crashed σ c r b e = rw e
 
 -- the fate that it finds else: dropped where x, released where not
-pub fate-found : (σ : State) (c r : ℕ) (b x : Bool) → b ≡ false → x ≡ condemned σ c (messageVector σ r) → cond x dropped released ≡ fate σ c b r
+pub fate-found : (σ : State) (c r : ℕ) (b x : Bool) → b ≡ false → x ≡ condemned σ c (messageVector σ r) → cond x stateDropped stateReleased ≡ fate σ c b r
 unfolding fate
 fate-found σ c r b x e q = rw (e, q)
 
@@ -39,7 +39,7 @@ fate-same σ τ s c r b h cl rl near =
     let v : messageVector τ r ≡ messageVector σ r = messageVector-same τ (putStates σ s) h r rl ∙ messageVector-states σ s r in
     let q : condemned τ c (messageVector σ r) ≡ condemned σ c (messageVector σ r) =
     condemned-same τ (putStates σ s) h c (messageVector σ r) cl near ∙ condemned-states σ s c (messageVector σ r) in
-    ap (λ x. cond b lost (cond x dropped released)) (ap (condemned τ c) v ∙ q)
+    ap (λ x. cond b stateLost (cond x stateDropped stateReleased)) (ap (condemned τ c) v ∙ q)
 
 -- the causes of a chain have records also after some states were put
 causes-kept : (t u : List ℕ) (c : ℕ) (s : ℕ → ℕ) → Causes t c → u ≡ words (putStates (state t) s) → Causes u c
@@ -71,7 +71,7 @@ cause-found t c p r w l ne e =
 
 -- place p has a cause: its state is stored
 pub settle-write : (t : List ℕ) (c p r x : ℕ) (b : Bool) → CauseOf t c r → (state t (Cause c p) ≡ 0 → ⊥) →
-    r ≡ recordOf (state t) (state t (Cause c p)) → x ≡ fate (state t) c b r → set t (at (MessageState r)) x ≡ words (settled (state t) c b p)
+    r ≡ recordOf (state t) (state t (Cause c p)) → x ≡ fate (state t) c b r → set t (position (MessageState r)) x ≡ words (settled (state t) c b p)
 unfolding settled
 settle-write t c p r x b w ne e q =
     rw (ne-eqb (state t (Cause c p)) 0 ne, ← e, q) (wrote (state t) (MessageState r) (fate (state t) c b r) (words-state t (w .long)) (w .record-lt, omega arith))

@@ -9,7 +9,7 @@ ghost use Rattle.table.specs.Layout.{controllers, incarnations, messages, table
 ghost use Rattle.table.specs.Words.{state, words};
 ghost use Rattle.rules.specs.Limits.{house};
 ghost use Rattle.rules.specs.Shared.{causes, dropHeld, startAnew, replayed};
-ghost use Rattle.rules.specs.Steps.{crashRefusals, stepCrash, noted, rolled, hearRefusals, stepHear};
+ghost use Rattle.rules.specs.Steps.{crashRefusals, stepCrash, noted, rolledBack, hearRefusals, stepHear};
 ghost use Rattle.rules.specs.Step.{out, written};
 ghost use Rattle.laws.specs.Answering.{Lent};
 ghost use Rattle.interval.specs.Chain.{Chain};
@@ -159,7 +159,7 @@ pub fn crash(t: &mut [u32], c: u32) -> Answer
 // The intervals of b from place k on are undone.
 pub fn roll_back(t: &mut [u32], b: u32, k: u32)
     requires { ⌜ Rolls (now t) b k ⌝ }
-    ensures { λ _. ⌜ now (t .exit) ≡ words (rolled (state (now (t .entry))) b k) ⌝ }
+    ensures { λ _. ⌜ now (t .exit) ≡ words (rolledBack (state (now (t .entry))) b k) ⌝ }
 {
     let c = b as usize;
     controller::log_rest(t, c, k);

@@ -10,8 +10,8 @@ use Rattle.table.specs.Field.{State, Known, End, LiveCount, StableCount, Messag
 use Rattle.table.specs.Change.{blank, put, putPart, clearPlaces, putStates}
 use Rattle.table.specs.Numbering.{numberOf, recordOf, messageOf}
 use Rattle.rules.specs.Vector.{placeVector, messageVector, flat, knownStable, filterPair, filtered, condemnedPair, condemned, maskTo, mask}
-use Rattle.rules.specs.Shared.{interval, logged, loggedTo, causedFrom, causes, newVector, restarted, dropHeld, startAnew}
-use Rattle.rules.specs.Steps.{After, letOut, release, rolled}
+use Rattle.rules.specs.Shared.{placeRecord, logged, loggedTo, causedFrom, causes, newVector, restarted, dropHeld, startAnew}
+use Rattle.rules.specs.Steps.{After, letOut, release, rolledBack}
 use Rattle.rules.specs.Report.{report}
 use Rattle.rules.specs.Starred.{Row, _is_, answer}
 use Rattle.rules.specs.declared.Answer.{Answer}
@@ -30,11 +30,11 @@ told-apart =
     -- "Counting stored pairs at release instead of filtered ones": it would be held.
     (answer (release since-logged 1 .answer) is answer (Released 1 0))
     -- "Writing an end word for a rollback as if it were a crash": the own end word would be 2.
-    ∷ ((rolled two-unstable 0 2 (End 0 0 0) ∷ []) is (0 ∷ []))
+    ∷ ((rolledBack two-unstable 0 2 (End 0 0 0) ∷ []) is (0 ∷ []))
     -- "Not logging kept intervals on rollback": they would not be known to be stable.
-    ∷ ((rolled two-unstable 0 2 (Known 0 0 0) ∷ []) is (2 ∷ []))
+    ∷ ((rolledBack two-unstable 0 2 (Known 0 0 0) ∷ []) is (2 ∷ []))
     ∷ []
 
 pub told-apart-hold : map (λ (x : Row). x .given) told-apart ≡ map (λ (x : Row). x .said) told-apart
-unfolding put same putPart clearPlaces putStates tab anyb numberOf recordOf messageOf placeVector messageVector flat knownStable filterPair filtered condemnedPair condemned maskTo mask interval logged loggedTo causedFrom causes newVector restarted dropHeld startAnew letOut release rolled report onesIn ones
+unfolding put same putPart clearPlaces putStates tab anyb numberOf recordOf messageOf placeVector messageVector flat knownStable filterPair filtered condemnedPair condemned maskTo mask placeRecord logged loggedTo causedFrom causes newVector restarted dropHeld startAnew letOut release rolledBack report onesIn ones
 told-apart-hold = refl

@@ -5,27 +5,27 @@ use Prim.Native.Nat.{ℕ, _+_, _-_}
 use Rattle.base.specs.Choice.{_==_, _≤?_, _<?_}
 use Rattle.base.specs.Ranges.{allb}
 use Rattle.base.specs.Cases.{allOf}
-use Rattle.table.specs.Field.{State, Head, Controller, Known, End, Place, Message, Size, SentCount, Degree, Incarnation, LiveCount, StableCount, PlaceIncarnation, PlaceNumber, Cause, Flag, MessageState, Sender, Receiver, SendingIncarnation, SendingNumber}
+use Rattle.table.specs.Field.{State, OfHead, OfController, Known, End, OfPlace, OfMessage, Size, SentCount, Degree, Incarnation, LiveCount, StableCount, PlaceIncarnation, PlaceNumber, Cause, Flag, MessageState, Sender, Receiver, SendingIncarnation, SendingNumber}
 use Rattle.table.specs.Layout.{controllers, incarnations, headWords, controllerWords, placeWords, messageWords}
 use Rattle.table.specs.Numbering.{numberOf}
 use Rattle.rules.specs.Limits.{Limits, lastIncarnation}
 use Rattle.rules.specs.Vector.{Pair, Vector, incarnation, number, pairOf, placeVector, messageVector}
 
 -- "States: 0 unused, 1 held, 2 released, 3 delivered, 4 lost, 5 dropped."
-abbrev pub held : ℕ
-held = 1
+abbrev pub stateHeld : ℕ
+stateHeld = 1
 
-abbrev pub released : ℕ
-released = 2
+abbrev pub stateReleased : ℕ
+stateReleased = 2
 
-abbrev pub delivered : ℕ
-delivered = 3
+abbrev pub stateDelivered : ℕ
+stateDelivered = 3
 
-abbrev pub lost : ℕ
-lost = 4
+abbrev pub stateLost : ℕ
+stateLost = 4
 
-abbrev pub dropped : ℕ
-dropped = 5
+abbrev pub stateDropped : ℕ
+stateDropped = 5
 
 -- k words in a row are 0
 unfoldable pub zeros : ℕ → (ℕ → ℕ) → Bool
@@ -55,7 +55,7 @@ module _ (L : Limits) (n : ℕ) where
       ∷ (1 ≤? σ (StableCount c))
       ∷ (σ (StableCount c) ≤? σ (LiveCount c))
       ∷ []))
-      (zeros controllerWords (λ (k : ℕ). σ (Controller c k)))
+      (zeros controllerWords (λ (k : ℕ). σ (OfController c k)))
 
   -- "known and end words 0 to 64", of holder b and owner a; 0 for controllers from n on
   unfoldable pub highest : ℕ → ℕ → ℕ
@@ -77,7 +77,7 @@ module _ (L : Limits) (n : ℕ) where
       ∷ ((0 <? p) || (σ (Flag c p) == 1))
       ∷ vectorOk (placeVector σ c p)
       ∷ []))
-      (zeros placeWords (λ (k : ℕ). σ (Place c p k)))
+      (zeros placeWords (λ (k : ℕ). σ (OfPlace c p k)))
 
   -- "sent messages have state 1 to 5, sender and receiver below n, sending number 1 to 64; payload free"; "unsent messages
   -- are 0"
@@ -85,8 +85,8 @@ module _ (L : Limits) (n : ℕ) where
   messageOk σ r =
       cond (r <? σ SentCount)
       (allOf
-      ((held ≤? σ (MessageState r))
-      ∷ (σ (MessageState r) ≤? dropped)
+      ((stateHeld ≤? σ (MessageState r))
+      ∷ (σ (MessageState r) ≤? stateDropped)
       ∷ (σ (Sender r) <? n)
       ∷ (σ (Receiver r) <? n)
       ∷ (σ (SendingIncarnation r) ≤? lastIncarnation)
@@ -94,7 +94,7 @@ module _ (L : Limits) (n : ℕ) where
       ∷ (σ (SendingNumber r) ≤? L .numbers)
       ∷ vectorOk (messageVector σ r)
       ∷ []))
-      (zeros messageWords (λ (k : ℕ). σ (Message r k)))
+      (zeros messageWords (λ (k : ℕ). σ (OfMessage r k)))
 
 -- "n (1 to 8); word 1: messages sent (0 to 128); words 2 to 15 are 0", and all the rest
 unfoldable pub inForm : Limits → State → Bool
@@ -104,7 +104,7 @@ inForm L σ =
     ((1 ≤? n)
     ∷ (n ≤? controllers)
     ∷ (σ SentCount ≤? L .messages)
-    ∷ zeros (headWords - 2) (λ (k : ℕ). σ (Head (2 + k)))
+    ∷ zeros (headWords - 2) (λ (k : ℕ). σ (OfHead (2 + k)))
     ∷ allb controllers (controllerOk L n σ)
     ∷ allb controllers (λ (b : ℕ). allb controllers (rowOk L n σ b))
     ∷ allb controllers (λ (c : ℕ). allb (L .places) (placeOk L n σ c))

@@ -5,19 +5,19 @@ use Prim.Native.Nat.{ℕ, zero, suc, _+_, _-_}
 use lib.ListN.{set}
 use Rattle.base.specs.Choice.{_==_, _<?_}
 use Rattle.base.specs.Ranges.{anyb}
-use Rattle.table.specs.Field.{State, Place, Known, Incarnation, LiveCount, StableCount, Cause, Flag, MessageState, Sender, SendingNumber}
+use Rattle.table.specs.Field.{State, OfPlace, Known, Incarnation, LiveCount, StableCount, Cause, Flag, MessageState, Sender, SendingNumber}
 use Rattle.table.specs.Change.{put, putPart, clearPlaces, putStates}
 use Rattle.table.specs.Numbering.{numberOf, messageOf}
 use Rattle.rules.specs.Vector.{Vector, pair, placeVector, flat, filtered}
-use Rattle.rules.specs.Form.{held, dropped}
+use Rattle.rules.specs.Form.{stateHeld, stateDropped}
 
 -- the place of the newest live interval
-abbrev pub newest : State → ℕ → ℕ
-newest σ c = σ (LiveCount c) - 1
+abbrev pub newestPlace : State → ℕ → ℕ
+newestPlace σ c = σ (LiveCount c) - 1
 
 -- a place's words: "incarnation, number, cause (message number, 0 for a start), checkpoint flag (0 or 1), vector"
-unfoldable pub interval : ℕ → ℕ → ℕ → ℕ → Vector → List ℕ
-interval t x cause flag v = (t ∷ x ∷ cause ∷ flag ∷ []) ++ flat v
+unfoldable pub placeRecord : ℕ → ℕ → ℕ → ℕ → Vector → List ℕ
+placeRecord t x cause flag v = (t ∷ x ∷ cause ∷ flag ∷ []) ++ flat v
 
 -- Logging, of L, C and H: the j oldest live intervals of c are stable, and "c's known word for itself and its incarnation
 -- becomes the new stable count".
@@ -48,15 +48,15 @@ restarted σ c k =
     let t = σ (Incarnation c) + 1 in
     let x = numberOf σ c (k + 1) in
     let freed = clearPlaces σ c k (σ (LiveCount c)) in
-    let begun = putPart freed (Place c k 0) 0 (interval t x 0 0 (newVector σ c k)) in
+    let begun = putPart freed (OfPlace c k 0) 0 (placeRecord t x 0 0 (newVector σ c k)) in
     put (put (put (put begun (Incarnation c) t) (LiveCount c) (k + 1)) (StableCount c) (k + 1)) (Known c c t) x
 
 -- "Held messages from c with sending number above k become dropped."
 abbrev pub orphanedFrom : State → ℕ → ℕ → ℕ → Bool
-orphanedFrom σ c k r = (σ (MessageState r) == held) && ((σ (Sender r) == c) && (numberOf σ c k <? σ (SendingNumber r)))
+orphanedFrom σ c k r = (σ (MessageState r) == stateHeld) && ((σ (Sender r) == c) && (numberOf σ c k <? σ (SendingNumber r)))
 
 unfoldable pub dropHeld : State → ℕ → ℕ → State
-dropHeld σ c k = putStates σ (λ (r : ℕ). cond (orphanedFrom σ c k r) dropped (σ (MessageState r)))
+dropHeld σ c k = putStates σ (λ (r : ℕ). cond (orphanedFrom σ c k r) stateDropped (σ (MessageState r)))
 
 unfoldable pub startAnew : State → ℕ → ℕ → State
 startAnew σ c k = dropHeld (restarted σ c k) c k

@@ -62,3 +62,12 @@ lent t f = cond (length t == tableWords) (written (f (state t))) (out (Refused 1
 -- The step function of a house over its lent table: the answer, and every word that is left.
 unfoldable pub step : List ℕ → Command → Out
 step t x = lent t (λ σ. stepOn house σ x)
+
+-- What a list of demand 3 is made of. Today each call asks the step function for a step; a call that stands beside the step
+-- function is a constructor more.
+pub data Call : Type 0 where
+  asks : Command → Call
+
+-- a call over the lent table
+unfoldable pub stepCall : List ℕ → Call → Out
+stepCall t (asks x) = step t x

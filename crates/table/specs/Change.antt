@@ -8,7 +8,7 @@ use native.Mathlib.Omega.{arith}
 use lib.ListN.{length, getD}
 use borrow.Author.Tests.{eqb-true, eq-eqb, leb-true, ltb-true, le-leb, lt-ltb}
 use Rattle.base.specs.Choice.{_==_, _≤?_, _<?_, and-left, and-right, cond-ind}
-use Rattle.table.specs.Field.{Field, State, Place, MessageState, region, word, owner, second, wordOf, alike, same, word-of, made-alike, message-state, alike-true, alike-word, same-true, same-refl}
+use Rattle.table.specs.Field.{Field, State, OfPlace, MessageState, region, word, owner, second, wordOf, alike, same, word-of, made-alike, message-state, alike-true, alike-word, same-true, same-refl}
 
 -- every word is 0
 abbrev pub blank : State
@@ -27,7 +27,7 @@ putPart σ f k r g = cond (inPart f k (length r) g) (getD r (word g - k) 0) (σ 
 
 -- σ with 0 in all words of the places of c from p on and below q
 abbrev pub inPlaces : ℕ → ℕ → ℕ → Field → Bool
-inPlaces c p q g = (region g == region (Place c p 0)) && ((owner g == c) && ((p ≤? second g) && (second g <? q)))
+inPlaces c p q g = (region g == region (OfPlace c p 0)) && ((owner g == c) && ((p ≤? second g) && (second g <? q)))
 
 unfoldable pub clearPlaces : State → ℕ → ℕ → ℕ → State
 clearPlaces σ c p q g = cond (inPlaces c p q g) 0 (σ g)
@@ -76,23 +76,23 @@ part-ind P σ f k r p q g = cond-ind (P g) (inPart f k (length r) g) hit miss
     miss : inPart f k (length r) g ≡ false → P g (σ g)
     miss e = q g (λ i h. differs (inPart f k (length r)) (wordOf f (k + i)) g (in-part f k (length r) i h) e)
 
-pub clear-ind : (P : Field → ℕ → Type 0) (σ : State) (c p q : ℕ) → ((x k : ℕ) → p ≤ x → x < q → P (Place c x k) 0) →
-    ((g : Field) → ((x k : ℕ) → p ≤ x → x < q → g ≢ Place c x k) → P g (σ g)) → (g : Field) → P g (clearPlaces σ c p q g)
+pub clear-ind : (P : Field → ℕ → Type 0) (σ : State) (c p q : ℕ) → ((x k : ℕ) → p ≤ x → x < q → P (OfPlace c x k) 0) →
+    ((g : Field) → ((x k : ℕ) → p ≤ x → x < q → g ≢ OfPlace c x k) → P g (σ g)) → (g : Field) → P g (clearPlaces σ c p q g)
 unfolding clearPlaces
 clear-ind P σ c p q u v g = cond-ind (P g) (inPlaces c p q g) hit miss
   where
     hit : inPlaces c p q g ≡ true → P g 0
     hit e =
-        let e₁ = and-right (region g == region (Place c p 0)) _ e in
+        let e₁ = and-right (region g == region (OfPlace c p 0)) _ e in
         let e₂ = and-right (owner g == c) _ e₁ in
         let l = leb-true _ _ (and-left (p ≤? second g) _ e₂) in
         let m = ltb-true _ _ (and-right (p ≤? second g) _ e₂) in
         subst (λ h. P h 0)
-        (sym (made-alike g (Place c (second g) 0) (word g) (eqb-true _ _ (and-left (region g == region (Place c p 0)) _ e)) (eqb-true _ _ (and-left (owner g == c) _ e₁)) refl refl))
+        (sym (made-alike g (OfPlace c (second g) 0) (word g) (eqb-true _ _ (and-left (region g == region (OfPlace c p 0)) _ e)) (eqb-true _ _ (and-left (owner g == c) _ e₁)) refl refl))
         (u (second g) (word g) l m)
 
     miss : inPlaces c p q g ≡ false → P g (σ g)
-    miss e = v g (λ x k l m. differs (inPlaces c p q) (Place c x k) g (simp (eq-eqb c c refl, le-leb p x l, lt-ltb x q m)) e)
+    miss e = v g (λ x k l m. differs (inPlaces c p q) (OfPlace c x k) g (simp (eq-eqb c c refl, le-leb p x l, lt-ltb x q m)) e)
 
 pub states-ind : (P : Field → ℕ → Type 0) (σ : State) (s : ℕ → ℕ) → ((r : ℕ) → P (MessageState r) (s r)) →
     ((g : Field) → ((r : ℕ) → g ≢ MessageState r) → P g (σ g)) → (g : Field) → P g (putStates σ s g)

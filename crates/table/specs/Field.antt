@@ -8,140 +8,140 @@ use Rattle.base.specs.Choice.{_==_, and-left, and-right}
 -- One constructor for each region of the table, with the coordinates and then the word inside the record.
 pub data Field : Type 0 where
   -- word
-  Head : ℕ → Field
+  OfHead : ℕ → Field
   -- controller, word
-  Controller : ℕ → ℕ → Field
+  OfController : ℕ → ℕ → Field
   -- holder, owner, incarnation
   Known : ℕ → ℕ → ℕ → Field
   -- holder, owner, incarnation
   End : ℕ → ℕ → ℕ → Field
   -- controller, place, word
-  Place : ℕ → ℕ → ℕ → Field
+  OfPlace : ℕ → ℕ → ℕ → Field
   -- record (message m, from 1, stands at record m - 1), word
-  Message : ℕ → ℕ → Field
+  OfMessage : ℕ → ℕ → Field
 
 abbrev pub State : Type 0
 State = Field → ℕ
 
 -- "From 0: n; word 1: messages sent; words 2 to 15 are 0."
 abbrev pub Size : Field
-Size = Head 0
+Size = OfHead 0
 
 abbrev pub SentCount : Field
-SentCount = Head 1
+SentCount = OfHead 1
 
 -- "Per controller 4 words: K, incarnation, live count, stable count."
 abbrev pub Degree : ℕ → Field
-Degree c = Controller c 0
+Degree c = OfController c 0
 
 abbrev pub Incarnation : ℕ → Field
-Incarnation c = Controller c 1
+Incarnation c = OfController c 1
 
 abbrev pub LiveCount : ℕ → Field
-LiveCount c = Controller c 2
+LiveCount c = OfController c 2
 
 abbrev pub StableCount : ℕ → Field
-StableCount c = Controller c 3
+StableCount c = OfController c 3
 
 -- "Per controller 64 places of 20 words: incarnation, number, cause, checkpoint flag, vector." A vector has for each
 -- controller a its pair: incarnation, number.
 abbrev pub PlaceIncarnation : ℕ → ℕ → Field
-PlaceIncarnation c p = Place c p 0
+PlaceIncarnation c p = OfPlace c p 0
 
 abbrev pub PlaceNumber : ℕ → ℕ → Field
-PlaceNumber c p = Place c p 1
+PlaceNumber c p = OfPlace c p 1
 
 abbrev pub Cause : ℕ → ℕ → Field
-Cause c p = Place c p 2
+Cause c p = OfPlace c p 2
 
 abbrev pub Flag : ℕ → ℕ → Field
-Flag c p = Place c p 3
+Flag c p = OfPlace c p 3
 
 abbrev pub placeHead : ℕ
 placeHead = 4
 
 abbrev pub PairIncarnation : ℕ → ℕ → ℕ → Field
-PairIncarnation c p a = Place c p (placeHead + 2 * a)
+PairIncarnation c p a = OfPlace c p (placeHead + 2 * a)
 
 abbrev pub PairNumber : ℕ → ℕ → ℕ → Field
-PairNumber c p a = Place c p (placeHead + 2 * a + 1)
+PairNumber c p a = OfPlace c p (placeHead + 2 * a + 1)
 
 -- "128 messages of 22 words: state, sender, receiver, incarnation and number of the sending interval, payload, vector."
 abbrev pub MessageState : ℕ → Field
-MessageState r = Message r 0
+MessageState r = OfMessage r 0
 
 abbrev pub Sender : ℕ → Field
-Sender r = Message r 1
+Sender r = OfMessage r 1
 
 abbrev pub Receiver : ℕ → Field
-Receiver r = Message r 2
+Receiver r = OfMessage r 2
 
 abbrev pub SendingIncarnation : ℕ → Field
-SendingIncarnation r = Message r 3
+SendingIncarnation r = OfMessage r 3
 
 abbrev pub SendingNumber : ℕ → Field
-SendingNumber r = Message r 4
+SendingNumber r = OfMessage r 4
 
 abbrev pub Payload : ℕ → Field
-Payload r = Message r 5
+Payload r = OfMessage r 5
 
 abbrev pub messageHead : ℕ
 messageHead = 6
 
 abbrev pub MessagePairIncarnation : ℕ → ℕ → Field
-MessagePairIncarnation r a = Message r (messageHead + 2 * a)
+MessagePairIncarnation r a = OfMessage r (messageHead + 2 * a)
 
 abbrev pub MessagePairNumber : ℕ → ℕ → Field
-MessagePairNumber r a = Message r (messageHead + 2 * a + 1)
+MessagePairNumber r a = OfMessage r (messageHead + 2 * a + 1)
 
 -- The parts of a field: its region, its word, its two coordinates (0 where it has none).
 abbrev pub region : Field → ℕ
-region (Head i) = 0
-region (Controller c k) = 1
+region (OfHead i) = 0
+region (OfController c k) = 1
 region (Known b a t) = 2
 region (End b a t) = 3
-region (Place c p k) = 4
-region (Message r k) = 5
+region (OfPlace c p k) = 4
+region (OfMessage r k) = 5
 
 abbrev pub word : Field → ℕ
-word (Head i) = i
-word (Controller c k) = k
+word (OfHead i) = i
+word (OfController c k) = k
 word (Known b a t) = t
 word (End b a t) = t
-word (Place c p k) = k
-word (Message r k) = k
+word (OfPlace c p k) = k
+word (OfMessage r k) = k
 
 abbrev pub owner : Field → ℕ
-owner (Head i) = 0
-owner (Controller c k) = c
+owner (OfHead i) = 0
+owner (OfController c k) = c
 owner (Known b a t) = b
 owner (End b a t) = b
-owner (Place c p k) = c
-owner (Message r k) = r
+owner (OfPlace c p k) = c
+owner (OfMessage r k) = r
 
 abbrev pub second : Field → ℕ
-second (Head i) = 0
-second (Controller c k) = 0
+second (OfHead i) = 0
+second (OfController c k) = 0
 second (Known b a t) = a
 second (End b a t) = a
-second (Place c p k) = p
-second (Message r k) = 0
+second (OfPlace c p k) = p
+second (OfMessage r k) = 0
 
 abbrev made : ℕ → ℕ → ℕ → ℕ → Field
-made zero k a b = Head k
-made (suc zero) k a b = Controller a k
+made zero k a b = OfHead k
+made (suc zero) k a b = OfController a k
 made (suc (suc zero)) k a b = Known a b k
 made (suc (suc (suc zero))) k a b = End a b k
-made (suc (suc (suc (suc zero)))) k a b = Place a b k
-made (suc (suc (suc (suc (suc n))))) k a b = Message a k
+made (suc (suc (suc (suc zero)))) k a b = OfPlace a b k
+made (suc (suc (suc (suc (suc n))))) k a b = OfMessage a k
 
 made-of : (f : Field) → made (region f) (word f) (owner f) (second f) ≡ f
-made-of (Head i) = refl
-made-of (Controller c k) = refl
+made-of (OfHead i) = refl
+made-of (OfController c k) = refl
 made-of (Known b a t) = refl
 made-of (End b a t) = refl
-made-of (Place c p k) = refl
-made-of (Message r k) = refl
+made-of (OfPlace c p k) = refl
+made-of (OfMessage r k) = refl
 
 -- word k of the record that f belongs to; a row of known or end words is a record over the incarnations
 abbrev pub wordOf : Field → ℕ → Field
@@ -156,12 +156,12 @@ unfoldable pub same : Field → Field → Bool
 same g f = (region g == region f) && ((word g == word f) && ((owner g == owner f) && (second g == second f)))
 
 pub word-of : (f : Field) (k : ℕ) → word (wordOf f k) ≡ k
-word-of (Head i) k = refl
-word-of (Controller c i) k = refl
+word-of (OfHead i) k = refl
+word-of (OfController c i) k = refl
 word-of (Known b a t) k = refl
 word-of (End b a t) k = refl
-word-of (Place c p i) k = refl
-word-of (Message r i) k = refl
+word-of (OfPlace c p i) k = refl
+word-of (OfMessage r i) k = refl
 
 pub made-alike : (g f : Field) (k : ℕ) → region g ≡ region f → owner g ≡ owner f → second g ≡ second f → word g ≡ k → g ≡ wordOf f k
 made-alike g f k p q r s = sym (made-of g) ∙ (λ d. made (p d) (s d) (q d) (r d))
@@ -177,12 +177,12 @@ alike-true g f e =
     (eqb-true _ _ (and-right (owner g == owner f) _ e₁)) refl
 
 pub alike-word : (f : Field) (k : ℕ) → alike (wordOf f k) f ≡ true
-alike-word (Head i) k = refl
-alike-word (Controller c i) k = simp (eq-eqb c c refl)
+alike-word (OfHead i) k = refl
+alike-word (OfController c i) k = simp (eq-eqb c c refl)
 alike-word (Known b a t) k = simp (eq-eqb b b refl, eq-eqb a a refl)
 alike-word (End b a t) k = simp (eq-eqb b b refl, eq-eqb a a refl)
-alike-word (Place c p i) k = simp (eq-eqb c c refl, eq-eqb p p refl)
-alike-word (Message r i) k = simp (eq-eqb r r refl)
+alike-word (OfPlace c p i) k = simp (eq-eqb c c refl, eq-eqb p p refl)
+alike-word (OfMessage r i) k = simp (eq-eqb r r refl)
 
 pub same-true : (g f : Field) → same g f ≡ true → g ≡ f
 unfolding same

@@ -6,7 +6,7 @@ use Prim.Native.Nat.{ℕ, _+_, _-_, _*_, _/_, _%_, _<_}
 use native.Mathlib.Omega.{arith}
 use borrow.Author.Tests.{ltb-true, ltb-false, lt-ltb, le-ltb}
 use Rattle.base.specs.Choice.{_<?_, cond-ind}
-use Rattle.table.specs.Field.{Field, Head, Controller, Known, End, Place, Message, wordOf, placeHead, messageHead}
+use Rattle.table.specs.Field.{Field, OfHead, OfController, Known, End, OfPlace, OfMessage, wordOf, placeHead, messageHead}
 
 -- how many there are of each
 abbrev pub controllers : ℕ
@@ -68,37 +68,37 @@ printed = (refl, refl, refl, refl, refl)
 
 -- the fields that have a word in the table
 abbrev pub Valid : Field → Type 0
-Valid (Head i) = i < headWords
-Valid (Controller c k) = (c < controllers) × (k < controllerWords)
+Valid (OfHead i) = i < headWords
+Valid (OfController c k) = (c < controllers) × (k < controllerWords)
 Valid (Known b a t) = (b < controllers) × (a < controllers) × (t < incarnations)
 Valid (End b a t) = (b < controllers) × (a < controllers) × (t < incarnations)
-Valid (Place c p k) = (c < controllers) × (p < places) × (k < placeWords)
-Valid (Message r k) = (r < messages) × (k < messageWords)
+Valid (OfPlace c p k) = (c < controllers) × (p < places) × (k < placeWords)
+Valid (OfMessage r k) = (r < messages) × (k < messageWords)
 
 -- the position of a field; a word with a name is a numeral and stands next to the base, so that the sum is the one that
 -- the code writes
-abbrev pub at : Field → ℕ
-at (Head i) = i
-at (Controller c k) = controllersFrom + k + c * controllerWords
-at (Known b a t) = knownFrom + b * rowsWords + a * incarnations + t
-at (End b a t) = endsFrom + b * rowsWords + a * incarnations + t
-at (Place c p k) = placesFrom + k + c * chainWords + p * placeWords
-at (Message r k) = messagesFrom + k + r * messageWords
+abbrev pub position : Field → ℕ
+position (OfHead i) = i
+position (OfController c k) = controllersFrom + k + c * controllerWords
+position (Known b a t) = knownFrom + b * rowsWords + a * incarnations + t
+position (End b a t) = endsFrom + b * rowsWords + a * incarnations + t
+position (OfPlace c p k) = placesFrom + k + c * chainWords + p * placeWords
+position (OfMessage r k) = messagesFrom + k + r * messageWords
 
 -- the field at a position
 unfoldable pub fieldAt : ℕ → Field
 fieldAt i =
-    cond (i <? controllersFrom) (Head i)
-    (cond (i <? knownFrom) (let j = i - controllersFrom in Controller (j / controllerWords) (j % controllerWords))
+    cond (i <? controllersFrom) (OfHead i)
+    (cond (i <? knownFrom) (let j = i - controllersFrom in OfController (j / controllerWords) (j % controllerWords))
     (cond (i <? endsFrom) (let j = i - knownFrom in Known (j / rowsWords) (j / incarnations % controllers) (j % incarnations))
     (cond (i <? placesFrom) (let j = i - endsFrom in End (j / rowsWords) (j / incarnations % controllers) (j % incarnations))
-    (cond (i <? messagesFrom) (let j = i - placesFrom in Place (j / chainWords) (j / placeWords % places) (j % placeWords))
-    (let j = i - messagesFrom in Message (j / messageWords) (j % messageWords))))))
+    (cond (i <? messagesFrom) (let j = i - placesFrom in OfPlace (j / chainWords) (j / placeWords % places) (j % placeWords))
+    (let j = i - messagesFrom in OfMessage (j / messageWords) (j % messageWords))))))
 
 -- every position has its field
 pub record Stands (i : ℕ) (f : Field) : Type 0 where
   pub valid : Valid f
-  pub here : at f ≡ i
+  pub here : position f ≡ i
 
 pub stands : (i : ℕ) → i < tableWords → Stands i (fieldAt i)
 unfolding fieldAt
@@ -114,38 +114,38 @@ stands i h =
     cond-ind (Stands i) (i <? messagesFrom) (λ e. let u = ltb-true i messagesFrom e in record { valid = (omega arith, omega arith, omega arith); here = omega arith })
     (λ e. let l = ltb-false i messagesFrom e in record { valid = (omega arith, omega arith); here = omega arith })))))
 
-pub at-lt : (f : Field) → Valid f → at f < tableWords
-at-lt (Head i) v = omega arith
-at-lt (Controller c k) v = omega arith
+pub at-lt : (f : Field) → Valid f → position f < tableWords
+at-lt (OfHead i) v = omega arith
+at-lt (OfController c k) v = omega arith
 at-lt (Known b a t) v = omega arith
 at-lt (End b a t) v = omega arith
-at-lt (Place c p k) v = omega arith
-at-lt (Message r k) v = omega arith
+at-lt (OfPlace c p k) v = omega arith
+at-lt (OfMessage r k) v = omega arith
 
 -- a field stands at its position
-pub field-at : (f : Field) → Valid f → fieldAt (at f) ≡ f
+pub field-at : (f : Field) → Valid f → fieldAt (position f) ≡ f
 unfolding fieldAt
-field-at (Head i) v = simp (lt-ltb i controllersFrom v)
-field-at (Controller c k) v =
-    let i = at (Controller c k) in
+field-at (OfHead i) v = simp (lt-ltb i controllersFrom v)
+field-at (OfController c k) v =
+    let i = position (OfController c k) in
     let x : (i - controllersFrom) / controllerWords ≡ c = omega arith in
     let y : (i - controllersFrom) % controllerWords ≡ k = omega arith in
-    simp (le-ltb i controllersFrom (omega arith), lt-ltb i knownFrom (omega arith)) (λ d. Controller (x d) (y d))
+    simp (le-ltb i controllersFrom (omega arith), lt-ltb i knownFrom (omega arith)) (λ d. OfController (x d) (y d))
 field-at (Known b a t) v =
-    let i = at (Known b a t) in
+    let i = position (Known b a t) in
     let x : (i - knownFrom) / rowsWords ≡ b = omega arith in
     let y : (i - knownFrom) / incarnations % controllers ≡ a = omega arith in
     let z : (i - knownFrom) % incarnations ≡ t = omega arith in
     simp (le-ltb i controllersFrom (omega arith), le-ltb i knownFrom (omega arith), lt-ltb i endsFrom (omega arith)) (λ d. Known (x d) (y d) (z d))
 field-at (End b a t) v =
-    let i = at (End b a t) in
+    let i = position (End b a t) in
     let x : (i - endsFrom) / rowsWords ≡ b = omega arith in
     let y : (i - endsFrom) / incarnations % controllers ≡ a = omega arith in
     let z : (i - endsFrom) % incarnations ≡ t = omega arith in
     simp (le-ltb i controllersFrom (omega arith), le-ltb i knownFrom (omega arith), le-ltb i endsFrom (omega arith), lt-ltb i placesFrom (omega arith))
     (λ d. End (x d) (y d) (z d))
-field-at (Place c p k) v =
-    let i = at (Place c p k) in
+field-at (OfPlace c p k) v =
+    let i = position (OfPlace c p k) in
     let x : (i - placesFrom) / chainWords ≡ c = omega arith in
     let y : (i - placesFrom) / placeWords % places ≡ p = omega arith in
     let z : (i - placesFrom) % placeWords ≡ k = omega arith in
@@ -156,9 +156,9 @@ field-at (Place c p k) v =
       le-ltb i placesFrom (omega arith),
       lt-ltb i messagesFrom (omega arith),
     )
-    (λ d. Place (x d) (y d) (z d))
-field-at (Message r k) v =
-    let i = at (Message r k) in
+    (λ d. OfPlace (x d) (y d) (z d))
+field-at (OfMessage r k) v =
+    let i = position (OfMessage r k) in
     let x : (i - messagesFrom) / messageWords ≡ r = omega arith in
     let y : (i - messagesFrom) % messageWords ≡ k = omega arith in
     simp (
@@ -168,17 +168,17 @@ field-at (Message r k) v =
       le-ltb i placesFrom (omega arith),
       le-ltb i messagesFrom (omega arith),
     )
-    (λ d. Message (x d) (y d))
+    (λ d. OfMessage (x d) (y d))
 
 -- two fields of the table at one position are one field
-pub at-one : (f g : Field) → Valid f → Valid g → at f ≡ at g → f ≡ g
+pub at-one : (f g : Field) → Valid f → Valid g → position f ≡ position g → f ≡ g
 at-one f g u v e = sym (field-at f u) ∙ ap fieldAt e ∙ field-at g v
 
 -- the words of a record stand one after the other
-pub at-next : (f : Field) (k i : ℕ) → at (wordOf f (k + i)) ≡ at (wordOf f k) + i
-at-next (Head j) k i = refl
-at-next (Controller c j) k i = omega arith
+pub at-next : (f : Field) (k i : ℕ) → position (wordOf f (k + i)) ≡ position (wordOf f k) + i
+at-next (OfHead j) k i = refl
+at-next (OfController c j) k i = omega arith
 at-next (Known b a t) k i = omega arith
 at-next (End b a t) k i = omega arith
-at-next (Place c p j) k i = omega arith
-at-next (Message r j) k i = omega arith
+at-next (OfPlace c p j) k i = omega arith
+at-next (OfMessage r j) k i = omega arith

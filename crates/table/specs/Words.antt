@@ -10,13 +10,13 @@ use lib.Seq.{getD-set-same, getD-set-other}
 use Rattle.base.specs.Choice.{le?}
 use Rattle.base.specs.Lists.{tab, tab-of, getD-tab, length-tab}
 use Rattle.base.specs.Splice.{splice, splice-of, length-splice, splice-below, splice-in, splice-above}
-use Rattle.table.specs.Field.{Field, Controller, Known, Place, Message, State, same, word, wordOf}
+use Rattle.table.specs.Field.{Field, OfController, Known, OfPlace, OfMessage, State, same, word, wordOf}
 use Rattle.table.specs.Change.{put, put-ind, inPart, putPart, part-ind, clearPlaces, clear-ind}
-use Rattle.table.specs.Layout.{controllers, controllerWords, incarnations, places, messages, placeWords, messageWords, placesFrom, chainWords, tableWords, Valid, at, fieldAt, stands, at-lt, field-at, at-one, at-next}
+use Rattle.table.specs.Layout.{controllers, controllerWords, incarnations, places, messages, placeWords, messageWords, placesFrom, chainWords, tableWords, Valid, position, fieldAt, stands, at-lt, field-at, at-one, at-next}
 
 -- the state of a table, and the table of a state
 abbrev pub state : List ℕ → State
-state t f = getD t (at f) 0
+state t f = getD t (position f) 0
 
 unfoldable pub words : State → List ℕ
 words σ = tab tableWords (λ (i : ℕ). σ (fieldAt i))
@@ -26,7 +26,7 @@ unfolding words
 length-words σ = length-tab tableWords _
 
 -- a table is that of the state with which it agrees on every field
-pub words-of : (σ : State) (t : List ℕ) → length t ≡ tableWords → ((f : Field) → Valid f → getD t (at f) 0 ≡ σ f) → t ≡ words σ
+pub words-of : (σ : State) (t : List ℕ) → length t ≡ tableWords → ((f : Field) → Valid f → getD t (position f) 0 ≡ σ f) → t ≡ words σ
 unfolding words
 words-of σ t e h =
     tab-of 0 tableWords _ t e (λ (i : ℕ) (l : i < tableWords). let s = stands i l in ap (λ (j : ℕ). getD t j 0) (sym (s .here)) ∙ h (fieldAt i) (s .valid))
@@ -38,87 +38,87 @@ words-state t e = words-of (state t) t e (λ f v. refl)
 
 pub word-at : (σ : State) (f : Field) → Valid f → state (words σ) f ≡ σ f
 unfolding words
-word-at σ f v = getD-tab tableWords _ (at f) 0 (at-lt f v) ∙ ap σ (field-at f v)
+word-at σ f v = getD-tab tableWords _ (position f) 0 (at-lt f v) ∙ ap σ (field-at f v)
 
-pub words-put : (σ : State) (f : Field) (x : ℕ) → Valid f → set (words σ) (at f) x ≡ words (put σ f x)
+pub words-put : (σ : State) (f : Field) (x : ℕ) → Valid f → set (words σ) (position f) x ≡ words (put σ f x)
 words-put σ f x u =
-    words-of (put σ f x) (set (words σ) (at f) x) (length-set (words σ) (at f) x ∙ length-words σ)
-    (put-ind (λ g y. Valid g → getD (set (words σ) (at f) x) (at g) 0 ≡ y) σ f x
-    (λ v. getD-set-same (words σ) (at f) x 0 (subst (λ n. at f < n) (sym (length-words σ)) (at-lt f u)))
-    (λ g ne v. getD-set-other (words σ) (at f) (at g) x 0 (λ e. ne (at-one g f v u e)) ∙ word-at σ g v))
+    words-of (put σ f x) (set (words σ) (position f) x) (length-set (words σ) (position f) x ∙ length-words σ)
+    (put-ind (λ g y. Valid g → getD (set (words σ) (position f) x) (position g) 0 ≡ y) σ f x
+    (λ v. getD-set-same (words σ) (position f) x 0 (subst (λ n. position f < n) (sym (length-words σ)) (at-lt f u)))
+    (λ g ne v. getD-set-other (words σ) (position f) (position g) x 0 (λ e. ne (at-one g f v u e)) ∙ word-at σ g v))
 
 -- one more word was put
-pub wrote : (σ : State) (f : Field) (x : ℕ) {t : List ℕ} → t ≡ words σ → Valid f → set t (at f) x ≡ words (put σ f x)
-wrote σ f x e u = ap (λ t. set t (at f) x) e ∙ words-put σ f x u
+pub wrote : (σ : State) (f : Field) (x : ℕ) {t : List ℕ} → t ≡ words σ → Valid f → set t (position f) x ≡ words (put σ f x)
+wrote σ f x e u = ap (λ t. set t (position f) x) e ∙ words-put σ f x u
 
 -- a part of the table was replaced by r: inside it the state has r's words, outside it is as before
 pub words-splice : (σ τ : State) (a : ℕ) (r : List ℕ) → a + length r ≤ tableWords →
-    ((g : Field) → Valid g → (k : ℕ) → k < length r → at g ≡ a + k → getD r k 0 ≡ τ g) →
-    ((g : Field) → Valid g → (at g < a) ⊎ (a + length r ≤ at g) → σ g ≡ τ g) → splice (words σ) a r ≡ words τ
+    ((g : Field) → Valid g → (k : ℕ) → k < length r → position g ≡ a + k → getD r k 0 ≡ τ g) →
+    ((g : Field) → Valid g → (position g < a) ⊎ (a + length r ≤ position g) → σ g ≡ τ g) → splice (words σ) a r ≡ words τ
 words-splice σ τ a r h inside outside =
     words-of τ (splice (words σ) a r) (length-splice a (words σ) r (omega (arith, len)) ∙ len) read
   where
     len : length (words σ) ≡ tableWords
     len = length-words σ
 
-    read : (g : Field) → Valid g → getD (splice (words σ) a r) (at g) 0 ≡ τ g
+    read : (g : Field) → Valid g → getD (splice (words σ) a r) (position g) 0 ≡ τ g
     read g v =
-        le? (at g + 1) a (λ l. splice-below a (at g) (words σ) r (omega (arith, len)) (omega arith) ∙ word-at σ g v ∙ outside g v (inl (omega arith)))
-        (λ l. le? (a + length r) (at g) (λ m. splice-above a (at g) (words σ) r (omega (arith, len)) m ∙ word-at σ g v ∙ outside g v (inr m))
-        (λ m. let e : at g ≡ a + (at g - a) = omega arith in
-        ap (λ i. getD (splice (words σ) a r) i 0) e ∙ splice-in a (at g - a) (words σ) r (omega (arith, len)) (omega arith) ∙ inside g v (at g - a) (omega arith) e))
+        le? (position g + 1) a (λ l. splice-below a (position g) (words σ) r (omega (arith, len)) (omega arith) ∙ word-at σ g v ∙ outside g v (inl (omega arith)))
+        (λ l. le? (a + length r) (position g) (λ m. splice-above a (position g) (words σ) r (omega (arith, len)) m ∙ word-at σ g v ∙ outside g v (inr m))
+        (λ m. let e : position g ≡ a + (position g - a) = omega arith in
+        ap (λ i. getD (splice (words σ) a r) i 0) e ∙ splice-in a (position g - a) (words σ) r (omega (arith, len)) (omega arith) ∙ inside g v (position g - a) (omega arith) e))
 
 -- the words of f's record from word k on, as many as r has, are in the table
 pub record Fits (f : Field) (k : ℕ) (r : List ℕ) : Type 0 where
-  pub end : at (wordOf f k) + length r ≤ tableWords
+  pub end : position (wordOf f k) + length r ≤ tableWords
   pub valid : (i : ℕ) → i < length r → Valid (wordOf f (k + i))
 
-pub fits-controller : (c : ℕ) (r : List ℕ) → c < controllers → length r ≤ controllerWords → Fits (Controller c 0) 0 r
+pub fits-controller : (c : ℕ) (r : List ℕ) → c < controllers → length r ≤ controllerWords → Fits (OfController c 0) 0 r
 fits-controller c r cl l = record { end = omega arith; valid = λ i h. (cl, omega arith) }
 
-pub fits-place : (c p k : ℕ) (r : List ℕ) → c < controllers → p < places → k + length r ≤ placeWords → Fits (Place c p 0) k r
+pub fits-place : (c p k : ℕ) (r : List ℕ) → c < controllers → p < places → k + length r ≤ placeWords → Fits (OfPlace c p 0) k r
 fits-place c p k r cl pl l = record { end = omega arith; valid = λ i h. (cl, pl, omega arith) }
 
-pub fits-message : (m k : ℕ) (r : List ℕ) → m < messages → k + length r ≤ messageWords → Fits (Message m 0) k r
+pub fits-message : (m k : ℕ) (r : List ℕ) → m < messages → k + length r ≤ messageWords → Fits (OfMessage m 0) k r
 fits-message m k r ml l = record { end = omega arith; valid = λ i h. (ml, omega arith) }
 
 pub fits-known : (b a : ℕ) (r : List ℕ) → b < controllers → a < controllers → length r ≤ incarnations → Fits (Known b a 0) 0 r
 fits-known b a r bl al l = record { end = omega arith; valid = λ i h. (bl, al, omega arith) }
 
-pub words-part : (σ : State) (f : Field) (k : ℕ) (r : List ℕ) → Fits f k r → splice (words σ) (at (wordOf f k)) r ≡ words (putPart σ f k r)
+pub words-part : (σ : State) (f : Field) (k : ℕ) (r : List ℕ) → Fits f k r → splice (words σ) (position (wordOf f k)) r ≡ words (putPart σ f k r)
 words-part σ f k r w =
-    words-splice σ _ (at (wordOf f k)) r (w .end)
-    (λ g v j l q. part-ind (λ g y. Valid g → at g ≡ at (wordOf f k) + j → getD r j 0 ≡ y) σ f k r
+    words-splice σ _ (position (wordOf f k)) r (w .end)
+    (λ g v j l q. part-ind (λ g y. Valid g → position g ≡ position (wordOf f k) + j → getD r j 0 ≡ y) σ f k r
     (λ i h v q. ap (λ i. getD r i 0) (omega (arith, at-next f k i)))
     (λ g ne v q. absurd (ne j l (at-one g (wordOf f (k + j)) v (w .valid j l) (q ∙ sym (at-next f k j))))) g v q)
-    (λ g v o. part-ind (λ g y. Valid g → (at g < at (wordOf f k)) ⊎ (at (wordOf f k) + length r ≤ at g) → σ g ≡ y) σ f k r
+    (λ g v o. part-ind (λ g y. Valid g → (position g < position (wordOf f k)) ⊎ (position (wordOf f k) + length r ≤ position g) → σ g ≡ y) σ f k r
     (λ i h v o. absurd (⊎-elim (λ l. omega (arith, at-next f k i)) (λ l. omega (arith, at-next f k i)) o)) (λ g ne v o. refl) g v o)
 
 -- places p to q of c became 0
 pub words-clear : (σ : State) (c p q : ℕ) (r : List ℕ) → c < controllers → p ≤ q → q ≤ places → length r ≡ placeWords * (q - p) → ((i : ℕ) → getD r i 0 ≡ 0) →
-    splice (words σ) (at (Place c p 0)) r ≡ words (clearPlaces σ c p q)
+    splice (words σ) (position (OfPlace c p 0)) r ≡ words (clearPlaces σ c p q)
 words-clear σ c p q r cl pq ql e z =
     words-splice σ _ from r (omega arith)
-    (λ g v k l h. clear-ind (λ g y. Valid g → at g ≡ from + k → getD r k 0 ≡ y) σ c p q (λ x j s t v h. z k)
+    (λ g v k l h. clear-ind (λ g y. Valid g → position g ≡ from + k → getD r k 0 ≡ y) σ c p q (λ x j s t v h. z k)
     (λ g ne v h. absurd (ne (p + k / placeWords) (k % placeWords) (omega arith) (omega arith)
-    (at-one g (Place c (p + k / placeWords) (k % placeWords)) v (cl, omega arith, omega arith) (omega arith)))) g v h)
-    (λ g v o. clear-ind (λ g y. Valid g → (at g < from) ⊎ (from + length r ≤ at g) → σ g ≡ y) σ c p q
+    (at-one g (OfPlace c (p + k / placeWords) (k % placeWords)) v (cl, omega arith, omega arith) (omega arith)))) g v h)
+    (λ g v o. clear-ind (λ g y. Valid g → (position g < from) ⊎ (from + length r ≤ position g) → σ g ≡ y) σ c p q
     (λ x j s t v o. absurd (⊎-elim (λ l. omega arith) (λ l. omega arith) o)) (λ g ne v o. refl) g v o)
   where
     from : ℕ
     from = placesFrom + c * chainWords + p * placeWords
 
 -- The same as code leaves it: the words of t from a to b were lent, came back as ys, and that is r.
-pub lent-part : (σ : State) (f : Field) (k b : ℕ) (t ys r : List ℕ) → t ≡ words σ → ys ≡ r → b ≡ at (wordOf f k) + length r → Fits f k r →
-    take (at (wordOf f k)) t ++ (ys ++ drop (b - at (wordOf f k)) (drop (at (wordOf f k)) t)) ≡ words (putPart σ f k r)
+pub lent-part : (σ : State) (f : Field) (k b : ℕ) (t ys r : List ℕ) → t ≡ words σ → ys ≡ r → b ≡ position (wordOf f k) + length r → Fits f k r →
+    take (position (wordOf f k)) t ++ (ys ++ drop (b - position (wordOf f k)) (drop (position (wordOf f k)) t)) ≡ words (putPart σ f k r)
 lent-part σ f k b t ys r e q l w =
-    splice-of (at (wordOf f k)) (b - at (wordOf f k)) t ys r q (omega arith) ∙ ap (λ t. splice t (at (wordOf f k)) r) e ∙ words-part σ f k r w
+    splice-of (position (wordOf f k)) (b - position (wordOf f k)) t ys r q (omega arith) ∙ ap (λ t. splice t (position (wordOf f k)) r) e ∙ words-part σ f k r w
 
 pub lent-places : (σ : State) (c p q b : ℕ) (t ys r : List ℕ) → t ≡ words σ → ys ≡ r → c < controllers → p ≤ q → q ≤ places →
-    length r ≡ b - at (Place c p 0) → b ≡ at (Place c q 0) → ((i : ℕ) → getD r i 0 ≡ 0) →
-    take (at (Place c p 0)) t ++ (ys ++ drop (b - at (Place c p 0)) (drop (at (Place c p 0)) t)) ≡ words (clearPlaces σ c p q)
+    length r ≡ b - position (OfPlace c p 0) → b ≡ position (OfPlace c q 0) → ((i : ℕ) → getD r i 0 ≡ 0) →
+    take (position (OfPlace c p 0)) t ++ (ys ++ drop (b - position (OfPlace c p 0)) (drop (position (OfPlace c p 0)) t)) ≡ words (clearPlaces σ c p q)
 lent-places σ c p q b t ys r e w cl pq ql l bl z =
-    splice-of (at (Place c p 0)) (b - at (Place c p 0)) t ys r w (sym l) ∙ ap (λ t. splice t (at (Place c p 0)) r) e
+    splice-of (position (OfPlace c p 0)) (b - position (OfPlace c p 0)) t ys r w (sym l) ∙ ap (λ t. splice t (position (OfPlace c p 0)) r) e
     ∙ words-clear σ c p q r cl pq ql (omega arith) z
 
 -- two states have the same words, and so one table

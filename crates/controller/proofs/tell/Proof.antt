@@ -1,5 +1,5 @@
 -- Where no refusal applies, the lent row comes back as what the holder is told (lent-row).
-use Rattle.table.specs.Layout.{at, knownFrom, rowsWords, incarnations}
+use Rattle.table.specs.Layout.{position, knownFrom, rowsWords, incarnations}
 use Rattle.base.specs.Cases.{firstOf}
 use Rattle.laws.specs.Answering.{Named, named, refused, granted, leaves}
 use Rattle.laws.specs.Allowed.{tellAllowed}
@@ -73,7 +73,7 @@ unfolding stepTell
 returns-2 c =
     let n = two (c .before .before .before .before .before .before) in
     let x = c .before .before .before .before .before .before .before .before .before .before .args in
-    let i : knownFrom + x .b * rowsWords + x .a * incarnations ≡ at (Known (x .b) (x .a) 0) = omega arith in
+    let i : knownFrom + x .b * rowsWords + x .a * incarnations ≡ position (Known (x .b) (x .a) 0) = omega arith in
     granted _ _ _ _ _ (free (c .before .before .before .before .before .before))
     (leaves _ _ _ (lent-row _ _ _ _ _ _ _ (n .0) (n .1) (c .before .before .write-row .ensures) (c .before .before .before .before .told-row .ensures) i refl))
 

@@ -1,7 +1,7 @@
 -- Four words are stored one by one, and the part after them comes back as the flat vector (headed).
 use lib.ListN.{length-set}
 use Rattle.rules.specs.Vector.{flat}
-use Rattle.rules.specs.Shared.{interval}
+use Rattle.rules.specs.Shared.{placeRecord}
 use Rattle.base.specs.Splice.{headed}
 use mathlib.Core.Path.{refl, _∙_}
 use mathlib.Core.List.{[], _∷_}
@@ -41,7 +41,7 @@ same-length : tie.Need-same-length
 same-length c = c .before .d .given .1 ∙ simp length-set
 
 returns : tie.Need-returns
-unfolding interval
+unfolding placeRecord
 returns c =
     let s = c .before .before .before .before .before in
     rw (c .before .before .write-vector .ensures) (headed (s .args .t ∷ s .args .x ∷ s .args .cause ∷ s .args .flag ∷ []) (s .args .d .now) (flat _) 4 16 refl (s .pre))

@@ -2,7 +2,7 @@
 use denote.Ref.{now}
 use Rattle.base.specs.Cases.{firstOf}
 use Rattle.table.specs.Words.{state}
-use Rattle.rules.specs.Form.{released}
+use Rattle.rules.specs.Form.{stateReleased}
 use Rattle.rules.specs.Steps.{messageRefusals, stepDeliver}
 use Rattle.laws.specs.Allowed.{messageAllowed}
 use Rattle.laws.specs.Answering.{refused, granted}
@@ -21,7 +21,7 @@ same-length : tie.Need-same-length
 same-length c = search needs
 
 -- no refusal applies
-free : (c : tie.Else1) → let a = c .before .before .before .before .args in 0 ≡ firstOf (messageRefusals (state (now (a .t))) (a .m) released)
+free : (c : tie.Else1) → let a = c .before .before .before .before .args in 0 ≡ firstOf (messageRefusals (state (now (a .t))) (a .m) stateReleased)
 free c = sym (c .if1 .left) ∙ c .before .message-refusal .ensures
 
 -- what the indices below need

@@ -3,7 +3,7 @@ use borrow.Author.Tests.{not-true, not-false}
 use denote.Ref.{now}
 use Rattle.base.specs.Cases.{firstOf}
 use Rattle.table.specs.Words.{state}
-use Rattle.rules.specs.Form.{held}
+use Rattle.rules.specs.Form.{stateHeld}
 use Rattle.rules.specs.Steps.{messageRefusals, stepRelease}
 use Rattle.laws.specs.Allowed.{messageAllowed}
 use Rattle.laws.specs.Answering.{refused, granted}
@@ -22,7 +22,7 @@ same-length : tie.Need-same-length
 same-length c = search needs
 
 -- no refusal applies
-free : (c : tie.Else1) → let a = c .before .before .before .before .args in 0 ≡ firstOf (messageRefusals (state (now (a .t))) (a .m) held)
+free : (c : tie.Else1) → let a = c .before .before .before .before .args in 0 ≡ firstOf (messageRefusals (state (now (a .t))) (a .m) stateHeld)
 free c = sym (c .if1 .left) ∙ c .before .message-refusal .ensures
 
 -- what the indices below need

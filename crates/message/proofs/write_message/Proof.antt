@@ -1,6 +1,6 @@
 -- Six words are stored one by one, and the part after them comes back as the flat vector (headed).
 use Rattle.rules.specs.Vector.{flat}
-use Rattle.rules.specs.Steps.{message}
+use Rattle.rules.specs.Steps.{messageRecord}
 use Rattle.base.specs.Splice.{headed}
 use mathlib.Core.Path.{refl, _∙_}
 use mathlib.Core.List.{[], _∷_}
@@ -47,7 +47,7 @@ same-length : tie.Need-same-length
 same-length c = c .before .d .given .1 ∙ simp length-set
 
 returns : tie.Need-returns
-unfolding message
+unfolding messageRecord
 returns c =
     let s = c .before .before .before .before .before in
     rw (c .before .before .write-vector .ensures)
