@@ -30,33 +30,34 @@ extern "C" {
  * The steps. A letter is given by its ASCII code ('O' and so on), its numbers as a, b and c in the
  * order of its line; those that it hasn't are not looked at. Controllers count from 0, messages from 1.
  *
- *   letter  a  b  c
- *   'O'     n  k      open a house of n controllers (1 to 8), all with degree k (0 to n)
- *   'K'     c  k      set the degree of controller c to k
- *   'S'     s  r  p   send payload p (any word) from controller s to controller r
- *   'R'     m         release message m
- *   'D'     m         deliver message m at its receiver
- *   'L'     c  q      log the q oldest live intervals of controller c that are not stable
- *   'C'     c         checkpoint of controller c
- *   'T'     a  b      controller a tells controller b which of its intervals are stable
- *   'X'     c         crash of controller c
- *   'H'     b  a  t   controller b hears of the crash that ended incarnation t of controller a
+ *   letter  a           b         c
+ *   'O'     n           degree                 open a house of n controllers (1 to 8), degree 0 to n
+ *   'K'     controller  degree                 set its degree
+ *   'S'     sender      receiver  payload      send a payload (any word)
+ *   'R'     message                            release a message
+ *   'D'     message                            deliver a message at its receiver
+ *   'L'     controller  count                  log so many of its oldest live intervals not yet stable
+ *   'C'     controller                         take a checkpoint
+ *   'T'     owner       holder                 tell the holder which of the owner's intervals are stable
+ *   'X'     controller                         crash
+ *   'H'     hearer      crashed   incarnation  hear of the crash that ended that incarnation
  */
 
 /*
  * What goulvizad_step returns, and the values that it writes. Zeros follow them, up to the fifth word.
+ * A mask has 2 to the power c for each controller c that it names. Kept is the highest number that is kept.
  */
 enum {
     GOULVIZAD_DONE = 0,      /* no values: to O, K, L, C and T */
-    GOULVIZAD_SENT = 1,      /* m: the number given to the message */
-    GOULVIZAD_RELEASED = 2,  /* m, mask: let out; who could still revoke it, 2 to the power c for each */
-    GOULVIZAD_HELD = 3,      /* m, mask: kept back; more could revoke it than the sender's degree */
-    GOULVIZAD_DELIVERED = 4, /* m, t, x: the new interval is number x of incarnation t */
-    GOULVIZAD_DROPPED = 5,   /* m: it rests on what was lost */
-    GOULVIZAD_WAITS = 6,     /* m: not yet; its receiver has more to hear or to be told first */
-    GOULVIZAD_CRASHED = 7,   /* c, t, k, lost, replayed: incarnation t ended; numbers up to k are kept */
-    GOULVIZAD_HEARD = 8,     /* b: nothing to undo */
-    GOULVIZAD_ROLLED = 9,    /* b, k, undone, replayed: numbers up to k are kept */
+    GOULVIZAD_SENT = 1,      /* message: the number given to it */
+    GOULVIZAD_RELEASED = 2,  /* message, mask: let out; who could still revoke it */
+    GOULVIZAD_HELD = 3,      /* message, mask: kept back; who could revoke it, more than the degree */
+    GOULVIZAD_DELIVERED = 4, /* message, incarnation, number: of the new interval */
+    GOULVIZAD_DROPPED = 5,   /* message: it rests on what was lost */
+    GOULVIZAD_WAITS = 6,     /* message: not yet; its receiver has more to hear or to be told first */
+    GOULVIZAD_CRASHED = 7,   /* controller, ended incarnation, kept, lost, replayed */
+    GOULVIZAD_HEARD = 8,     /* hearer: nothing to undo */
+    GOULVIZAD_ROLLED = 9,    /* hearer, kept, undone, replayed */
     GOULVIZAD_REFUSED = 10,  /* number: one of the refusals below; no word of the table changed */
 
     /* These two are no answers. They change nothing, neither the table nor the value buffer. */
@@ -80,9 +81,9 @@ enum {
 
     /* The order of steps: */
     GOULVIZAD_STATE = 7,         /* release of a message not held, delivery of one not released */
-    GOULVIZAD_LOG_COUNT = 8,     /* q is 0, or above the live intervals that are not stable */
-    GOULVIZAD_NO_SUCH_CRASH = 9, /* no crash ended incarnation t of a, or t is above 15 */
-    GOULVIZAD_ALREADY_HEARD = 10, /* b has heard of that crash; a controller has heard its own */
+    GOULVIZAD_LOG_COUNT = 8,     /* the count is 0, or above the live intervals that are not stable */
+    GOULVIZAD_NO_SUCH_CRASH = 9, /* no crash ended that incarnation, or it is above 15 */
+    GOULVIZAD_ALREADY_HEARD = 10, /* the hearer has heard of it; a controller has heard its own */
 
     /* Too much used: */
     GOULVIZAD_MESSAGES_USED_UP = 11,    /* 128 messages were sent since the opening */

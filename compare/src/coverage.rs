@@ -2,6 +2,7 @@
 
 use reference::lines;
 use reference::machine::{Answer, Command};
+use reference::refusal::{self, Refusal};
 use reference::table::{Table, CONTROLLERS};
 use std::collections::BTreeSet;
 
@@ -19,21 +20,21 @@ const ANSWERS: [&str; 10] = [
     "waits",
 ];
 
-/// Which steps can be refused with each number, in the order of their letters.
-const REFUSED: [(u32, &str); 13] = [
-    (1, "CDHKLORSTX"),
-    (2, "CDHKLRSTX"),
-    (3, "CHKLSTX"),
-    (4, "DR"),
-    (5, "KO"),
-    (6, "ST"),
-    (7, "DR"),
-    (8, "L"),
-    (9, "H"),
-    (10, "H"),
-    (11, "S"),
-    (12, "DX"),
-    (13, "HX"),
+/// Which steps can be given each refusal, in the order of their letters.
+const REFUSED: [(Refusal, &str); 13] = [
+    (refusal::LENGTH, "CDHKLORSTX"),
+    (refusal::FORM, "CDHKLRSTX"),
+    (refusal::CONTROLLER, "CHKLSTX"),
+    (refusal::MESSAGE, "DR"),
+    (refusal::DEGREE, "KO"),
+    (refusal::SAME_CONTROLLER, "ST"),
+    (refusal::STATE, "DR"),
+    (refusal::LOG_COUNT, "L"),
+    (refusal::NO_SUCH_CRASH, "H"),
+    (refusal::ALREADY_HEARD, "H"),
+    (refusal::MESSAGES_USED_UP, "S"),
+    (refusal::PLACES_USED_UP, "DX"),
+    (refusal::INCARNATIONS_USED_UP, "HX"),
 ];
 
 /// How far a house went.
@@ -87,7 +88,7 @@ pub struct Seen {
     /// The answers but the refusals, by their first words.
     answers: BTreeSet<String>,
     /// The refusals, each with the letter of its step.
-    refusals: BTreeSet<(u32, char)>,
+    refusals: BTreeSet<(Refusal, char)>,
     /// How far the houses went.
     pub extent: Extent,
 }
@@ -122,23 +123,23 @@ impl Seen {
         self
     }
 
-    /// Every answer was given, and every refusal from this number on, each to every step it can be
-    /// given to.
+    /// Every answer was given, and every refusal from this one on, each to every step it can be given
+    /// to.
     ///
     /// # Panics
     /// If one is missing.
-    pub fn assert_all(&self, first_refusal: u32) {
+    pub fn assert_all(&self, first: Refusal) {
         assert!(self.answers.iter().eq(&ANSWERS), "{:?}", self.answers);
-        for (number, letters) in REFUSED {
-            if number >= first_refusal {
-                assert_eq!(self.refused(number), letters, "refused {number}");
+        for (refusal, letters) in REFUSED {
+            if refusal >= first {
+                assert_eq!(self.refused(refusal), letters, "refused {refusal}");
             }
         }
     }
 
-    /// The letters of the steps that were refused with this number.
-    pub fn refused(&self, number: u32) -> String {
-        let with_number = self.refusals.iter().filter(|(seen, _)| *seen == number);
-        with_number.map(|(_, letter)| letter).collect()
+    /// The letters of the steps that were refused so.
+    pub fn refused(&self, refusal: Refusal) -> String {
+        let refused = self.refusals.iter().filter(|(seen, _)| *seen == refusal);
+        refused.map(|(_, letter)| letter).collect()
     }
 }

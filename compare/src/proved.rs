@@ -4,10 +4,36 @@ use reference::machine::{Answer, Command};
 
 /// The words of a value buffer.
 pub const VALUES: usize = 5;
-/// The number of a call whose letter is no step's.
-pub const UNKNOWN_LETTER: u32 = 11;
-/// The number of a call whose value buffer hasn't [`VALUES`] words.
-pub const WRONG_VALUES: u32 = 12;
+
+/// What a call returns, by the names of the header.
+pub mod returned {
+    /// No values.
+    pub const DONE: u32 = 0;
+    /// The message.
+    pub const SENT: u32 = 1;
+    /// The message and the mask.
+    pub const RELEASED: u32 = 2;
+    /// The message and the mask.
+    pub const HELD: u32 = 3;
+    /// The message, and the incarnation and number of the new interval.
+    pub const DELIVERED: u32 = 4;
+    /// The message.
+    pub const DROPPED: u32 = 5;
+    /// The message.
+    pub const WAITS: u32 = 6;
+    /// The controller, the ended incarnation, the kept number, how many were lost and are replayed.
+    pub const CRASHED: u32 = 7;
+    /// The hearer.
+    pub const HEARD: u32 = 8;
+    /// The hearer, the kept number, how many were undone and are replayed.
+    pub const ROLLED: u32 = 9;
+    /// The number of the refusal.
+    pub const REFUSED: u32 = 10;
+    /// No answer: the letter is no step's.
+    pub const UNKNOWN_LETTER: u32 = 11;
+    /// No answer: the value buffer hasn't [`VALUES`](super::VALUES) words.
+    pub const WRONG_VALUES: u32 = 12;
+}
 
 #[link(name = "goulvizad", kind = "static")]
 extern "C" {
@@ -111,32 +137,32 @@ pub fn step(table: &mut [u32], command: Command) -> Answer {
 /// The answer of this number with these values.
 fn answer(number: u32, values: [u32; VALUES]) -> Option<Answer> {
     let answer = match (number, values) {
-        (0, [0, 0, 0, 0, 0]) => Answer::Done,
-        (1, [message, 0, 0, 0, 0]) => Answer::Sent { message },
-        (2, [message, mask, 0, 0, 0]) => Answer::Released { message, mask },
-        (3, [message, mask, 0, 0, 0]) => Answer::Held { message, mask },
-        (4, [message, incarnation, number, 0, 0]) => Answer::Delivered {
+        (returned::DONE, [0, 0, 0, 0, 0]) => Answer::Done,
+        (returned::SENT, [message, 0, 0, 0, 0]) => Answer::Sent { message },
+        (returned::RELEASED, [message, mask, 0, 0, 0]) => Answer::Released { message, mask },
+        (returned::HELD, [message, mask, 0, 0, 0]) => Answer::Held { message, mask },
+        (returned::DELIVERED, [message, incarnation, number, 0, 0]) => Answer::Delivered {
             message,
             incarnation,
             number,
         },
-        (5, [message, 0, 0, 0, 0]) => Answer::Dropped { message },
-        (6, [message, 0, 0, 0, 0]) => Answer::Waits { message },
-        (7, [controller, incarnation, kept, lost, replayed]) => Answer::Crashed {
+        (returned::DROPPED, [message, 0, 0, 0, 0]) => Answer::Dropped { message },
+        (returned::WAITS, [message, 0, 0, 0, 0]) => Answer::Waits { message },
+        (returned::CRASHED, [controller, incarnation, kept, lost, replayed]) => Answer::Crashed {
             controller,
             incarnation,
             kept,
             lost,
             replayed,
         },
-        (8, [controller, 0, 0, 0, 0]) => Answer::Heard { controller },
-        (9, [controller, kept, undone, replayed, 0]) => Answer::Rolled {
+        (returned::HEARD, [controller, 0, 0, 0, 0]) => Answer::Heard { controller },
+        (returned::ROLLED, [controller, kept, undone, replayed, 0]) => Answer::Rolled {
             controller,
             kept,
             undone,
             replayed,
         },
-        (10, [number, 0, 0, 0, 0]) => Answer::Refused { number },
+        (returned::REFUSED, [number, 0, 0, 0, 0]) => Answer::Refused { number },
         _ => return None,
     };
     Some(answer)

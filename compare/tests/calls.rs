@@ -2,7 +2,8 @@
 //! aren't looked at, and what stands in the values.
 
 use compare::effort;
-use compare::proved::{call, Call, UNKNOWN_LETTER, VALUES, WRONG_VALUES};
+use compare::proved::returned::{DONE, REFUSED, UNKNOWN_LETTER, WRONG_VALUES};
+use compare::proved::{call, Call, VALUES};
 use reference::generate::{in_form_table, senseless, wrong_length, Profile, Random, Walk};
 use reference::lines;
 use reference::machine::{step, Answer, Command};
@@ -30,15 +31,15 @@ const NAMES: [&str; 11] = [
 const UNTOUCHED: u32 = 0xA5A5_A5A5;
 
 /// A call that must give this number, or one of these, and change nothing.
-fn assert_rejected(words: &[u32], call_of: Call, values: usize, numbers: &[u32]) {
+fn assert_rejected(words: &[u32], asked: Call, values: usize, numbers: &[u32]) {
     let mut table = words.to_vec();
     let mut values = vec![UNTOUCHED; values];
-    let given = call(&mut table, call_of.letter, call_of.numbers, &mut values);
-    let place = || format!("{call_of:?} with {} values: {given}", values.len());
-    assert!(numbers.contains(&given), "{}", place());
-    assert!(table == words, "{}: wrote to the table", place());
+    let given = call(&mut table, asked.letter, asked.numbers, &mut values);
+    let label = || format!("{asked:?} with {} values: {given}", values.len());
+    assert!(numbers.contains(&given), "{}", label());
+    assert!(table == words, "{}: wrote to the table", label());
     let untouched = values.iter().all(|&value| value == UNTOUCHED);
-    assert!(untouched, "{}: wrote to the values", place());
+    assert!(untouched, "{}: wrote to the values", label());
 }
 
 /// A house in which much can be done, one that was never opened, and a table too short.
@@ -73,15 +74,15 @@ fn other_letters_are_unknown() {
     assert!(letters.len() > 1_400);
     for words in tables() {
         for &letter in &letters {
-            let call_of = Call {
+            let asked = Call {
                 letter,
                 numbers: [1, 0, 1],
                 used: 3,
             };
-            assert_rejected(&words, call_of, VALUES, &[UNKNOWN_LETTER]);
+            assert_rejected(&words, asked, VALUES, &[UNKNOWN_LETTER]);
             // Which of the two is told where both apply is left open.
             let both = [UNKNOWN_LETTER, WRONG_VALUES];
-            assert_rejected(&words, call_of, VALUES - 1, &both);
+            assert_rejected(&words, asked, VALUES - 1, &both);
         }
     }
 }
@@ -92,16 +93,16 @@ fn other_value_buffers_are_rejected() {
     for words in tables() {
         for values in [0, 1, 2, 3, 4, 6, 7, 8, 10, 100, WORDS] {
             for _ in 0..20 {
-                let call_of = senseless(&mut random).into();
-                assert_rejected(&words, call_of, values, &[WRONG_VALUES]);
+                let asked = senseless(&mut random).into();
+                assert_rejected(&words, asked, values, &[WRONG_VALUES]);
             }
             for &letter in LETTERS {
-                let call_of = Call {
+                let asked = Call {
                     letter: u32::from(letter),
                     numbers: [1, 0, 0],
                     used: 3,
                 };
-                assert_rejected(&words, call_of, values, &[WRONG_VALUES]);
+                assert_rejected(&words, asked, values, &[WRONG_VALUES]);
             }
         }
     }
@@ -122,19 +123,19 @@ fn listed(answer: Answer) -> (u32, [u32; VALUES]) {
 }
 
 /// One call, and the number and values that it gives.
-fn told(table: &mut [u32], call_of: Call) -> (u32, [u32; VALUES]) {
+fn told(table: &mut [u32], asked: Call) -> (u32, [u32; VALUES]) {
     let mut values = [UNTOUCHED; VALUES];
-    let number = call(table, call_of.letter, call_of.numbers, &mut values);
+    let number = call(table, asked.letter, asked.numbers, &mut values);
     (number, values)
 }
 
 /// The step with other numbers in the places where it has none.
 fn with_idle_numbers(random: &mut Random, command: Command) -> Call {
-    let mut call_of = Call::from(command);
-    for number in &mut call_of.numbers[call_of.used..] {
+    let mut asked = Call::from(command);
+    for number in &mut asked.numbers[asked.used..] {
         *number = random.word();
     }
-    call_of
+    asked
 }
 
 /// Values are those of the answer's line, then zeros; numbers that a step hasn't are not looked at.
@@ -147,15 +148,15 @@ fn values_are_those_of_the_line() {
             let mut walk = Walk::new(seed, profile);
             let mut table = walk.table().to_vec();
             while let Some((command, answer)) = walk.next() {
-                let call_of = with_idle_numbers(&mut random, command);
-                let (number, values) = told(&mut table, call_of);
-                assert_eq!((number, values), listed(answer), "{call_of:?}");
-                assert!(table == walk.table(), "{call_of:?}");
+                let asked = with_idle_numbers(&mut random, command);
+                let (number, values) = told(&mut table, asked);
+                assert_eq!((number, values), listed(answer), "{asked:?}");
+                assert!(table == walk.table(), "{asked:?}");
                 numbers.insert(number);
             }
         }
     }
-    assert!(numbers.into_iter().eq(0..=10));
+    assert!(numbers.into_iter().eq(DONE..=REFUSED));
 }
 
 /// A table and values lent out of larger buffers: what stands beside them stays.
@@ -169,11 +170,11 @@ fn nothing_beside_the_buffers_is_written() {
         let margin = vec![UNTOUCHED; MARGIN];
         let mut words = [&margin[..], &expected, &margin].concat();
         let mut values = [UNTOUCHED; 3 * VALUES];
-        let call_of = Call::from(command);
+        let asked = Call::from(command);
         let number = call(
             &mut words[MARGIN..][..WORDS],
-            call_of.letter,
-            call_of.numbers,
+            asked.letter,
+            asked.numbers,
             &mut values[VALUES..][..VALUES],
         );
         let listed = listed(step(&mut expected, command));

@@ -7,6 +7,7 @@ use compare::effort;
 use reference::demand::Judge;
 use reference::generate::{Profile, Walk};
 use reference::machine::Fault;
+use reference::refusal;
 use std::thread;
 
 /// How many lists of each profile.
@@ -22,7 +23,7 @@ const LISTS: [(&Profile, u64); 6] = [
 fn compare_list(profile: &'static Profile, seed: u64, seen: &mut Seen) {
     let mut judge = Judge::default();
     let together = beside(Walk::new(seed, profile), |command, answer, table| {
-        judge.record(command, answer);
+        judge.feed(command, answer);
         seen.note(command, answer);
         seen.note_extent(table);
     });
@@ -48,7 +49,7 @@ fn the_machines_agree_on_every_step() {
         .fold(Seen::default(), Seen::join);
     assert!(seen.steps > 300_000, "only {} steps", seen.steps);
     // No list is lent a table that is too short or, after its opening, not in form.
-    seen.assert_all(3);
+    seen.assert_all(refusal::CONTROLLER);
     assert_eq!(seen.extent, Extent::UTMOST);
 }
 

@@ -8,6 +8,7 @@ use reference::generate::{
     damaged, in_form_table, noise, senseless, wrong_length, Profile, Random, Walk,
 };
 use reference::machine::Command;
+use reference::refusal;
 use reference::table::{
     self, state, Table, CONTROLLERS, INCARNATIONS, LAST_MESSAGE, LAST_NUMBER, WORDS,
 };
@@ -132,7 +133,7 @@ fn compare_tables(seed: u64, tables: u64, lent: impl Fn(&mut Random) -> Vec<u32>
 fn tables_in_form() {
     let seen = compare_tables(1, 4_000, in_form_table);
     assert!(seen.steps >= 80_000);
-    seen.assert_all(3);
+    seen.assert_all(refusal::CONTROLLER);
 }
 
 #[test]
@@ -140,7 +141,7 @@ fn damaged_tables() {
     let seen = compare_tables(2, 3_000, |random| damaged(random).0);
     assert!(seen.steps >= 60_000);
     // Many of them are in form still.
-    seen.assert_all(2);
+    seen.assert_all(refusal::FORM);
 }
 
 #[test]
@@ -150,9 +151,9 @@ fn tables_of_another_length_and_noise() {
         _ => wrong_length(random),
     });
     assert!(seen.steps >= 6_000);
-    assert_eq!(seen.refused(1), "CDHKLORSTX");
+    assert_eq!(seen.refused(refusal::LENGTH), "CDHKLORSTX");
     // An opening doesn't look at the form.
-    assert_eq!(seen.refused(2), "CDHKLRSTX");
+    assert_eq!(seen.refused(refusal::FORM), "CDHKLRSTX");
 }
 
 /// Lengths near the right one, near none, and at powers of two, of a table in form before it was cut.
@@ -172,7 +173,7 @@ fn every_wrong_length_is_refused() {
         }
         assert!(!in_form(&whole[..length]), "{length} words");
     }
-    assert_eq!(seen.refused(1), "CDHKLORSTX");
+    assert_eq!(seen.refused(refusal::LENGTH), "CDHKLORSTX");
     assert!(in_form(&whole[..WORDS]));
 }
 

@@ -64,7 +64,7 @@ pub enum Breach {
 pub fn check(list: &[(Command, Answer)]) -> Vec<Breach> {
     let mut judge = Judge::default();
     for &(command, answer) in list {
-        judge.record(command, answer);
+        judge.feed(command, answer);
     }
     judge.finish()
 }
@@ -94,7 +94,7 @@ impl Judge {
     }
 
     /// Takes the next step with its answer.
-    pub fn record(&mut self, command: Command, answer: Answer) {
+    pub fn feed(&mut self, command: Command, answer: Answer) {
         let read = match (command, answer) {
             (Command::Open { .. }, Answer::Refused { .. }) => Ok(()),
             (Command::Open { n, degree }, _) => self.open(n, degree, answer),
@@ -130,14 +130,14 @@ impl Judge {
         match (command, answer) {
             (Command::Hear { hearer, .. }, Answer::Heard { .. } | Answer::Rolled { .. }) => {
                 let live = live_of(history, hearer)?;
-                history.record(command, answer)?;
+                history.feed(command, answer)?;
                 self.judge_hearing(hearer as usize, &live);
             }
             (Command::Release { .. }, Answer::Released { message, mask }) => {
-                history.record(command, answer)?;
+                history.feed(command, answer)?;
                 self.judge_release(message, mask);
             }
-            _ => history.record(command, answer)?,
+            _ => history.feed(command, answer)?,
         }
         Ok(())
     }
@@ -171,11 +171,11 @@ impl Judge {
     /// c whose 2 to the power c is in the mask."
     fn judge_release(&mut self, message: u32, mask: u32) {
         let Some(history) = &self.history else { return };
-        let Some(record) = history.messages().get(&message) else {
+        let Some(sent) = history.messages().get(&message) else {
             return;
         };
         let intervals = history.intervals();
-        let sending = &intervals[record.sending_interval];
+        let sending = &intervals[sent.sending_interval];
         let degree = history.controllers()[sending.owner].degree;
         let at_risk = sending.rests_on.iter();
         let at_risk = at_risk.filter(|&id| !intervals[id].stable).collect();
@@ -202,11 +202,11 @@ impl Judge {
             return;
         };
         let position = self.position;
-        for (controller, record) in history.controllers().iter().enumerate() {
-            let orphans = history.orphans(controller, &record.chain);
+        for (c, controller) in history.controllers().iter().enumerate() {
+            let orphans = history.orphans(c, &controller.chain);
             let breach = Breach::LiveOrphan {
                 position,
-                controller,
+                controller: c,
             };
             self.breaches.extend(orphans.iter().map(|_| breach));
         }
@@ -231,6 +231,7 @@ impl Release {
 }
 
 fn live_of(history: &History, controller: u32) -> Result<Vec<IntervalId>, Unreadable> {
-    let record = history.controllers().get(controller as usize);
-    record.map(|record| record.chain.clone()).ok_or(Unreadable)
+    let controller = history.controllers().get(controller as usize);
+    let chain = controller.map(|controller| controller.chain.clone());
+    chain.ok_or(Unreadable)
 }

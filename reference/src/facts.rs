@@ -86,10 +86,10 @@ impl Facts<'_> {
 
     fn messages_agree(&self) -> bool {
         self.table.sent() as usize == self.history.messages().len()
-            && self.history.messages().iter().all(|(&message, known)| {
+            && self.history.messages().iter().all(|(&message, sent)| {
                 let record = self.table.message(message);
-                let sending = self.interval(known.sending_interval);
-                record.receiver as usize == known.receiver
+                let sending = self.interval(sent.sending_interval);
+                record.receiver as usize == sent.receiver
                     && record.sender as usize == sending.owner
                     && Pair::new(record.incarnation, record.number) == name_of(sending)
             })
@@ -106,8 +106,9 @@ impl Facts<'_> {
 
     /// Nobody knows more of an owner than itself, and what it knows of itself is stable.
     fn known_is_stable(&self) -> bool {
-        let owners_know_best = self.each_incarnation(|holder, owner, t| {
-            self.known[holder].word(owner, t) <= self.known[owner].word(owner, t)
+        let owners_know_best = self.each_incarnation(|holder, owner, incarnation| {
+            let own = self.known[owner].word(owner, incarnation);
+            self.known[holder].word(owner, incarnation) <= own
         });
         let known_are_stable = self.history.intervals().iter().all(|interval| {
             let known = self.known[interval.owner].word(interval.owner, interval.incarnation);
@@ -119,24 +120,27 @@ impl Facts<'_> {
         owners_know_best && known_are_stable && stable_are_known
     }
 
-    /// b's end word for a and t is not 0 exactly when b has heard that crash, and then it is a's own.
+    /// A holder's end word for an owner's incarnation is not 0 exactly when the holder has heard of the
+    /// crash that ended it, and then it is the owner's own.
     fn ends_are_heard(&self) -> bool {
-        self.each_incarnation(|holder, controller, incarnation| {
-            let end = self.ends[holder].word(controller, incarnation);
+        self.each_incarnation(|holder, owner, incarnation| {
+            let end = self.ends[holder].word(owner, incarnation);
             let heard = self.history.controllers()[holder].heard.contains(&Crash {
-                controller,
+                controller: owner,
                 incarnation,
             });
-            let own = self.ends[controller].word(controller, incarnation);
+            let own = self.ends[owner].word(owner, incarnation);
             heard == (end != 0) && (end == 0 || end == own)
         })
     }
 
+    /// Whether it holds of every holder, owner and incarnation of the owner.
     fn each_incarnation(&self, holds: impl Fn(usize, usize, u32) -> bool) -> bool {
         let n = self.history.controllers().len();
-        (0..n).all(|holder| {
-            (0..n).all(|owner| (0..INCARNATIONS as u32).all(|t| holds(holder, owner, t)))
-        })
+        let holds_of = |holder, owner| {
+            (0..INCARNATIONS as u32).all(|incarnation| holds(holder, owner, incarnation))
+        };
+        (0..n).all(|holder| (0..n).all(|owner| holds_of(holder, owner)))
     }
 
     /// An interval is lost exactly when its owner's end word for its incarnation is exceeded, in the
@@ -183,9 +187,9 @@ impl Facts<'_> {
     }
 
     fn message_vectors_fit(&self) -> bool {
-        self.history.messages().iter().all(|(&message, known)| {
+        self.history.messages().iter().all(|(&message, sent)| {
             let vector = self.table.message(message).vector;
-            self.vector_fits(&vector, known.sending_interval)
+            self.vector_fits(&vector, sent.sending_interval)
         })
     }
 

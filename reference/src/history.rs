@@ -25,9 +25,9 @@ pub struct Crash {
 pub struct Interval {
     /// Whose interval it is.
     pub owner: usize,
-    /// Its incarnation t.
+    /// Its incarnation.
     pub incarnation: u32,
-    /// Its number x.
+    /// Its number.
     pub number: u32,
     /// "An interval *rests on* itself, on what the live interval just before it rests on when it
     /// began, and, if a delivery began it, on what the sending interval rests on."
@@ -133,9 +133,9 @@ impl History {
         Ok(history)
     }
 
-    /// Takes the next step with its answer. An opening that was done is the beginning of another
-    /// history, and unreadable here.
-    pub fn record(&mut self, command: Command, answer: Answer) -> Result<(), Unreadable> {
+    /// "The history is fed each step, in order, with its numbers and its answer." An opening that was
+    /// done is the beginning of another history, and unreadable here.
+    pub fn feed(&mut self, command: Command, answer: Answer) -> Result<(), Unreadable> {
         if !fits(command, answer) {
             return Err(Unreadable);
         }
@@ -153,9 +153,9 @@ impl History {
                 self.message(message).map(|_| ())
             }
             (Command::Deliver { message }, Answer::Delivered { .. }) => self.deliver(message),
-            (Command::Log { controller, count }, _) => self.make_stable(controller, count as usize),
+            (Command::Log { controller, count }, _) => self.log(controller, count as usize),
             // "C: all of them do."
-            (Command::Checkpoint { controller }, _) => self.make_stable(controller, usize::MAX),
+            (Command::Checkpoint { controller }, _) => self.log(controller, usize::MAX),
             (Command::Crash { controller }, _) => self.crash(controller),
             (
                 Command::Hear {
@@ -192,11 +192,11 @@ impl History {
 
     /// "S: message m for r was sent from the newest live interval of s."
     fn send(&mut self, sender: u32, receiver: u32, message: u32) -> Result<(), Unreadable> {
-        let record = Message {
+        let sent = Message {
             receiver: self.controller(receiver)?,
             sending_interval: self.newest(self.controller(sender)?)?,
         };
-        self.messages.insert(message, record);
+        self.messages.insert(message, sent);
         Ok(())
     }
 
@@ -215,15 +215,19 @@ impl History {
     }
 
     /// "L: the q oldest live ones of c not yet stable become stable."
-    fn make_stable(&mut self, controller: u32, count: usize) -> Result<(), Unreadable> {
+    fn log(&mut self, controller: u32, count: usize) -> Result<(), Unreadable> {
         let c = self.controller(controller)?;
-        let volatile = self.volatile(c);
-        for &id in volatile.iter().take(count) {
-            self.intervals[id].stable = true;
-        }
+        self.make_stable(c, count);
         Ok(())
     }
 
+    fn make_stable(&mut self, c: usize, count: usize) {
+        for id in self.volatile(c).into_iter().take(count) {
+            self.intervals[id].stable = true;
+        }
+    }
+
+    /// The live intervals of c that are not stable, the oldest first.
     fn volatile(&self, c: usize) -> Vec<IntervalId> {
         let chain = self.controllers[c].chain.iter().copied();
         chain.filter(|&id| !self.intervals[id].stable).collect()
@@ -256,20 +260,20 @@ impl History {
         incarnation: u32,
         answer: Answer,
     ) -> Result<(), Unreadable> {
-        let b = self.controller(hearer)?;
+        let hearer = self.controller(hearer)?;
         let crash = Crash {
             controller: self.controller(crashed)?,
             incarnation,
         };
-        self.controllers[b].heard.insert(crash);
+        self.controllers[hearer].heard.insert(crash);
         let Answer::Rolled { kept, .. } = answer else {
             return Ok(());
         };
         let intervals = &self.intervals;
-        let chain = &mut self.controllers[b].chain;
+        let chain = &mut self.controllers[hearer].chain;
         chain.retain(|&id| intervals[id].number <= kept);
-        self.make_stable(hearer, usize::MAX)?;
-        self.start_anew(b)
+        self.make_stable(hearer, usize::MAX);
+        self.start_anew(hearer)
     }
 
     /// "After X and `rolled` a stable interval joins: incarnation plus 1, number one above the highest

@@ -4,6 +4,7 @@
 //! From the bottom up:
 //! - [`vector`]: dependency vectors; known stable, condemned, merged.
 //! - [`table`]: the words of the lent table, and when a table is in form.
+//! - [`refusal`]: the refusals by name.
 //! - [`machine`]: the step function, and planted faults.
 //! - [`lines`]: the text lines of the program `house`.
 //! - [`history`]: the history of a house, read off the steps and their answers alone.
@@ -19,5 +20,6 @@ pub mod generate;
 pub mod history;
 pub mod lines;
 pub mod machine;
+pub mod refusal;
 pub mod table;
 pub mod vector;

@@ -5,6 +5,8 @@ mod rules;
 
 pub use fault::Fault;
 
+use crate::refusal::Refusal;
+
 /// A step to be done, with its numbers in the order of the program's lines.
 #[derive(Clone, Copy, Debug, PartialEq, Eq)]
 pub enum Command {
@@ -53,7 +55,7 @@ pub enum Command {
         /// Who takes it.
         controller: u32,
     },
-    /// `T a b`: tell, a logging progress notification from a to b.
+    /// `T a b`: tell, that is, send a logging progress notification.
     Tell {
         /// Who tells of its own stable intervals.
         owner: u32,
@@ -150,48 +152,9 @@ pub enum Answer {
     },
     /// `refused number`.
     Refused {
-        /// The number of a [`Refusal`].
-        number: u32,
+        /// One of [`refusal`](crate::refusal).
+        number: Refusal,
     },
-}
-
-/// Why a step is refused, with its number. "Where several apply, the lowest number is given."
-#[derive(Clone, Copy, Debug, PartialEq, Eq)]
-pub enum Refusal {
-    /// "Length is not 15,152."
-    Length = 1,
-    /// "Table not in form (not looked at by open)."
-    Form = 2,
-    /// "Controller not below n."
-    Controller = 3,
-    /// "Message number 0 or above the messages sent."
-    Message = 4,
-    /// "n not 1 to 8, or a degree above n."
-    Degree = 5,
-    /// "The two controllers of S or T are equal."
-    SameController = 6,
-    /// "Release of a message not held, delivery of one not released."
-    State = 7,
-    /// "q is 0 or above live minus stable."
-    LogCount = 8,
-    /// "a's own end word for t is 0, or t above 15."
-    NoSuchCrash = 9,
-    /// "b's end word for a and t isn't 0."
-    AlreadyHeard = 10,
-    /// "128 messages were sent since opening."
-    MessagesUsedUp = 11,
-    /// "Delivery with 64 live, unless it drops or waits; crash with 64 stable."
-    PlacesUsedUp = 12,
-    /// "Crash, or a hearing that must undo, in incarnation 15."
-    IncarnationsUsedUp = 13,
-}
-
-impl From<Refusal> for Answer {
-    fn from(refusal: Refusal) -> Self {
-        Answer::Refused {
-            number: refusal as u32,
-        }
-    }
 }
 
 /// Does one step on a lent table of any length and content, or refuses it and changes no word.
@@ -202,6 +165,6 @@ pub fn step(table: &mut [u32], command: Command) -> Answer {
 /// The step of a machine with a planted fault; [`Fault::None`] is the sound one.
 pub fn step_with(fault: Fault, table: &mut [u32], command: Command) -> Answer {
     fault::around(fault, table, command, |table| {
-        rules::perform(fault, table, command).unwrap_or_else(Answer::from)
+        rules::perform(fault, table, command).unwrap_or_else(|number| Answer::Refused { number })
     })
 }

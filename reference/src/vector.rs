@@ -11,9 +11,9 @@ use std::array;
 /// The derived order is lexicographic. No sound rule uses it.
 #[derive(Clone, Copy, Debug, Default, PartialEq, Eq, PartialOrd, Ord)]
 pub struct Pair {
-    /// The incarnation t of the interval.
+    /// The incarnation of the interval.
     pub incarnation: u32,
-    /// The number x of the interval; 0 only in the empty pair.
+    /// The number of the interval; 0 only in the empty pair.
     pub number: u32,
 }
 
@@ -21,7 +21,7 @@ impl Pair {
     /// The pair that names no interval.
     pub const EMPTY: Pair = Pair::new(0, 0);
 
-    /// The pair (t, x).
+    /// The pair of an interval.
     pub const fn new(incarnation: u32, number: u32) -> Self {
         Pair {
             incarnation,
@@ -61,14 +61,14 @@ impl Row {
             .unwrap_or(0)
     }
 
-    /// Puts down a word. An incarnation that can't exist has no place and is passed over.
+    /// Puts down a word. An incarnation that can't exist has none and is passed over.
     pub fn set(&mut self, owner: usize, incarnation: u32, word: u32) {
-        if let Some(place) = self
+        if let Some(old) = self
             .0
             .get_mut(owner)
             .and_then(|words| words.get_mut(incarnation as usize))
         {
-            *place = word;
+            *old = word;
         }
     }
 

@@ -3,6 +3,7 @@
 use reference::generate::{damaged, in_form_table, senseless, wrong_length, Profile, Random, Walk};
 use reference::lines;
 use reference::machine::{step, Answer, Command};
+use reference::refusal::{self, Refusal};
 use reference::table::Table;
 use std::collections::BTreeSet;
 
@@ -10,7 +11,7 @@ use std::collections::BTreeSet;
 #[derive(Default)]
 struct Seen {
     answers: BTreeSet<String>,
-    refusals: BTreeSet<(u32, char)>,
+    refusals: BTreeSet<(Refusal, char)>,
 }
 
 impl Seen {
@@ -28,10 +29,10 @@ impl Seen {
         }
     }
 
-    /// The steps that were refused with this number.
-    fn refused(&self, number: u32) -> String {
-        let with_number = self.refusals.iter().filter(|(seen, _)| *seen == number);
-        with_number.map(|(_, letter)| letter).collect()
+    /// The letters of the steps that were refused so.
+    fn refused(&self, refusal: Refusal) -> String {
+        let refused = self.refusals.iter().filter(|(seen, _)| *seen == refusal);
+        refused.map(|(_, letter)| letter).collect()
     }
 }
 
@@ -48,19 +49,19 @@ const ANSWERS: [&str; 10] = [
     "waits",
 ];
 
-/// Which steps are refused with each number from 3 on, in the order of their letters.
-const REFUSED: [(u32, &str); 11] = [
-    (3, "CHKLSTX"),
-    (4, "DR"),
-    (5, "KO"),
-    (6, "ST"),
-    (7, "DR"),
-    (8, "L"),
-    (9, "H"),
-    (10, "H"),
-    (11, "S"),
-    (12, "DX"),
-    (13, "HX"),
+/// Which steps can be refused for each reason but the host's, in the order of their letters.
+const REFUSED: [(Refusal, &str); 11] = [
+    (refusal::CONTROLLER, "CHKLSTX"),
+    (refusal::MESSAGE, "DR"),
+    (refusal::DEGREE, "KO"),
+    (refusal::SAME_CONTROLLER, "ST"),
+    (refusal::STATE, "DR"),
+    (refusal::LOG_COUNT, "L"),
+    (refusal::NO_SUCH_CRASH, "H"),
+    (refusal::ALREADY_HEARD, "H"),
+    (refusal::MESSAGES_USED_UP, "S"),
+    (refusal::PLACES_USED_UP, "DX"),
+    (refusal::INCARNATIONS_USED_UP, "HX"),
 ];
 
 #[test]
@@ -89,8 +90,8 @@ fn lists_reach_everything() {
         }
     }
     assert!(seen.answers.iter().eq(&ANSWERS), "{:?}", seen.answers);
-    for (number, letters) in REFUSED {
-        assert_eq!(seen.refused(number), letters, "refused {number}");
+    for (refusal, letters) in REFUSED {
+        assert_eq!(seen.refused(refusal), letters, "refused {refusal}");
     }
     assert_eq!((incarnation, live, sent), (15, 64, 128));
     assert!(sizes.iter().eq(&[1, 2, 3, 4, 5, 6, 7, 8]), "{sizes:?}");
@@ -114,9 +115,9 @@ fn lent_tables_reach_everything() {
         }
     }
     assert!(seen.answers.iter().eq(&ANSWERS), "{:?}", seen.answers);
-    assert_eq!(seen.refused(1), "CDHKLORSTX");
-    assert_eq!(seen.refused(2), "CDHKLRSTX");
-    for (number, letters) in REFUSED {
-        assert_eq!(seen.refused(number), letters, "refused {number}");
+    assert_eq!(seen.refused(refusal::LENGTH), "CDHKLORSTX");
+    assert_eq!(seen.refused(refusal::FORM), "CDHKLRSTX");
+    for (refusal, letters) in REFUSED {
+        assert_eq!(seen.refused(refusal), letters, "refused {refusal}");
     }
 }

@@ -4,6 +4,7 @@
 use reference::demand::{check, Breach};
 use reference::lines::{parse, render, run};
 use reference::machine::{Answer, Command};
+use reference::refusal;
 
 /// Steps with the sound machine's answers.
 fn sound(script: &str) -> Vec<(Command, Answer)> {
@@ -179,7 +180,9 @@ fn an_opening_begins_a_new_list() {
     assert_eq!(alone.len(), 2);
     list.push((
         Command::Open { n: 9, degree: 0 },
-        Answer::Refused { number: 5 },
+        Answer::Refused {
+            number: refusal::DEGREE,
+        },
     ));
     list.push((Command::Open { n: 3, degree: 3 }, Answer::Done));
     list.push((Command::Crash { controller: 2 }, crashed(2)));

@@ -64,7 +64,7 @@ fn inspect(fault: Fault, profile: &'static Profile, seed: u64, found: &mut Found
     let mut sound = walk.table().to_vec();
     let mut differs = false;
     while let Some((command, answer)) = walk.next() {
-        judge.record(command, answer);
+        judge.feed(command, answer);
         differs |= step(&mut sound, command) != answer || sound != walk.table();
         sound.copy_from_slice(walk.table());
     }

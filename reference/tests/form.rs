@@ -2,6 +2,7 @@
 
 use reference::generate::{damaged, in_form_table, noise, wrong_length, Profile, Random, Walk};
 use reference::machine::{step, Answer, Command};
+use reference::refusal;
 use reference::table::{in_form, WORDS};
 use std::ops::RangeInclusive;
 
@@ -15,27 +16,27 @@ fn range(words: &[u32], position: usize) -> RangeInclusive<u32> {
         1 => 0..=128,
         2..=15 => 0..=0,
         16..=47 => {
-            let record = position - 16;
-            let live = words[position - record % 4 + 2];
+            let (c, field) = ((position - 16) / 4, (position - 16) % 4);
+            let live = words[16 + 4 * c + 2];
             let ranges = [0..=n, 0..=15, 1..=64, 1..=live];
-            only_for(is_controller(record / 4), ranges[record % 4].clone())
+            only_for(is_controller(c), ranges[field].clone())
         }
         48..=2_095 => {
-            let record = (position - 48) % 1_024;
-            let (holder, owner) = (record / 128, record / 16 % 8);
+            let offset = (position - 48) % 1_024;
+            let (holder, owner) = (offset / 128, offset / 16 % 8);
             only_for(is_controller(holder) && is_controller(owner), 0..=64)
         }
         2_096..=12_335 => {
-            let record = position - 2_096;
-            let (c, place, field) = (record / 1_280, record / 20 % 64, record % 20);
+            let offset = position - 2_096;
+            let (c, place, field) = (offset / 1_280, offset / 20 % 64, offset % 20);
             let live = words[16 + 4 * c + 2];
             let used = is_controller(c) && (place as u32) < live;
             only_for(used, place_range(words, position, place as u32, field))
         }
         _ => {
-            let record = position - 12_336;
-            let (message, field) = (record / 22, record % 22);
-            let used = (message as u32) < words[1];
+            let offset = position - 12_336;
+            let (record, field) = (offset / 22, offset % 22);
+            let used = (record as u32) < words[1];
             only_for(used, message_range(words, position, field))
         }
     }
@@ -76,7 +77,8 @@ fn pair_range(words: &[u32], position: usize, field: usize) -> RangeInclusive<u3
 }
 
 fn in_form_by_position(words: &[u32]) -> bool {
-    words.len() == WORDS && (0..WORDS).all(|at| range(words, at).contains(&words[at]))
+    words.len() == WORDS
+        && (0..WORDS).all(|position| range(words, position).contains(&words[position]))
 }
 
 #[test]
@@ -131,9 +133,9 @@ fn noise_and_other_lengths_are_refused_and_left_alone() {
     let mut random = Random::new(3);
     for round in 0..200 {
         let (mut words, number) = if round % 2 == 0 {
-            (noise(&mut random), 2)
+            (noise(&mut random), refusal::FORM)
         } else {
-            (wrong_length(&mut random), 1)
+            (wrong_length(&mut random), refusal::LENGTH)
         };
         assert!(!in_form(&words));
         let before = words.clone();

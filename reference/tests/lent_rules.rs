@@ -44,14 +44,17 @@ fn a_checkpoint_with_nothing_to_log_leaves_the_known_word() {
 fn telling_keeps_the_larger_word() {
     let mut house = House::after("O 2 2");
     house.lend(|table| {
-        for (incarnation, told, held) in [(0, 5, 9), (7, 6, 2), (15, 3, 0)] {
-            table.set_known(0, 0, incarnation, told);
-            table.set_known(1, 0, incarnation, held);
+        for (incarnation, own, theirs) in [(0, 5, 9), (7, 6, 2), (15, 3, 0)] {
+            table.set_known(0, 0, incarnation, own);
+            table.set_known(1, 0, incarnation, theirs);
         }
     });
     assert_eq!(house.say("T 0 1"), "done");
     let known = house.table().known(1);
-    assert_eq!([0, 7, 15].map(|t| known.word(0, t)), [9, 6, 3]);
+    assert_eq!(
+        [0, 7, 15].map(|incarnation| known.word(0, incarnation)),
+        [9, 6, 3]
+    );
 }
 
 #[test]

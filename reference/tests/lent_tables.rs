@@ -12,102 +12,143 @@ fn with_what_may_be_written(
     command: Command,
     answer: Answer,
 ) -> Vec<u32> {
+    if matches!(command, Command::Open { .. }) {
+        return after.to_vec();
+    }
     let mut words = before.to_vec();
-    let from = Table::new(after).expect("the right length");
-    let mut to = Table::new(&mut words[..]).expect("the right length");
-    match (command, answer) {
-        (Command::Open { .. }, _) => return after.to_vec(),
-        (Command::SetDegree { controller, .. }, _) => {
-            let mut counts = to.controller(controller as usize);
-            counts.degree = from.controller(controller as usize).degree;
-            to.set_controller(controller as usize, counts);
-        }
-        (_, Answer::Sent { message }) => {
-            to.set_sent(message);
-            to.set_message(message, &from.message(message));
-        }
-        (_, Answer::Released { message, .. }) => {
-            let record = Message {
-                state: state::RELEASED,
-                vector: from.message(message).vector,
-                ..to.message(message)
-            };
-            to.set_message(message, &record);
-        }
-        (_, Answer::Dropped { message }) => to.set_state(message, state::DROPPED),
-        (_, Answer::Delivered { message, .. }) => {
-            to.set_state(message, state::DELIVERED);
-            let c = to.message(message).receiver as usize;
-            let mut counts = to.controller(c);
-            let place = counts.live as usize;
-            counts.live += 1;
-            to.set_controller(c, counts);
-            to.set_place(c, place, &from.place(c, place));
-        }
-        (Command::Log { controller, .. } | Command::Checkpoint { controller }, _) => {
-            let c = controller as usize;
-            let mut counts = to.controller(c);
-            counts.stable = from.controller(c).stable;
-            to.set_controller(c, counts);
-            let own = from.known(c).word(c, counts.incarnation);
-            to.set_known(c, c, counts.incarnation, own);
-            let place = counts.live as usize - 1;
-            let record = Place {
-                flag: from.place(c, place).flag,
-                ..to.place(c, place)
-            };
-            to.set_place(c, place, &record);
-        }
-        (Command::Tell { owner, holder }, _) => {
-            for incarnation in 0..INCARNATIONS as u32 {
-                let word = from
-                    .known(holder as usize)
-                    .word(owner as usize, incarnation);
-                to.set_known(holder as usize, owner as usize, incarnation, word);
+    let mut copier = Copier {
+        from: Table::new(after).expect("the right length"),
+        to: Table::new(&mut words[..]).expect("the right length"),
+    };
+    copier.step(command, answer);
+    words
+}
+
+/// Copies words of one table to another.
+struct Copier<'a> {
+    from: Table<&'a [u32]>,
+    to: Table<&'a mut [u32]>,
+}
+
+impl Copier<'_> {
+    /// All that the step may have written.
+    fn step(&mut self, command: Command, answer: Answer) {
+        match command {
+            Command::SetDegree { controller, .. } => self.degree(controller as usize),
+            Command::Log { controller, .. } | Command::Checkpoint { controller } => {
+                self.logging(controller as usize);
             }
-        }
-        (Command::Crash { controller }, _) => {
-            let c = controller as usize;
-            let incarnation = to.controller(c).incarnation;
-            to.set_end(c, c, incarnation, from.ends(c).word(c, incarnation));
-            copy_new_start(&mut to, from, c);
-        }
-        (
+            Command::Tell { owner, holder } => {
+                for incarnation in 0..INCARNATIONS as u32 {
+                    self.known(holder as usize, owner as usize, incarnation);
+                }
+            }
+            Command::Crash { controller } => {
+                let c = controller as usize;
+                self.end(c, c, self.to.controller(c).incarnation);
+                self.new_start(c);
+            }
             Command::Hear {
                 hearer,
                 crashed,
                 incarnation,
-            },
-            answer,
-        ) => {
-            let (b, a) = (hearer as usize, crashed as usize);
-            to.set_end(b, a, incarnation, from.ends(b).word(a, incarnation));
-            to.set_known(b, a, incarnation, from.known(b).word(a, incarnation));
-            if matches!(answer, Answer::Rolled { .. }) {
-                let ended = to.controller(b).incarnation;
-                to.set_known(b, b, ended, from.known(b).word(b, ended));
-                copy_new_start(&mut to, from, b);
+            } => {
+                self.end(hearer as usize, crashed as usize, incarnation);
+                self.known(hearer as usize, crashed as usize, incarnation);
+                if matches!(answer, Answer::Rolled { .. }) {
+                    self.rollback(hearer as usize);
+                }
             }
+            _ => self.message(answer),
         }
-        _ => {}
     }
-    words
-}
 
-/// What starting anew writes: counts but the degree, the own known word of the new incarnation, the
-/// places above the kept ones, and states of messages.
-fn copy_new_start(to: &mut Table<&mut [u32]>, from: Table<&[u32]>, c: usize) {
-    let mut counts = from.controller(c);
-    let (kept, live) = (counts.live - 1, to.controller(c).live);
-    counts.degree = to.controller(c).degree;
-    to.set_controller(c, counts);
-    let own = from.known(c).word(c, counts.incarnation);
-    to.set_known(c, c, counts.incarnation, own);
-    for place in kept..live.max(counts.live) {
-        to.set_place(c, place as usize, &from.place(c, place as usize));
+    fn degree(&mut self, c: usize) {
+        let mut counts = self.to.controller(c);
+        counts.degree = self.from.controller(c).degree;
+        self.to.set_controller(c, counts);
     }
-    for message in 1..=to.sent() {
-        to.set_state(message, from.message(message).state);
+
+    fn known(&mut self, holder: usize, owner: usize, incarnation: u32) {
+        let word = self.from.known(holder).word(owner, incarnation);
+        self.to.set_known(holder, owner, incarnation, word);
+    }
+
+    fn end(&mut self, holder: usize, owner: usize, incarnation: u32) {
+        let word = self.from.ends(holder).word(owner, incarnation);
+        self.to.set_end(holder, owner, incarnation, word);
+    }
+
+    /// What a send, a release or a delivery writes.
+    fn message(&mut self, answer: Answer) {
+        match answer {
+            Answer::Sent { message } => {
+                self.to.set_sent(message);
+                self.to.set_message(message, &self.from.message(message));
+            }
+            Answer::Released { message, .. } => {
+                let record = Message {
+                    state: state::RELEASED,
+                    vector: self.from.message(message).vector,
+                    ..self.to.message(message)
+                };
+                self.to.set_message(message, &record);
+            }
+            Answer::Dropped { message } => self.to.set_state(message, state::DROPPED),
+            Answer::Delivered { message, .. } => {
+                self.to.set_state(message, state::DELIVERED);
+                self.new_interval(self.to.message(message).receiver as usize);
+            }
+            _ => {}
+        }
+    }
+
+    /// What a delivery writes of its receiver: the next place and the live count.
+    fn new_interval(&mut self, receiver: usize) {
+        let mut counts = self.to.controller(receiver);
+        let place = counts.live as usize;
+        counts.live += 1;
+        self.to.set_controller(receiver, counts);
+        let record = self.from.place(receiver, place);
+        self.to.set_place(receiver, place, &record);
+    }
+
+    /// The stable count, the own known word, and the flag of the newest place.
+    fn logging(&mut self, c: usize) {
+        let mut counts = self.to.controller(c);
+        counts.stable = self.from.controller(c).stable;
+        self.to.set_controller(c, counts);
+        self.known(c, c, counts.incarnation);
+        let place = counts.live as usize - 1;
+        let record = Place {
+            flag: self.from.place(c, place).flag,
+            ..self.to.place(c, place)
+        };
+        self.to.set_place(c, place, &record);
+    }
+
+    /// What a rollback logs in the incarnation that it ends, and a new start.
+    fn rollback(&mut self, hearer: usize) {
+        self.known(hearer, hearer, self.to.controller(hearer).incarnation);
+        self.new_start(hearer);
+    }
+
+    /// What starting anew writes: counts but the degree, the own known word of the new incarnation, the
+    /// places above the kept ones, and states of messages.
+    fn new_start(&mut self, c: usize) {
+        let mut counts = self.from.controller(c);
+        let (kept, live) = (counts.live - 1, self.to.controller(c).live);
+        counts.degree = self.to.controller(c).degree;
+        self.to.set_controller(c, counts);
+        self.known(c, c, counts.incarnation);
+        for place in kept..live.max(counts.live) {
+            let record = self.from.place(c, place as usize);
+            self.to.set_place(c, place as usize, &record);
+        }
+        for message in 1..=self.to.sent() {
+            let state = self.from.message(message).state;
+            self.to.set_state(message, state);
+        }
     }
 }
 

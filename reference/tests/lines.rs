@@ -3,6 +3,7 @@
 use reference::generate::{script, Profile};
 use reference::lines::{parse, render, run, write, Player};
 use reference::machine::{step, Answer, Command};
+use reference::refusal;
 use reference::table::WORDS;
 use std::io::Write;
 use std::process::{Command as Process, Stdio};
@@ -51,7 +52,8 @@ fn every_answer_is_written() {
         replayed: 4,
     };
     assert_eq!(written(rolled), "rolled 1 2 3 4");
-    assert_eq!(written(Answer::Refused { number: 13 }), "refused 13");
+    let number = refusal::INCARNATIONS_USED_UP;
+    assert_eq!(written(Answer::Refused { number }), "refused 13");
 }
 
 #[test]

@@ -17,16 +17,16 @@ fn walk_list(profile: &'static Profile, seed: u64) -> usize {
     let mut before = walk.table().to_vec();
     let mut steps = 0;
     while let Some((command, answer)) = walk.next() {
-        let place = || format!("{} list {seed}, step {steps}: {command:?}", profile.name);
+        let label = || format!("{} list {seed}, step {steps}: {command:?}", profile.name);
         if matches!(answer, Answer::Refused { .. }) {
-            assert!(before == walk.table(), "{}: refused, and wrote", place());
+            assert!(before == walk.table(), "{}: refused, and wrote", label());
         } else {
             before.copy_from_slice(walk.table());
         }
-        judge.record(command, answer);
+        judge.feed(command, answer);
         let history = judge.history().expect("a list begins with an opening");
         let facts = facts::check(walk.table(), history);
-        assert_eq!(facts, Ok(()), "{}", place());
+        assert_eq!(facts, Ok(()), "{}", label());
         steps += 1;
     }
     assert_eq!(judge.finish(), [], "{} list {seed}", profile.name);

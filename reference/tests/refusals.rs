@@ -5,12 +5,13 @@ mod common;
 
 use common::{bring, House};
 use reference::machine::{step, Answer, Command};
+use reference::refusal::{self, Refusal};
 use reference::table::{in_form, state, Controller, WORDS};
 use reference::vector::Pair;
 
-fn expect(house: &mut House, refused: u32, lines: &[&str]) {
+fn expect(house: &mut House, refusal: Refusal, lines: &[&str]) {
     for line in lines {
-        assert_eq!(house.say(line), format!("refused {refused}"), "{line}");
+        assert_eq!(house.say(line), format!("refused {refusal}"), "{line}");
     }
 }
 
@@ -25,8 +26,8 @@ fn length_comes_before_all() {
         let mut house = House {
             words: vec![9; length],
         };
-        expect(&mut house, 1, &["O 1 0", "O 0 9"]);
-        expect(&mut house, 1, &SENSELESS);
+        expect(&mut house, refusal::LENGTH, &["O 1 0", "O 0 9"]);
+        expect(&mut house, refusal::LENGTH, &SENSELESS);
     }
 }
 
@@ -35,11 +36,11 @@ fn form_comes_next_and_opening_does_not_look_at_it() {
     let mut house = House {
         words: vec![0; WORDS],
     };
-    expect(&mut house, 2, &SENSELESS);
-    expect(&mut house, 5, &["O 0 0", "O 9 0", "O 3 4"]);
+    expect(&mut house, refusal::FORM, &SENSELESS);
+    expect(&mut house, refusal::DEGREE, &["O 0 0", "O 9 0", "O 3 4"]);
     let mut house = House::after("O 3 3");
     house.words[2] = 1;
-    expect(&mut house, 2, &SENSELESS);
+    expect(&mut house, refusal::FORM, &SENSELESS);
     assert_eq!(house.say("O 2 1"), "done");
     assert!(in_form(&house.words));
 }
@@ -47,26 +48,34 @@ fn form_comes_next_and_opening_does_not_look_at_it() {
 #[test]
 fn controllers_come_before_what_is_asked_of_them() {
     let mut house = House::after("O 3 3");
-    expect(&mut house, 3, &["K 3 4", "S 3 3 0", "S 0 3 0", "S 3 0 0"]);
-    expect(&mut house, 3, &["L 3 0", "C 3", "T 3 3", "T 0 3", "T 3 0"]);
     expect(
         &mut house,
-        3,
+        refusal::CONTROLLER,
+        &["K 3 4", "S 3 3 0", "S 0 3 0", "S 3 0 0"],
+    );
+    expect(
+        &mut house,
+        refusal::CONTROLLER,
+        &["L 3 0", "C 3", "T 3 3", "T 0 3", "T 3 0"],
+    );
+    expect(
+        &mut house,
+        refusal::CONTROLLER,
         &["X 3", "H 3 0 99", "H 0 3 99", "X 4294967295"],
     );
-    // Also before 11.
+    // Also before the messages that are used up.
     (0..128).for_each(|_| drop(house.say("S 0 1 7")));
-    expect(&mut house, 3, &["S 0 3 7"]);
+    expect(&mut house, refusal::CONTROLLER, &["S 0 3 7"]);
 }
 
 #[test]
 fn messages_come_before_their_states() {
     let mut house = House::after("O 3 3");
-    expect(&mut house, 4, &["R 0", "D 0", "R 1", "D 1"]);
+    expect(&mut house, refusal::MESSAGE, &["R 0", "D 0", "R 1", "D 1"]);
     house.go_on("S 0 1 7");
     expect(
         &mut house,
-        4,
+        refusal::MESSAGE,
         &["R 0", "R 2", "D 2", "D 129", "R 4294967295"],
     );
 }
@@ -74,10 +83,14 @@ fn messages_come_before_their_states() {
 #[test]
 fn degrees_and_sizes() {
     let mut house = House::after("O 3 3");
-    expect(&mut house, 5, &["O 0 0", "O 9 0", "O 8 9", "O 3 4"]);
     expect(
         &mut house,
-        5,
+        refusal::DEGREE,
+        &["O 0 0", "O 9 0", "O 8 9", "O 3 4"],
+    );
+    expect(
+        &mut house,
+        refusal::DEGREE,
         &["K 0 4", "K 2 4294967295", "O 4294967295 0"],
     );
     assert_eq!(house.say("K 0 3"), "done");
@@ -87,59 +100,71 @@ fn degrees_and_sizes() {
 #[test]
 fn the_two_controllers_differ() {
     let mut house = House::after("O 3 3");
-    expect(&mut house, 6, &["S 2 2 7", "T 1 1"]);
-    // Also before 11.
+    expect(&mut house, refusal::SAME_CONTROLLER, &["S 2 2 7", "T 1 1"]);
+    // Also before the messages that are used up.
     (0..128).for_each(|_| drop(house.say("S 0 1 7")));
-    expect(&mut house, 6, &["S 2 2 7"]);
-    expect(&mut house, 11, &["S 0 1 7"]);
+    expect(&mut house, refusal::SAME_CONTROLLER, &["S 2 2 7"]);
+    expect(&mut house, refusal::MESSAGES_USED_UP, &["S 0 1 7"]);
 }
 
 #[test]
 fn states_of_messages() {
     let mut house = House::after("O 2 2\nS 0 1 7");
-    expect(&mut house, 7, &["D 1"]);
+    expect(&mut house, refusal::STATE, &["D 1"]);
     house.go_on("R 1");
-    expect(&mut house, 7, &["R 1"]);
+    expect(&mut house, refusal::STATE, &["R 1"]);
     house.go_on("D 1");
-    expect(&mut house, 7, &["R 1", "D 1"]);
+    expect(&mut house, refusal::STATE, &["R 1", "D 1"]);
     house.go_on("X 1");
     assert_eq!(house.table().message(1).state, state::LOST);
-    expect(&mut house, 7, &["R 1", "D 1"]);
+    expect(&mut house, refusal::STATE, &["R 1", "D 1"]);
 }
 
 #[test]
 fn a_state_comes_before_a_full_chain() {
     let mut house = full_chain();
-    expect(&mut house, 7, &["D 1", "R 1"]);
+    expect(&mut house, refusal::STATE, &["D 1", "R 1"]);
 }
 
 #[test]
 fn log_counts() {
     let mut house = House::after("O 2 2");
-    expect(&mut house, 8, &["L 0 0", "L 0 1", "L 0 4294967295"]);
+    expect(
+        &mut house,
+        refusal::LOG_COUNT,
+        &["L 0 0", "L 0 1", "L 0 4294967295"],
+    );
     bring(&mut house, 0, 1);
-    expect(&mut house, 8, &["L 1 0", "L 1 2"]);
+    expect(&mut house, refusal::LOG_COUNT, &["L 1 0", "L 1 2"]);
     assert_eq!(house.say("L 1 1"), "done");
-    expect(&mut house, 8, &["L 1 1"]);
+    expect(&mut house, refusal::LOG_COUNT, &["L 1 1"]);
 }
 
 #[test]
 fn crashes_that_never_were() {
     let mut house = House::after("O 2 2\nX 1");
-    expect(&mut house, 9, &["H 0 1 1", "H 0 1 15", "H 0 1 16"]);
-    expect(&mut house, 9, &["H 0 0 0", "H 1 0 0", "H 1 1 16"]);
-    expect(&mut house, 9, &["H 0 1 4294967295"]);
-    // Before 10: b may hold an end word that a doesn't.
+    expect(
+        &mut house,
+        refusal::NO_SUCH_CRASH,
+        &["H 0 1 1", "H 0 1 15", "H 0 1 16"],
+    );
+    expect(
+        &mut house,
+        refusal::NO_SUCH_CRASH,
+        &["H 0 0 0", "H 1 0 0", "H 1 1 16"],
+    );
+    expect(&mut house, refusal::NO_SUCH_CRASH, &["H 0 1 4294967295"]);
+    // Before the question whether it was heard: the hearer may hold an end word that the owner doesn't.
     house.lend(|table| table.set_end(0, 1, 5, 3));
-    expect(&mut house, 9, &["H 0 1 5"]);
+    expect(&mut house, refusal::NO_SUCH_CRASH, &["H 0 1 5"]);
 }
 
 #[test]
 fn crashes_already_heard() {
     let mut house = House::after("O 2 2\nX 1");
-    expect(&mut house, 10, &["H 1 1 0"]);
+    expect(&mut house, refusal::ALREADY_HEARD, &["H 1 1 0"]);
     assert_eq!(house.say("H 0 1 0"), "heard 0");
-    expect(&mut house, 10, &["H 0 1 0"]);
+    expect(&mut house, refusal::ALREADY_HEARD, &["H 0 1 0"]);
 }
 
 /// Controller 1 has 64 live intervals, of which only the first is stable.
@@ -154,9 +179,9 @@ fn full_chain() -> House {
 fn a_full_chain_takes_no_delivery() {
     let mut house = full_chain();
     house.go_on("S 0 1 7\nR 64");
-    expect(&mut house, 12, &["D 64"]);
+    expect(&mut house, refusal::PLACES_USED_UP, &["D 64"]);
     house.go_on("L 1 63");
-    expect(&mut house, 12, &["X 1"]);
+    expect(&mut house, refusal::PLACES_USED_UP, &["X 1"]);
 }
 
 #[test]
@@ -196,7 +221,7 @@ fn incarnations_run_out_by_crashing() {
         let crashed = format!("crashed 0 {incarnation} {kept} 0 {incarnation}");
         assert_eq!(house.say("X 0"), crashed);
     }
-    expect(&mut house, 13, &["X 0"]);
+    expect(&mut house, refusal::INCARNATIONS_USED_UP, &["X 0"]);
 }
 
 #[test]
@@ -204,7 +229,7 @@ fn a_crash_with_both_used_up_is_refused_for_places() {
     let mut house = full_chain();
     house.go_on("L 1 63");
     wear_out(&mut house, 1);
-    expect(&mut house, 12, &["X 1"]);
+    expect(&mut house, refusal::PLACES_USED_UP, &["X 1"]);
 }
 
 #[test]
@@ -215,16 +240,21 @@ fn a_hearing_that_must_undo_needs_an_incarnation() {
     house.go_on("X 1");
     wear_out(&mut house, 2);
     wear_out(&mut house, 0);
-    expect(&mut house, 13, &["H 2 1 0"]);
+    expect(&mut house, refusal::INCARNATIONS_USED_UP, &["H 2 1 0"]);
     assert_eq!(house.table().ends(2).word(1, 0), 0);
     // One that needn't undo is heard, and then heard already.
     assert_eq!(house.say("H 0 1 0"), "heard 0");
-    expect(&mut house, 10, &["H 0 1 0"]);
+    expect(&mut house, refusal::ALREADY_HEARD, &["H 0 1 0"]);
 }
 
 #[test]
 fn a_refusal_is_a_number() {
     let mut words = vec![0; WORDS];
     let answer = step(&mut words, Command::Crash { controller: 0 });
-    assert_eq!(answer, Answer::Refused { number: 2 });
+    assert_eq!(
+        answer,
+        Answer::Refused {
+            number: refusal::FORM
+        }
+    );
 }

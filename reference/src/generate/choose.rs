@@ -117,28 +117,31 @@ impl Chooser<'_> {
     /// Often a controller whose crash makes orphans.
     fn rested_on(&mut self) -> Option<u32> {
         let n = self.table.n();
-        let makes_orphans = |&a: &u32| {
-            let counts = self.table.controller(a as usize);
-            let mut others = (0..n).filter(|&b| b != a);
-            others.any(|b| self.rests_on(b, a, counts.incarnation, counts.stable))
+        let makes_orphans = |&owner: &u32| {
+            let counts = self.table.controller(owner as usize);
+            let mut others = (0..n).filter(|&other| other != owner);
+            others.any(|other| self.rests_on(other, owner, counts.incarnation, counts.stable))
         };
         let rested_on: Vec<u32> = (0..n).filter(makes_orphans).collect();
         let chosen = self.random.pick(&rested_on);
         chosen.filter(|_| self.random.chance(60))
     }
 
-    /// Whether the newest interval of b depends on a's incarnation with a number above the given.
-    fn rests_on(&self, b: u32, a: u32, incarnation: u32, above: u32) -> bool {
-        let pair = self.table.newest(b as usize).vector[a as usize];
+    /// Whether the newest interval of a controller depends on the owner's incarnation with a number
+    /// above the given.
+    fn rests_on(&self, controller: u32, owner: u32, incarnation: u32, above: u32) -> bool {
+        let pair = self.table.newest(controller as usize).vector[owner as usize];
         pair.incarnation == incarnation && pair.number > above
     }
 
     /// A hearing that is still to be done, in half of the cases rather one that must undo.
     fn hearing(&mut self) -> Option<Command> {
-        let (undoing, idle): (Vec<_>, Vec<_>) = self
-            .unheard()
-            .into_iter()
-            .partition(|&(b, a, t)| self.rests_on(b, a, t, self.end(a, a, t)));
+        let must_undo = |&(hearer, crashed, incarnation): &(u32, u32, u32)| {
+            let kept = self.end(crashed, crashed, incarnation);
+            self.rests_on(hearer, crashed, incarnation, kept)
+        };
+        let unheard = self.unheard().into_iter();
+        let (undoing, idle): (Vec<_>, Vec<_>) = unheard.partition(must_undo);
         let (first, second) = if self.random.chance(50) {
             (undoing, idle)
         } else {
@@ -157,10 +160,13 @@ impl Chooser<'_> {
     fn unheard(&self) -> Vec<(u32, u32, u32)> {
         let n = self.table.n();
         let mut hearings = Vec::new();
-        for a in 0..n {
-            for t in (0..INCARNATIONS as u32).filter(|&t| self.end(a, a, t) != 0) {
-                let hearers = (0..n).filter(|&b| self.end(b, a, t) == 0);
-                hearings.extend(hearers.map(|b| (b, a, t)));
+        for crashed in 0..n {
+            for incarnation in 0..INCARNATIONS as u32 {
+                if self.end(crashed, crashed, incarnation) != 0 {
+                    let hearers =
+                        (0..n).filter(|&hearer| self.end(hearer, crashed, incarnation) == 0);
+                    hearings.extend(hearers.map(|hearer| (hearer, crashed, incarnation)));
+                }
             }
         }
         hearings

@@ -38,7 +38,10 @@ impl IntervalSet {
 
     /// Whether some interval is in both sets.
     pub fn intersects(&self, other: &IntervalSet) -> bool {
-        self.0.iter().zip(&other.0).any(|(a, b)| a & b != 0)
+        self.0
+            .iter()
+            .zip(&other.0)
+            .any(|(word, others)| word & others != 0)
     }
 
     /// The members, from the earliest on.

@@ -3,7 +3,8 @@
 //! The rules ask for a fault in one place each; what the faulty machine does instead is here, so that
 //! the sound rules can be read without it.
 
-use super::{Answer, Command, Refusal};
+use super::{Answer, Command};
+use crate::refusal;
 use crate::table::{state, Controller, Table, INCARNATIONS};
 use crate::vector::{Pair, Row, Vector};
 use std::array;
@@ -109,7 +110,9 @@ pub(super) fn around(
 
 fn before_looking(fault: Fault, command: Command) -> Option<Answer> {
     match (fault, command) {
-        (Fault::RefusesAll, _) => Some(Refusal::Length.into()),
+        (Fault::RefusesAll, _) => Some(Answer::Refused {
+            number: refusal::LENGTH,
+        }),
         (Fault::DoneToAll, _) => Some(Answer::Done),
         (Fault::WaitsBeforeLooking, Command::Deliver { message }) => {
             Some(Answer::Waits { message })
@@ -120,7 +123,9 @@ fn before_looking(fault: Fault, command: Command) -> Option<Answer> {
         (Fault::HeardBeforeLooking, Command::Hear { hearer, .. }) => {
             Some(Answer::Heard { controller: hearer })
         }
-        (Fault::NeverHears, Command::Hear { .. }) => Some(Refusal::NoSuchCrash.into()),
+        (Fault::NeverHears, Command::Hear { .. }) => Some(Answer::Refused {
+            number: refusal::NO_SUCH_CRASH,
+        }),
         _ => None,
     }
 }
@@ -179,27 +184,27 @@ fn bend(fault: Fault, before: &[u32], after: &mut [u32], answer: Answer) {
     }
 }
 
-/// A rollback of b to `kept` that wrote one word too many or too few.
+/// A rollback of the hearer to `kept` that wrote one word too many or too few.
 fn bend_rollback(
     fault: Fault,
     before: &Table<&[u32]>,
     after: &mut Table<&mut [u32]>,
-    b: usize,
+    hearer: usize,
     kept: u32,
 ) {
     let Controller {
         incarnation,
         stable,
         ..
-    } = before.controller(b);
+    } = before.controller(hearer);
     if fault == Fault::EndWordOnRollback {
-        after.set_end(b, b, incarnation, kept);
+        after.set_end(hearer, hearer, incarnation, kept);
     } else if stable < kept {
-        let known = before.known(b).word(b, incarnation);
-        after.set_known(b, b, incarnation, known);
+        let known = before.known(hearer).word(hearer, incarnation);
+        after.set_known(hearer, hearer, incarnation, known);
         if fault == Fault::KeptNotLogged {
-            let counts = after.controller(b);
-            after.set_controller(b, Controller { stable, ..counts });
+            let counts = after.controller(hearer);
+            after.set_controller(hearer, Controller { stable, ..counts });
         }
     }
 }

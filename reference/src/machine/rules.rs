@@ -1,7 +1,8 @@
 //! The rules of the steps. Each looks at its refusals first, in the order of their numbers, and
 //! writes only once none is left.
 
-use super::{fault, Answer, Command, Fault, Refusal};
+use super::{fault, Answer, Command, Fault};
+use crate::refusal::{self, Refusal};
 use crate::table::{
     in_form, state, Controller, Message, Place, Table, CONTROLLERS, LAST_INCARNATION, LAST_MESSAGE,
     LAST_NUMBER,
@@ -12,9 +13,9 @@ type Outcome = Result<Answer, Refusal>;
 
 /// Does a step, or says why not.
 pub(super) fn perform(fault: Fault, words: &mut [u32], command: Command) -> Outcome {
-    let table = Table::new(words).ok_or(Refusal::Length)?;
+    let table = Table::new(words).ok_or(refusal::LENGTH)?;
     let opening = matches!(command, Command::Open { .. });
-    ensure(opening || in_form(table.words()), Refusal::Form)?;
+    ensure(opening || in_form(table.words()), refusal::FORM)?;
     let mut house = House { table, fault };
     match command {
         Command::Open { n, degree } => house.open(n, degree),
@@ -52,16 +53,16 @@ struct House<'a> {
     fault: Fault,
 }
 
-/// Refusals 3 and 4: things named that aren't there.
+/// The refusals of things named that aren't there.
 impl House<'_> {
     fn controller(&self, controller: u32) -> Result<usize, Refusal> {
-        ensure(controller < self.table.n(), Refusal::Controller)?;
+        ensure(controller < self.table.n(), refusal::CONTROLLER)?;
         Ok(controller as usize)
     }
 
     fn message(&self, message: u32) -> Result<Message, Refusal> {
         let sent = 1..=self.table.sent();
-        ensure(sent.contains(&message), Refusal::Message)?;
+        ensure(sent.contains(&message), refusal::MESSAGE)?;
         Ok(self.table.message(message))
     }
 }
@@ -72,7 +73,7 @@ impl House<'_> {
     /// (0,1) in its vector; all else 0."
     fn open(&mut self, n: u32, degree: u32) -> Outcome {
         let fits = (1..=CONTROLLERS as u32).contains(&n) && degree <= n;
-        ensure(fits, Refusal::Degree)?;
+        ensure(fits, refusal::DEGREE)?;
         self.table.clear();
         self.table.set_n(n);
         for c in 0..n as usize {
@@ -98,7 +99,7 @@ impl House<'_> {
     /// "Set the degree."
     fn set_degree(&mut self, controller: u32, degree: u32) -> Outcome {
         let c = self.controller(controller)?;
-        ensure(degree <= self.table.n(), Refusal::Degree)?;
+        ensure(degree <= self.table.n(), refusal::DEGREE)?;
         let counts = Controller {
             degree,
             ..self.table.controller(c)
@@ -109,20 +110,20 @@ impl House<'_> {
 
     /// "Send payload p: message held, with the newest vector of s filtered for s."
     fn send(&mut self, sender: u32, receiver: u32, payload: u32) -> Outcome {
-        let s = self.controller(sender)?;
-        self.controller(receiver)?;
-        ensure(sender != receiver, Refusal::SameController)?;
-        ensure(self.table.sent() < LAST_MESSAGE, Refusal::MessagesUsedUp)?;
+        let sender = self.controller(sender)?;
+        let receiver = self.controller(receiver)?;
+        ensure(sender != receiver, refusal::SAME_CONTROLLER)?;
+        ensure(self.table.sent() < LAST_MESSAGE, refusal::MESSAGES_USED_UP)?;
         let message = self.table.sent() + 1;
-        let newest = self.table.newest(s);
+        let newest = self.table.newest(sender);
         let record = Message {
             state: state::HELD,
-            sender,
-            receiver,
+            sender: sender as u32,
+            receiver: receiver as u32,
             incarnation: newest.incarnation,
             number: newest.number,
             payload,
-            vector: filtered(&newest.vector, &self.table.known(s)),
+            vector: filtered(&newest.vector, &self.table.known(sender)),
         };
         self.table.set_sent(message);
         self.table.set_message(message, &record);
@@ -134,14 +135,14 @@ impl House<'_> {
     /// held and no word changes."
     fn release(&mut self, message: u32) -> Outcome {
         let record = self.message(message)?;
-        ensure(record.state == state::HELD, Refusal::State)?;
-        let s = record.sender as usize;
-        let vector = filtered(&record.vector, &self.table.known(s));
+        ensure(record.state == state::HELD, refusal::STATE)?;
+        let sender = record.sender as usize;
+        let vector = filtered(&record.vector, &self.table.known(sender));
         let mask = match self.fault {
             Fault::StoredPairsCounted => mask(&record.vector),
             _ => mask(&vector),
         };
-        if mask.count_ones() > self.table.controller(s).degree {
+        if mask.count_ones() > self.table.controller(sender).degree {
             return Ok(Answer::Held { message, mask });
         }
         let released = Message {
@@ -158,21 +159,21 @@ impl House<'_> {
     /// own pair is the new interval. State: delivered."
     fn deliver(&mut self, message: u32) -> Outcome {
         let record = self.message(message)?;
-        ensure(record.state == state::RELEASED, Refusal::State)?;
-        let c = record.receiver as usize;
-        if self.condemned(&record.vector, &self.table.ends(c)) {
+        ensure(record.state == state::RELEASED, refusal::STATE)?;
+        let receiver = record.receiver as usize;
+        if self.condemned(&record.vector, &self.table.ends(receiver)) {
             self.table.set_state(message, state::DROPPED);
             return Ok(Answer::Dropped { message });
         }
-        let known = self.table.known(c);
-        let ours = filtered(&self.table.newest(c).vector, &known);
+        let known = self.table.known(receiver);
+        let ours = filtered(&self.table.newest(receiver).vector, &known);
         let theirs = filtered(&record.vector, &known);
-        let Some(vector) = self.merged(message, c, &ours, &theirs) else {
+        let Some(vector) = self.merged(message, receiver, &ours, &theirs) else {
             return Ok(Answer::Waits { message });
         };
-        let live = self.table.controller(c).live;
-        ensure(live < LAST_NUMBER, Refusal::PlacesUsedUp)?;
-        let interval = self.begin_next(c, message, vector);
+        let live = self.table.controller(receiver).live;
+        ensure(live < LAST_NUMBER, refusal::PLACES_USED_UP)?;
+        let interval = self.begin_next(receiver, message, vector);
         self.table.set_state(message, state::DELIVERED);
         Ok(Answer::Delivered {
             message,
@@ -186,7 +187,7 @@ impl House<'_> {
         let c = self.controller(controller)?;
         let Controller { live, stable, .. } = self.table.controller(c);
         let volatile = 1..=live - stable;
-        ensure(volatile.contains(&count), Refusal::LogCount)?;
+        ensure(volatile.contains(&count), refusal::LOG_COUNT)?;
         self.log_up_to(c, stable + count);
         Ok(Answer::Done)
     }
@@ -206,12 +207,12 @@ impl House<'_> {
 
     /// "b's known words for a become the larger of b's and a's own, for each incarnation."
     fn tell(&mut self, owner: u32, holder: u32) -> Outcome {
-        let a = self.controller(owner)?;
-        let b = self.controller(holder)?;
-        ensure(a != b, Refusal::SameController)?;
-        let own = self.table.known(a);
+        let owner = self.controller(owner)?;
+        let holder = self.controller(holder)?;
+        ensure(owner != holder, refusal::SAME_CONTROLLER)?;
+        let own = self.table.known(owner);
         for incarnation in 0..=LAST_INCARNATION {
-            self.raise_known(b, a, incarnation, own.word(a, incarnation));
+            self.raise_known(holder, owner, incarnation, own.word(owner, incarnation));
         }
         Ok(Answer::Done)
     }
@@ -222,10 +223,10 @@ impl House<'_> {
         let c = self.controller(controller)?;
         let counts = self.table.controller(c);
         let kept = counts.stable;
-        ensure(kept < LAST_NUMBER, Refusal::PlacesUsedUp)?;
+        ensure(kept < LAST_NUMBER, refusal::PLACES_USED_UP)?;
         ensure(
             counts.incarnation < LAST_INCARNATION,
-            Refusal::IncarnationsUsedUp,
+            refusal::INCARNATIONS_USED_UP,
         )?;
         let replayed = self.replayed(c, kept);
         for cause in self.causes_above(c, kept) {
@@ -246,24 +247,26 @@ impl House<'_> {
     /// Find the lowest place above 0 whose vector holds a condemned entry. If none, done." Otherwise
     /// b rolls back.
     fn hear(&mut self, hearer: u32, crashed: u32, incarnation: u32) -> Outcome {
-        let b = self.controller(hearer)?;
-        let a = self.controller(crashed)?;
+        let hearer = self.controller(hearer)?;
+        let crashed = self.controller(crashed)?;
         // A row's word is 0 above incarnation 15, so this is both halves of the refusal.
-        let end = self.table.ends(a).word(a, incarnation);
-        ensure(end != 0, Refusal::NoSuchCrash)?;
-        let mut ends = self.table.ends(b);
-        let already_heard = ends.word(a, incarnation) != 0;
-        ensure(!already_heard, Refusal::AlreadyHeard)?;
-        // Judged on a copy first: a hearing refused with 13 leaves the end word unwritten.
-        ends.set(a, incarnation, end);
-        let lowest = self.lowest_condemned_place(b, &ends);
-        let last = self.table.controller(b).incarnation == LAST_INCARNATION;
-        ensure(lowest.is_none() || !last, Refusal::IncarnationsUsedUp)?;
-        self.table.set_end(b, a, incarnation, end);
-        self.raise_known(b, a, incarnation, end);
+        let end = self.table.ends(crashed).word(crashed, incarnation);
+        ensure(end != 0, refusal::NO_SUCH_CRASH)?;
+        let mut ends = self.table.ends(hearer);
+        let already_heard = ends.word(crashed, incarnation) != 0;
+        ensure(!already_heard, refusal::ALREADY_HEARD)?;
+        // Judged on a copy first: a hearing that is refused after this leaves the end word unwritten.
+        ends.set(crashed, incarnation, end);
+        let lowest = self.lowest_condemned_place(hearer, &ends);
+        let last = self.table.controller(hearer).incarnation == LAST_INCARNATION;
+        ensure(lowest.is_none() || !last, refusal::INCARNATIONS_USED_UP)?;
+        self.table.set_end(hearer, crashed, incarnation, end);
+        self.raise_known(hearer, crashed, incarnation, end);
         Ok(match lowest {
-            None => Answer::Heard { controller: hearer },
-            Some(kept) => self.roll_back(b, kept, &ends),
+            None => Answer::Heard {
+                controller: hearer as u32,
+            },
+            Some(kept) => self.roll_back(hearer, kept, &ends),
         })
     }
 }
@@ -278,12 +281,18 @@ impl House<'_> {
         }
     }
 
-    /// The only place where two vectors are merged, for the delivery of `message` at c.
-    fn merged(&self, message: u32, c: usize, ours: &Vector, theirs: &Vector) -> Option<Vector> {
+    /// The only place where two vectors are merged, for the delivery of `message` at its receiver.
+    fn merged(
+        &self,
+        message: u32,
+        receiver: usize,
+        ours: &Vector,
+        theirs: &Vector,
+    ) -> Option<Vector> {
         match self.fault {
             Fault::LargerAcrossIncarnations => Some(fault::larger_of_each(ours, theirs)),
             Fault::EchoesAfterFirst if message > 1 => Some(*ours),
-            _ => merged(c, ours, theirs),
+            _ => merged(receiver, ours, theirs),
         }
     }
 
@@ -323,6 +332,7 @@ impl House<'_> {
         self.table.set_known(c, c, counts.incarnation, stable);
     }
 
+    /// The holder's known word becomes the larger of what it is and the given one.
     fn raise_known(&mut self, holder: usize, owner: usize, incarnation: u32, word: u32) {
         let known = self.table.known(holder).word(owner, incarnation);
         self.table
@@ -330,19 +340,19 @@ impl House<'_> {
     }
 
     /// "The lowest place above 0 whose vector holds a condemned entry."
-    fn lowest_condemned_place(&self, b: usize, ends: &Row) -> Option<u32> {
-        (1..self.table.controller(b).live)
-            .find(|&place| self.condemned(&self.table.place(b, place as usize).vector, ends))
+    fn lowest_condemned_place(&self, hearer: usize, ends: &Row) -> Option<u32> {
+        (1..self.table.controller(hearer).live)
+            .find(|&place| self.condemned(&self.table.place(hearer, place as usize).vector, ends))
     }
 
     /// "That place's index is k: kept intervals not yet stable, if any, are logged as by L; each
     /// cause of an undone interval becomes dropped if its vector is condemned to b, else released
     /// again; then start anew."
-    fn roll_back(&mut self, b: usize, kept: u32, ends: &Row) -> Answer {
-        let undone = self.table.controller(b).live - kept;
-        let replayed = self.replayed(b, kept);
-        self.log_up_to(b, kept);
-        for cause in self.causes_above(b, kept) {
+    fn roll_back(&mut self, hearer: usize, kept: u32, ends: &Row) -> Answer {
+        let undone = self.table.controller(hearer).live - kept;
+        let replayed = self.replayed(hearer, kept);
+        self.log_up_to(hearer, kept);
+        for cause in self.causes_above(hearer, kept) {
             let condemned = self.condemned(&self.table.message(cause).vector, ends);
             let state = if condemned {
                 state::DROPPED
@@ -351,9 +361,9 @@ impl House<'_> {
             };
             self.table.set_state(cause, state);
         }
-        self.start_anew(b, kept);
+        self.start_anew(hearer, kept);
         Answer::Rolled {
-            controller: b as u32,
+            controller: hearer as u32,
             kept,
             undone,
             replayed,

@@ -58,9 +58,9 @@ impl House {
     }
 }
 
-/// Sends, releases and delivers one message from s to r, which the degree of s must allow.
-pub fn bring(house: &mut House, s: u32, r: u32) -> String {
-    let sent = house.say(&format!("S {s} {r} 0"));
+/// Sends, releases and delivers one message, which the sender's degree must allow.
+pub fn bring(house: &mut House, sender: u32, receiver: u32) -> String {
+    let sent = house.say(&format!("S {sender} {receiver} 0"));
     let message = sent.strip_prefix("sent ").expect("sent").to_owned();
     let released = house.say(&format!("R {message}"));
     assert!(released.starts_with("released"), "{released}");
