@@ -55,10 +55,6 @@ module _ {A : Type 0} (d : A) (n : ℕ) (f : ℕ → A) where
   pub filled-done : (i : ℕ) (v : List A) → Filled d n f i v → n ≤ i → v ≡ tab n f
   filled-done i v r h = tab-of d n f v (r .size) (λ (k : ℕ) (q : k < n). r .done k (omega arith))
 
-  -- the same where the next index is written in another way
-  pub filled-next : (i j : ℕ) (v : List A) (x : A) → Filled d n f i v → i < n → x ≡ f i → j ≡ i + 1 → Filled d n f j (set v i x)
-  filled-next i j v x r h e q = subst (λ (k : ℕ). Filled d n f k (set v i x)) (sym q) (filled-more i v x r h e)
-
 -- a list is given by its own elements
 pub tab-getD : {A : Type 0} (d : A) (n : ℕ) (l : List A) → length l ≡ n → tab n (λ (i : ℕ). getD l i d) ≡ l
 tab-getD d n l e = sym (tab-of d n (λ (i : ℕ). getD l i d) l e (λ (i : ℕ) (h : i < n). refl))

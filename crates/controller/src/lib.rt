@@ -1,26 +1,29 @@
 // The steps on one controller's own words: its degree, logging, checkpoints, and what it tells of its progress.
 ghost use mathlib.Core.Path.{_≡_};
-ghost use Prim.Native.Nat.{_<_, max};
+ghost use Prim.Native.Nat.{_+_, _-_, _≤_, _<_, max};
 ghost use lib.ListN.{length};
 ghost use Rattle.base.specs.Cases.{firstOf};
-ghost use Rattle.table.specs.Layout.{controllers, incarnations, tableWords};
+ghost use Rattle.table.specs.Field.{LiveCount, StableCount};
+ghost use Rattle.table.specs.Layout.{controllers, tableWords};
 ghost use Rattle.table.specs.Words.{state, words};
 ghost use Rattle.rules.specs.Shared.{logged, loggedTo};
-ghost use Rattle.rules.specs.Steps.{degreeRefusals, logRefusals, tellRefusals, stepDegree, stepLog, stepCheckpoint, stepTell};
+ghost use Rattle.rules.specs.Steps.{degreeRefusals, logRefusals, tellRefusals, checkpointed, toldRow, told, stepDegree, stepLog, stepCheckpoint, stepTell};
 ghost use Rattle.rules.specs.Step.{out, written};
 ghost use Rattle.laws.specs.Answering.{Lent};
-ghost use Rattle.controller.specs.Logs.{Logs, toldRow, rowWords};
+ghost use Rattle.laws.specs.Chain.{Chain};
 use rules::Answer;
+use rules::refusal;
 
 pub fn degree_refusal(t: &[u32], c: u32, k: u32) -> u32
     requires { ⌜ length (now t) ≡ tableWords ⌝ }
     ensures { λ no. ⌜ no ≡ firstOf (degreeRefusals (state (now (t .entry))) c k) ⌝ }
 {
-    if t[table::SIZE] <= c {
-        return 3;
+    let n = table::size(t);
+    if n <= c {
+        return refusal::CONTROLLER;
     }
-    if t[table::SIZE] < k {
-        return 5;
+    if n < k {
+        return refusal::DEGREE;
     }
     0
 }
@@ -34,28 +37,28 @@ pub fn set_degree(t: &mut [u32], c: u32, k: u32) -> Answer
     if no != 0 {
         return Answer::Refused(no);
     }
-    t[table::DEGREE + c as usize * table::CONTROLLER_WORDS] = k;
+    table::set_degree(t, c as usize, k);
     Answer::Done
 }
 
-// The j oldest live intervals of c are stable.
-pub fn log_to(t: &mut [u32], c: usize, j: u32)
-    requires { ⌜ Logs (now t) c ⌝ }
-    ensures { λ _. ⌜ now (t .exit) ≡ words (logged (state (now (t .entry))) c j) ⌝ }
+// The k oldest live intervals of c are stable.
+pub fn log_to(t: &mut [u32], c: usize, k: u32)
+    requires { ⌜ (length (now t) ≡ tableWords) × Chain (state (now t)) c ⌝ }
+    ensures { λ _. ⌜ now (t .exit) ≡ words (logged (state (now (t .entry))) c k) ⌝ }
 {
-    let i = t[table::INCARNATION + c * table::CONTROLLER_WORDS] as usize;
-    let x = table::number_of(t, c, j);
-    t[table::STABLE_COUNT + c * table::CONTROLLER_WORDS] = j;
-    t[table::KNOWN + c * table::ROWS_WORDS + c * table::INCARNATIONS + i] = x;
+    let i = table::incarnation(t, c) as usize;
+    let x = table::number_of(t, c, k);
+    table::set_stable_count(t, c, k);
+    table::set_known(t, c, c, i, x);
 }
 
 // The same, if any of them are not yet stable.
-pub fn log_rest(t: &mut [u32], c: usize, j: u32)
-    requires { ⌜ Logs (now t) c ⌝ }
-    ensures { λ _. ⌜ now (t .exit) ≡ words (loggedTo (state (now (t .entry))) c j) ⌝ }
+pub fn log_rest(t: &mut [u32], c: usize, k: u32)
+    requires { ⌜ (length (now t) ≡ tableWords) × Chain (state (now t)) c ⌝ }
+    ensures { λ _. ⌜ now (t .exit) ≡ words (loggedTo (state (now (t .entry))) c k) ⌝ }
 {
-    if t[table::STABLE_COUNT + c * table::CONTROLLER_WORDS] < j {
-        log_to(t, c, j);
+    if table::stable_count(t, c) < k {
+        log_to(t, c, k);
     }
 }
 
@@ -63,16 +66,24 @@ pub fn log_refusal(t: &[u32], c: u32, q: u32) -> u32
     requires { ⌜ Lent (now t) ⌝ }
     ensures { λ no. ⌜ no ≡ firstOf (logRefusals (state (now (t .entry))) c q) ⌝ }
 {
-    if t[table::SIZE] <= c {
-        return 3;
+    if table::size(t) <= c {
+        return refusal::CONTROLLER;
     }
-    let a = c as usize;
-    let live = t[table::LIVE_COUNT + a * table::CONTROLLER_WORDS];
-    let stable = t[table::STABLE_COUNT + a * table::CONTROLLER_WORDS];
+    let live = table::live_count(t, c as usize);
+    let stable = table::stable_count(t, c as usize);
     if (q == 0) | (live - stable < q) {
-        return 8;
+        return refusal::LOG_COUNT;
     }
     0
+}
+
+// The q oldest live intervals of c that are not stable become so.
+pub fn log_oldest(t: &mut [u32], c: usize, q: u32)
+    requires { ⌜ (length (now t) ≡ tableWords) × Chain (state (now t)) c × (q ≤ state (now t) (LiveCount c) - state (now t) (StableCount c)) ⌝ }
+    ensures { λ _. ⌜ now (t .exit) ≡ words (logged (state (now (t .entry))) c (state (now (t .entry)) (StableCount c) + q)) ⌝ }
+{
+    let stable = table::stable_count(t, c);
+    log_to(t, c, stable + q);
 }
 
 // L c q, on a table in form.
@@ -84,10 +95,18 @@ pub fn log(t: &mut [u32], c: u32, q: u32) -> Answer
     if no != 0 {
         return Answer::Refused(no);
     }
-    let a = c as usize;
-    let stable = t[table::STABLE_COUNT + a * table::CONTROLLER_WORDS];
-    log_to(t, a, stable + q);
+    log_oldest(t, c as usize, q);
     Answer::Done
+}
+
+// All live intervals of c are logged, and its newest place is flagged.
+pub fn flag_newest(t: &mut [u32], c: usize)
+    requires { ⌜ (length (now t) ≡ tableWords) × Chain (state (now t)) c ⌝ }
+    ensures { λ _. ⌜ now (t .exit) ≡ words (checkpointed (state (now (t .entry))) c) ⌝ }
+{
+    let live = table::live_count(t, c);
+    log_rest(t, c, live);
+    table::set_flag(t, c, live as usize - 1, 1);
 }
 
 // C c, on a table in form.
@@ -95,31 +114,11 @@ pub fn checkpoint(t: &mut [u32], c: u32) -> Answer
     requires { ⌜ Lent (now t) ⌝ }
     ensures { λ a. ⌜ out a (now (t .exit)) ≡ written (stepCheckpoint (state (now (t .entry))) c) ⌝ }
 {
-    if t[table::SIZE] <= c {
-        return Answer::Refused(3);
+    if table::size(t) <= c {
+        return Answer::Refused(refusal::CONTROLLER);
     }
-    let a = c as usize;
-    let live = t[table::LIVE_COUNT + a * table::CONTROLLER_WORDS];
-    let newest = live as usize - 1;
-    log_rest(t, a, live);
-    t[table::FLAG + a * table::CHAIN_WORDS + newest * table::PLACE_WORDS] = 1;
+    flag_newest(t, c as usize);
     Answer::Done
-}
-
-// What b knows of a once a has told it: for each incarnation the larger of b's word and a's own.
-pub fn told_row(t: &[u32], a: usize, b: usize) -> [u32; 16]
-    requires { ⌜ (length (now t) ≡ tableWords) × (a < controllers) × (b < controllers) ⌝ }
-    ensures { λ r. ⌜ r ≡ toldRow (state (now (t .entry))) a b ⌝ }
-{
-    let mut row = [0u32; 16];
-    let mut i = 0;
-    while i < table::INCARNATIONS {
-        let theirs = t[table::KNOWN + b * table::ROWS_WORDS + a * table::INCARNATIONS + i];
-        let own = t[table::KNOWN + a * table::ROWS_WORDS + a * table::INCARNATIONS + i];
-        row[i] = larger(theirs, own);
-        i += 1;
-    }
-    row
 }
 
 pub fn larger(x: u32, y: u32) -> u32
@@ -128,44 +127,57 @@ pub fn larger(x: u32, y: u32) -> u32
     if x < y { y } else { x }
 }
 
-pub fn write_row(d: &mut [u32], row: [u32; 16])
-    requires { ⌜ length (now d) ≡ incarnations ⌝ }
-    ensures { λ _. ⌜ now (d .exit) ≡ rowWords row ⌝ }
+// What the holder knows of the owner once the owner has told it: for each incarnation the larger of the holder's word and
+// the owner's own.
+pub fn told_row(t: &[u32], owner: usize, holder: usize) -> [u32; 16]
+    requires { ⌜ (length (now t) ≡ tableWords) × (owner < controllers) × (holder < controllers) ⌝ }
+    ensures { λ row. ⌜ row ≡ toldRow (state (now (t .entry))) owner holder ⌝ }
 {
+    let mut row = [0u32; 16];
     let mut i = 0;
     while i < table::INCARNATIONS {
-        d[i] = row[i];
+        let theirs = table::known(t, holder, owner, i);
+        let own = table::known(t, owner, owner, i);
+        row[i] = larger(theirs, own);
         i += 1;
     }
+    row
 }
 
-pub fn tell_refusal(t: &[u32], a: u32, b: u32) -> u32
-    requires { ⌜ length (now t) ≡ tableWords ⌝ }
-    ensures { λ no. ⌜ no ≡ firstOf (tellRefusals (state (now (t .entry))) a b) ⌝ }
+// The holder's row of the owner becomes what it is told.
+pub fn store_row(t: &mut [u32], owner: usize, holder: usize)
+    requires { ⌜ (length (now t) ≡ tableWords) × (owner < controllers) × (holder < controllers) ⌝ }
+    ensures { λ _. ⌜ now (t .exit) ≡ words (told (state (now (t .entry))) owner holder) ⌝ }
 {
-    if (t[table::SIZE] <= a) | (t[table::SIZE] <= b) {
-        return 3;
+    let row = told_row(t, owner, holder);
+    let from = table::known_row_at(holder, owner);
+    let to = from + table::INCARNATIONS;
+    table::copy_words(&mut t[from..to], &row);
+}
+
+pub fn tell_refusal(t: &[u32], owner: u32, holder: u32) -> u32
+    requires { ⌜ length (now t) ≡ tableWords ⌝ }
+    ensures { λ no. ⌜ no ≡ firstOf (tellRefusals (state (now (t .entry))) owner holder) ⌝ }
+{
+    let n = table::size(t);
+    if (n <= owner) | (n <= holder) {
+        return refusal::CONTROLLER;
     }
-    if a == b {
-        return 6;
+    if owner == holder {
+        return refusal::SAME_CONTROLLER;
     }
     0
 }
 
-// T a b, on a table in form.
-pub fn tell(t: &mut [u32], a: u32, b: u32) -> Answer
+// T a b, the owner and the holder, on a table in form.
+pub fn tell(t: &mut [u32], owner: u32, holder: u32) -> Answer
     requires { ⌜ Lent (now t) ⌝ }
-    ensures { λ r. ⌜ out r (now (t .exit)) ≡ written (stepTell (state (now (t .entry))) a b) ⌝ }
+    ensures { λ a. ⌜ out a (now (t .exit)) ≡ written (stepTell (state (now (t .entry))) owner holder) ⌝ }
 {
-    let no = tell_refusal(t, a, b);
+    let no = tell_refusal(t, owner, holder);
     if no != 0 {
         return Answer::Refused(no);
     }
-    let owner = a as usize;
-    let holder = b as usize;
-    let row = told_row(t, owner, holder);
-    let from = table::KNOWN + holder * table::ROWS_WORDS + owner * table::INCARNATIONS;
-    let to = from + table::INCARNATIONS;
-    write_row(&mut t[from..to], row);
+    store_row(t, owner as usize, holder as usize);
     Answer::Done
 }

@@ -6,7 +6,7 @@ use Prim.Native.Nat.{ℕ}
 use lib.ListN.{length, getD}
 use borrow.Author.Tests.{eq-eqb, ne-eqb}
 use Rattle.base.specs.Choice.{_==_}
-use Rattle.base.specs.Lists.{tab, tab-getD, length-tab}
+use Rattle.base.specs.Lists.{tab, length-tab}
 use Rattle.table.specs.Layout.{tableWords}
 use Rattle.table.specs.Words.{state}
 use Rattle.rules.specs.Limits.{house}
@@ -15,30 +15,24 @@ use Rattle.rules.specs.Report.{report}
 use Rattle.rules.specs.Step.{Out, out, step}
 use Rattle.rules.specs.declared.Answer.{Answer}
 use Rattle.rules.specs.declared.Command.{Command}
-use Rattle.rules.specs.declared.Command.the-variants.{Open, SetDegree, Send, Release, Deliver, Log, Checkpoint, Tell, Crash, Hear}
+use Rattle.lines.specs.Lines.{stepOf}
 use Rattle.lines.specs.declared.Parsed.{Parsed}
 use Rattle.lines.specs.declared.Parsed.the-variants.{Asks, Bad}
 
--- the step of a letter (its byte of ASCII) and three numbers
-unfoldable pub called : ℕ → ℕ → ℕ → ℕ → Parsed
-called l a b c =
-    cond (l == 79) (Asks (Open a b))
-    (cond (l == 75) (Asks (SetDegree a b))
-    (cond (l == 83) (Asks (Send a b c))
-    (cond (l == 82) (Asks (Release a))
-    (cond (l == 68) (Asks (Deliver a))
-    (cond (l == 76) (Asks (Log a b))
-    (cond (l == 67) (Asks (Checkpoint a))
-    (cond (l == 84) (Asks (Tell a b))
-    (cond (l == 88) (Asks (Crash a))
-    (cond (l == 72) (Asks (Hear a b c)) Bad)))))))))
+-- how many words the value buffer has
+abbrev pub valueRoom : ℕ
+valueRoom = 5
 
--- the first five of a list, with zeros where there are fewer
-unfoldable pub firstWords : List ℕ → List ℕ
-firstWords v = tab 5 (λ (i : ℕ). getD v i 0)
+-- what a call returns that is no answer
+abbrev pub unknownLetter : ℕ
+unknownLetter = 11
 
+abbrev pub wrongValues : ℕ
+wrongValues = 12
+
+-- the values of an answer, with zeros where there are fewer
 unfoldable pub valueWords : Answer → List ℕ
-valueWords a = firstWords (report a .values)
+valueWords a = tab valueRoom (λ (i : ℕ). getD (report a .values) i 0)
 
 pub record Returned : Type 0 where
   pub number : ℕ
@@ -48,36 +42,42 @@ pub record Returned : Type 0 where
 abbrev pub returned : ℕ → List ℕ → List ℕ → Returned
 returned r t v = record { number = r; table = t; values = v }
 
--- an answer's number and values; 11 for an unknown letter and 12 for a buffer of another length than 5 change nothing
+-- an answer's number and values; an unknown letter changes nothing
 unfoldable pub taken : List ℕ → List ℕ → Parsed → Returned
 taken t v (Asks x) = let o = step t x in returned (report (o .answer) .number) (o .table) (valueWords (o .answer))
-taken t v Bad = returned 11 t v
+taken t v Bad = returned unknownLetter t v
 
+-- neither does a value buffer of another length
 unfoldable pub call : List ℕ → List ℕ → ℕ → ℕ → ℕ → ℕ → Returned
-call t v l a b c = cond (length v == 5) (taken t v (called l a b c)) (returned 12 t v)
+call t v letter a b c = cond (length v == valueRoom) (taken t v (stepOf letter a b c)) (returned wrongValues t v)
+
+-- whether a table is in form, as a number
+abbrev pub formed : ℕ
+formed = 1
+
+abbrev pub unformed : ℕ
+unformed = 0
 
 unfoldable pub formNumber : List ℕ → ℕ
-formNumber t = cond (length t == tableWords) (cond (inForm house (state t)) 1 0) 0
+formNumber t = cond (length t == tableWords) (cond (inForm house (state t)) formed unformed) unformed
 
--- the five words of an answer are its first five
-first-values : (y : Answer) → firstWords (valueWords y) ≡ valueWords y
-unfolding firstWords valueWords
-first-values y = tab-getD 0 5 _ (length-tab 5 _)
+-- there are as many values as the buffer has words
+pub value-count : (a : Answer) → length (valueWords a) ≡ valueRoom
+unfolding valueWords
+value-count a = length-tab valueRoom _
 
--- what a call has to show: the buffer has another length, the letter is unknown, or a step was taken
+-- what a step that was taken has to show
+pub step-taken : (t v : List ℕ) (x : Command) {u w : List ℕ} {y : Answer} {r : ℕ} → out y u ≡ step t x → r ≡ report y .number → w ≡ valueWords y → returned r u w ≡ taken t v (Asks x)
+unfolding taken
+step-taken t v x {u} {w} {y} {r} s n m =
+    (λ d. returned (n d) u (m d)) ∙ ap (λ (o : Out). returned (report (o .answer) .number) (o .table) (valueWords (o .answer))) s
+
+-- what a call has to show: the buffer has another length, or what the letter asks for was done
 module _ (t v : List ℕ) (l a b c : ℕ) where
-  pub wrong-room : (length v ≡ 5 → ⊥) → returned 12 t v ≡ call t v l a b c
+  pub wrong-values : (length v ≡ valueRoom → ⊥) → returned wrongValues t v ≡ call t v l a b c
   unfolding call
-  wrong-room ne = rw (ne-eqb (length v) 5 ne)
+  wrong-values ne = rw (ne-eqb (length v) valueRoom ne)
 
-  pub unknown-letter : length v ≡ 5 → called l a b c ≡ Bad → returned 11 t v ≡ call t v l a b c
-  unfolding call taken
-  unknown-letter e q = rw (eq-eqb (length v) 5 e, q)
-
-  pub step-taken : (x : Command) (y : Answer) (r : ℕ) (u w z : List ℕ) → length v ≡ 5 → called l a b c ≡ Asks x → out y u ≡ step t x → r ≡ report y .number → z ≡ valueWords y → w ≡ firstWords z →
-      returned r u w ≡ call t v l a b c
-  unfolding call taken
-  step-taken x y r u w z e q s n m f =
-      (λ d. returned (n d) u ((f ∙ ap firstWords m ∙ first-values y) d))
-      ∙ ap (λ (o : Out). returned (report (o .answer) .number) (o .table) (valueWords (o .answer))) s
-      ∙ sym (rw (eq-eqb (length v) 5 e, q))
+  pub letter-taken : {p : Parsed} {r : Returned} → length v ≡ valueRoom → stepOf l a b c ≡ p → r ≡ taken t v p → r ≡ call t v l a b c
+  unfolding call
+  letter-taken e q h = h ∙ sym (rw (eq-eqb (length v) valueRoom e, q))

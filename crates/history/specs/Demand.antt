@@ -1,4 +1,4 @@
--- Demand 3 of the minutes, about runs of the step function on the words of a lent table.
+-- Demand 3 of the minutes, about lists of calls over the words of a lent table.
 use mathlib.Core.Path.{_≡_}
 use mathlib.Core.Bool.{Bool, true, false}
 use mathlib.Core.List.{List, [], _∷_, _++_}
@@ -6,10 +6,9 @@ use mathlib.Core.Logic.{_↔_, _≢_}
 use Prim.Native.Nat.{ℕ, _+_, _^_, _/_, _%_, _≤_, _<_}
 use lib.Count.{ones}
 use Rattle.base.specs.Choice.{_==_}
-use Rattle.rules.specs.Step.{step}
+use Rattle.rules.specs.Step.{step, Call, asks, stepCall}
 use Rattle.rules.specs.declared.Answer.{Answer}
 use Rattle.rules.specs.declared.Answer.the-variants.{Done, Released, Heard, Rolled}
-use Rattle.rules.specs.declared.Command.{Command}
 use Rattle.rules.specs.declared.Command.the-variants.{Open, Release, Hear}
 use Rattle.history.specs.History.{Interval, History, member, opening, fed}
 
@@ -18,63 +17,69 @@ pub record Run : Type 0 where
   pub table : List ℕ
   pub history : History
 
-unfoldable pub next : Command → Run → Run
-next x r = let o = step (r .table) x in record { table = o .table; history = fed x (o .answer) (r .history) }
+unfoldable pub next : Call → Run → Run
+next x r = let o = stepCall (r .table) x in record { table = o .table; history = fed x (o .answer) (r .history) }
 
-unfoldable pub runs : Run → List Command → Run
+unfoldable pub runs : Run → List Call → Run
 runs r [] = r
 runs r (x ∷ l) = runs (next x r) l
 
 -- "in a house just opened": from the table that the opening left, whatever stood in it before
-unfoldable pub opened : List ℕ → ℕ → ℕ → Run
-opened t n k = record { table = step t (Open n k) .table; history = opening n k }
+unfoldable pub justOpened : List ℕ → ℕ → ℕ → Run
+justOpened t n k = record { table = step t (Open n k) .table; history = opening n k }
 
 -- a hearing is accepted
 pub data Accepted : Answer → Type 0 where
-  heard : (b : ℕ) → Accepted (Heard b)
-  rolled : (b k undone replayed : ℕ) → Accepted (Rolled b k undone replayed)
+  answersHeard : (hearer : ℕ) → Accepted (Heard hearer)
+  answersRolled : (hearer k undone replayed : ℕ) → Accepted (Rolled hearer k undone replayed)
 
--- i rests on one lost, as the history `whole` tells, in a crash that b has heard by the history `then`
-pub record RestsOnLost (whole then : History) (b : ℕ) (i : Interval) : Type 0 where
+-- y rests on one lost, as the history `whole` tells, in a crash that the hearer has heard by the history `then`; a crash is told
+-- by its controller and the incarnation that it ended
+pub record RestsOnLost (whole then : History) (hearer : ℕ) (y : Interval) : Type 0 where
   pub on : Interval
   pub crash : ℕ
-  pub rests : whole .rests i on ≡ true
+  pub rests : whole .rests y on ≡ true
   pub lost : whole .lost on crash ≡ true
-  pub heard : then .heard b (on .owner) crash ≡ true
+  pub heard : then .heard hearer (on .owner) crash ≡ true
 
 -- "named are the controllers c whose 2 to the power c is in the mask"
 abbrev pub named : ℕ → ℕ → Bool
 named mask c = (mask / 2 ^ c) % 2 == 1
 
--- The opening of t with n and k is done, and no opening in the list is: a done opening begins a new list.
-pub record FromOpening (t : List ℕ) (n k : ℕ) (l : List Command) : Type 0 where
-  pub done : step t (Open n k) .answer ≡ Done
-  pub no-opening : (before after : List Command) (m j : ℕ) → l ≡ before ++ Open m j ∷ after → step (runs (opened t n k) before .table) (Open m j) .answer ≢ Done
+-- lists from the opening of t with n and k
+module _ (t : List ℕ) (n k : ℕ) where
+  -- the run after the first part of a list
+  abbrev pub upTo : List Call → Run
+  upTo before = runs (justOpened t n k) before
 
-module _ (t : List ℕ) (n k : ℕ) (l : List Command) where
-  -- the run before a step of the list, and the run at its end
-  abbrev pub upTo : List Command → Run
-  upTo before = runs (opened t n k) before
+  -- The opening is done, and no opening in the list is: a done opening begins a new list.
+  pub record FromOpening (l : List Call) : Type 0 where
+    pub done : step t (Open n k) .answer ≡ Done
+    pub no-opening : (before after : List Call) (size degree : ℕ) → l ≡ before ++ asks (Open size degree) ∷ after → step (upTo before .table) (Open size degree) .answer ≢ Done
 
-  abbrev pub end : History
-  end = upTo l .history
+  module _ (l : List Call) where
+    -- the history at the end of the list
+    abbrev pub end : History
+    end = upTo l .history
 
-  pub record Demand3 : Type 0 where
-    -- "Every accepted hearing in the list undid exactly those live intervals of its controller that rest, through deliveries and
-    -- their controllers' earlier intervals, on one lost in a crash which that controller has heard by then."
-    pub hearings : (before after : List Command) (b a i : ℕ) → l ≡ before ++ Hear b a i ∷ after →
-        Accepted (step (upTo before .table) (Hear b a i) .answer) →
-        (x : Interval) → member x (upTo before .history .chain b) ≡ true →
-        (member x (next (Hear b a i) (upTo before) .history .chain b) ≡ false) ↔ RestsOnLost end (next (Hear b a i) (upTo before) .history) b x
-    -- "No live interval rests on one lost in a crash its controller has heard."
-    pub live : (b : ℕ) → b < n → (x : Interval) → member x (end .chain b) ≡ true → RestsOnLost end end b x → ⊥
-    -- "Each message that a release in the list let out under a degree K was let out with at most K controllers named";
-    pub degrees : (before after : List Command) (m said mask : ℕ) → l ≡ before ++ Release m ∷ after →
-        step (upTo before .table) (Release m) .answer ≡ Released said mask →
-        ones mask ≤ upTo before .history .degree (upTo before .history .sending m .owner)
-    -- "these own every interval that its sending interval rests on, that wasn't stable at that release, and that is lost
-    -- anywhere in the list, before it or after."
-    pub releases : (before after : List Command) (m said mask : ℕ) → l ≡ before ++ Release m ∷ after →
-        step (upTo before .table) (Release m) .answer ≡ Released said mask →
-        (x : Interval) (crash : ℕ) → end .rests (end .sending m) x ≡ true → upTo before .history .stable x ≡ false → end .lost x crash ≡ true →
-        named mask (x .owner) ≡ true
+    pub record Demand3 : Type 0 where
+      -- "Every accepted hearing in the list undid exactly those live intervals of its controller that rest, through deliveries and
+      -- their controllers' earlier intervals, on one lost in a crash which that controller has heard by then."
+      pub hearings : (before after : List Call) (hearer crashed i : ℕ) → l ≡ before ++ asks (Hear hearer crashed i) ∷ after →
+          Accepted (step (upTo before .table) (Hear hearer crashed i) .answer) →
+          (y : Interval) → member y (upTo before .history .chain hearer) ≡ true →
+          let then = next (asks (Hear hearer crashed i)) (upTo before) .history in
+          (member y (then .chain hearer) ≡ false) ↔ RestsOnLost end then hearer y
+      -- "No live interval rests on one lost in a crash its controller has heard."
+      pub live : (c : ℕ) → c < n → (y : Interval) → member y (end .chain c) ≡ true → RestsOnLost end end c y → ⊥
+      -- "Each message that a release in the list let out under a degree K was let out with at most K controllers named";
+      pub degrees : (before after : List Call) (m echoed mask : ℕ) → l ≡ before ++ asks (Release m) ∷ after →
+          step (upTo before .table) (Release m) .answer ≡ Released echoed mask →
+          let h = upTo before .history in
+          ones mask ≤ h .degree (h .sending m .owner)
+      -- "these own every interval that its sending interval rests on, that wasn't stable at that release, and that is lost
+      -- anywhere in the list, before it or after."
+      pub releases : (before after : List Call) (m echoed mask : ℕ) → l ≡ before ++ asks (Release m) ∷ after →
+          step (upTo before .table) (Release m) .answer ≡ Released echoed mask →
+          (y : Interval) (crash : ℕ) → end .rests (end .sending m) y ≡ true → upTo before .history .stable y ≡ false → end .lost y crash ≡ true →
+          named mask (y .owner) ≡ true

@@ -6,24 +6,25 @@ use mathlib.Core.List.{List, [], _∷_}
 use Prim.Native.Nat.{ℕ}
 use lib.ListN.{take}
 use Rattle.rules.specs.Report.{report}
+use Rattle.rules.specs.Step.{asks}
 use Rattle.rules.specs.declared.Answer.{Answer}
 use Rattle.rules.specs.declared.Answer.the-variants.{Done, Sent, Released, Held, Delivered, Crashed, Heard, Rolled, Refused}
 use Rattle.rules.specs.declared.Command.{Command}
 use Rattle.rules.specs.declared.Command.the-variants.{Open, SetDegree, Send, Release, Deliver, Log, Checkpoint, Crash, Hear}
-use Rattle.history.specs.History.{interval, History, sameInterval, at, atInterval, newest, member, those, oldest, degreeSet, sentFrom, joined, leaving, stabilized, hearing, losing, opening, delivering, logging, checkpointing, restarting, crashing, rollingBack, says, value, fed}
+use Rattle.history.specs.History.{interval, History, sameInterval, changedAt, changedAtInterval, newest, member, those, oldest, degreeSet, sentFrom, joined, leaving, stabilized, hearing, losing, opening, delivering, logging, checkpointing, restarting, crashing, rollingBack, answers, valueAt, fedStep, fed}
 use Rattle.history.specs.Demand.{RestsOnLost, named}
 
 -- a line of the listing: the step and its answer
-pub record Line : Type 0 where
-  pub step : Command
-  pub answer : Answer
+pub record ListingLine : Type 0 where
+  pub asked : Command
+  pub answered : Answer
 
 -- a line by its parts
-abbrev pub line : Command → Answer → Line
-line x a = record { step = x; answer = a }
+abbrev pub line : Command → Answer → ListingLine
+line x a = record { asked = x; answered = a }
 
 -- Listing A after its opening
-abbrev pub listing : List Line
+abbrev pub listing : List ListingLine
 listing =
     -- 1 to 3: message 1 from controller 0 to 1
     line (Send 0 1 7) (Sent 1) ∷ line (Release 1) (Released 1 0) ∷ line (Deliver 1) (Delivered 1 0 2)
@@ -38,65 +39,65 @@ listing =
     ∷ []
 
 -- the history after all lines of a list
-unfoldable pub all : List Line → History → History
+unfoldable pub all : List ListingLine → History → History
 all [] h = h
-all (x ∷ l) h = all l (fed (x .step) (x .answer) h)
+all (x ∷ l) h = all l (fed (asks (x .asked)) (x .answered) h)
 
--- the history after the first i lines
-abbrev pub after : ℕ → History
-after i = all (take i listing) (opening 3 1)
+-- the history after the first k lines
+abbrev pub afterLines : ℕ → History
+afterLines k = all (take k listing) (opening 3 1)
 
 -- what it says, moment by moment
 pub record ListingA : Type 0 where
   -- an opening: one interval, stable, resting on itself alone; the degree is given
-  pub opened-chain : after 0 .chain 1 ≡ interval 1 0 1 ∷ []
-  pub opened-stable : after 0 .stable (interval 1 0 1) ≡ true
-  pub opened-self : after 0 .rests (interval 1 0 1) (interval 1 0 1) ≡ true
-  pub opened-alone : after 0 .rests (interval 1 0 1) (interval 0 0 1) ≡ false
-  pub opened-degree : after 0 .degree 2 ≡ 1
+  pub opened-chain : afterLines 0 .chain 1 ≡ interval 1 0 1 ∷ []
+  pub opened-stable : afterLines 0 .stable (interval 1 0 1) ≡ true
+  pub opened-self : afterLines 0 .rests (interval 1 0 1) (interval 1 0 1) ≡ true
+  pub opened-alone : afterLines 0 .rests (interval 1 0 1) (interval 0 0 1) ≡ false
+  pub opened-degree : afterLines 0 .degree 2 ≡ 1
   -- a message is sent from the newest live interval; a delivery begins the next number, which is not stable
-  pub first-from : after 1 .sending 1 ≡ interval 0 0 1
-  pub first-to : after 1 .receiver 1 ≡ 1
-  pub second-from : after 4 .sending 2 ≡ interval 1 0 2
-  pub delivered-chain : after 6 .chain 2 ≡ interval 2 0 2 ∷ interval 2 0 1 ∷ []
-  pub delivered-unstable : after 6 .stable (interval 2 0 2) ≡ false
+  pub first-from : afterLines 1 .sending 1 ≡ interval 0 0 1
+  pub first-to : afterLines 1 .receiver 1 ≡ 1
+  pub second-from : afterLines 4 .sending 2 ≡ interval 1 0 2
+  pub delivered-chain : afterLines 6 .chain 2 ≡ interval 2 0 2 ∷ interval 2 0 1 ∷ []
+  pub delivered-unstable : afterLines 6 .stable (interval 2 0 2) ≡ false
   -- it rests on itself, on the live interval before it, on the sending interval, and on what that rests on
-  pub rests-self : after 6 .rests (interval 2 0 2) (interval 2 0 2) ≡ true
-  pub rests-before : after 6 .rests (interval 2 0 2) (interval 2 0 1) ≡ true
-  pub rests-sender : after 6 .rests (interval 2 0 2) (interval 1 0 2) ≡ true
-  pub rests-sender-before : after 6 .rests (interval 2 0 2) (interval 1 0 1) ≡ true
-  pub rests-sender-sender : after 6 .rests (interval 2 0 2) (interval 0 0 1) ≡ true
-  pub rests-not-back : after 6 .rests (interval 1 0 2) (interval 2 0 2) ≡ false
+  pub rests-self : afterLines 6 .rests (interval 2 0 2) (interval 2 0 2) ≡ true
+  pub rests-before : afterLines 6 .rests (interval 2 0 2) (interval 2 0 1) ≡ true
+  pub rests-sender : afterLines 6 .rests (interval 2 0 2) (interval 1 0 2) ≡ true
+  pub rests-sender-before : afterLines 6 .rests (interval 2 0 2) (interval 1 0 1) ≡ true
+  pub rests-sender-sender : afterLines 6 .rests (interval 2 0 2) (interval 0 0 1) ≡ true
+  pub rests-not-back : afterLines 6 .rests (interval 1 0 2) (interval 2 0 2) ≡ false
   -- `held` changes nothing; a log makes the oldest that is not stable so, and a release nothing
-  pub held-unstable : after 8 .stable (interval 2 0 2) ≡ false
-  pub logged-stable : after 9 .stable (interval 2 0 2) ≡ true
-  pub logged-only : after 9 .stable (interval 1 0 2) ≡ false
+  pub held-unstable : afterLines 8 .stable (interval 2 0 2) ≡ false
+  pub logged-stable : afterLines 9 .stable (interval 2 0 2) ≡ true
+  pub logged-only : afterLines 9 .stable (interval 1 0 2) ≡ false
   -- a crash: what is not stable is lost in it and leaves; what is stable is not lost; the new interval is stable; its controller alone has heard
-  pub crashed-lost : after 11 .lost (interval 1 0 2) 0 ≡ true
-  pub crashed-kept : after 11 .lost (interval 1 0 1) 0 ≡ false
-  pub crashed-chain : after 11 .chain 1 ≡ interval 1 1 2 ∷ interval 1 0 1 ∷ []
-  pub crashed-incarnation : after 11 .incarnation 1 ≡ 1
-  pub crashed-stable : after 11 .stable (interval 1 1 2) ≡ true
-  pub crashed-rests : after 11 .rests (interval 1 1 2) (interval 1 0 1) ≡ true
-  pub crashed-forgets : after 11 .rests (interval 1 1 2) (interval 1 0 2) ≡ false
-  pub crashed-heard : after 11 .heard 1 1 0 ≡ true
-  pub crashed-unheard : after 11 .heard 2 1 0 ≡ false
+  pub crashed-lost : afterLines 11 .lost (interval 1 0 2) 0 ≡ true
+  pub crashed-kept : afterLines 11 .lost (interval 1 0 1) 0 ≡ false
+  pub crashed-chain : afterLines 11 .chain 1 ≡ interval 1 1 2 ∷ interval 1 0 1 ∷ []
+  pub crashed-incarnation : afterLines 11 .incarnation 1 ≡ 1
+  pub crashed-stable : afterLines 11 .stable (interval 1 1 2) ≡ true
+  pub crashed-rests : afterLines 11 .rests (interval 1 1 2) (interval 1 0 1) ≡ true
+  pub crashed-forgets : afterLines 11 .rests (interval 1 1 2) (interval 1 0 2) ≡ false
+  pub crashed-heard : afterLines 11 .heard 1 1 0 ≡ true
+  pub crashed-unheard : afterLines 11 .heard 2 1 0 ≡ false
   -- what was stable of controller 2 still rests on the lost interval, and so does what message 3 begins
-  pub orphan : after 12 .rests (interval 0 0 2) (interval 1 0 2) ≡ true
+  pub orphan : afterLines 12 .rests (interval 0 0 2) (interval 1 0 2) ≡ true
   -- hearings: the numbers above 1 leave, lost they are not, and the new interval rests on what was kept alone
-  pub heard : after 13 .heard 2 1 0 ≡ true
-  pub rolled-chain : after 13 .chain 2 ≡ interval 2 1 2 ∷ interval 2 0 1 ∷ []
-  pub rolled-not-lost : after 13 .lost (interval 2 0 2) 0 ≡ false
-  pub rolled-stable : after 13 .stable (interval 2 1 2) ≡ true
-  pub rolled-clean : after 13 .rests (interval 2 1 2) (interval 1 0 2) ≡ false
-  pub not-yet-heard : after 13 .heard 0 1 0 ≡ false
-  pub last-chain : after 14 .chain 0 ≡ interval 0 1 2 ∷ interval 0 0 1 ∷ []
+  pub heard : afterLines 13 .heard 2 1 0 ≡ true
+  pub rolled-chain : afterLines 13 .chain 2 ≡ interval 2 1 2 ∷ interval 2 0 1 ∷ []
+  pub rolled-not-lost : afterLines 13 .lost (interval 2 0 2) 0 ≡ false
+  pub rolled-stable : afterLines 13 .stable (interval 2 1 2) ≡ true
+  pub rolled-clean : afterLines 13 .rests (interval 2 1 2) (interval 1 0 2) ≡ false
+  pub not-yet-heard : afterLines 13 .heard 0 1 0 ≡ false
+  pub last-chain : afterLines 14 .chain 0 ≡ interval 0 1 2 ∷ interval 0 0 1 ∷ []
   -- a refused step changes nothing
-  pub refused-chain : after 15 .chain 0 ≡ interval 0 1 2 ∷ interval 0 0 1 ∷ []
+  pub refused-chain : afterLines 15 .chain 0 ≡ interval 0 1 2 ∷ interval 0 0 1 ∷ []
 
 -- all of it, by computing
 pub listing-a : ListingA
-unfolding all fed says report value sameInterval at atInterval newest member those oldest degreeSet sentFrom joined leaving stabilized hearing losing opening delivering logging checkpointing restarting crashing rollingBack
+unfolding all fed fedStep answers report valueAt sameInterval changedAt changedAtInterval newest member those oldest degreeSet sentFrom joined leaving stabilized hearing losing opening delivering logging checkpointing restarting crashing rollingBack
 listing-a =
     record {
       opened-chain = refl;
@@ -141,9 +142,9 @@ listing-a =
 -- The words of demand 3 on this list: controller 2's interval (0,2) is one to undo once controller 2 has heard, not before; its
 -- (0,1) never is; and the mask 6 names controllers 1 and 2.
 pub record ListingAJudged : Type 0 where
-  pub orphan-heard : RestsOnLost (after 15) (after 13) 2 (interval 2 0 2)
-  pub orphan-unheard : RestsOnLost (after 15) (after 12) 2 (interval 2 0 2) → ⊥
-  pub first-kept : after 15 .rests (interval 2 0 1) (interval 1 0 2) ≡ false
+  pub orphan-heard : RestsOnLost (afterLines 15) (afterLines 13) 2 (interval 2 0 2)
+  pub orphan-unheard : RestsOnLost (afterLines 15) (afterLines 12) 2 (interval 2 0 2) → ⊥
+  pub first-kept : afterLines 15 .rests (interval 2 0 1) (interval 1 0 2) ≡ false
   pub named-0 : named 6 0 ≡ false
   pub named-1 : named 6 1 ≡ true
   pub named-2 : named 6 2 ≡ true
@@ -151,7 +152,7 @@ pub record ListingAJudged : Type 0 where
 
 -- all of it, by computing
 pub listing-a-judged : ListingAJudged
-unfolding all fed says report value sameInterval at atInterval newest member those oldest degreeSet sentFrom joined leaving stabilized hearing losing opening delivering logging checkpointing restarting crashing rollingBack
+unfolding all fed fedStep answers report valueAt sameInterval changedAt changedAtInterval newest member those oldest degreeSet sentFrom joined leaving stabilized hearing losing opening delivering logging checkpointing restarting crashing rollingBack
 listing-a-judged =
     record {
       orphan-heard = record { on = interval 1 0 2; crash = 0; rests = refl; lost = refl; heard = refl };
@@ -165,7 +166,7 @@ listing-a-judged =
 
 -- Another list: controller 0 gets message 1, which rests on stable intervals alone, and then messages 3 and 4 from an interval of
 -- controller 1 that is not stable; nothing of controller 0 is logged.
-abbrev pub deliveries : List Line
+abbrev pub deliveries : List ListingLine
 deliveries =
     line (Send 1 0 0) (Sent 1) ∷ line (Release 1) (Released 1 0) ∷ line (Deliver 1) (Delivered 1 0 2)
     ∷ line (Send 2 1 0) (Sent 2) ∷ line (Release 2) (Released 2 0) ∷ line (Deliver 2) (Delivered 2 0 2)
@@ -174,11 +175,11 @@ deliveries =
     ∷ []
 
 -- the history after it and these steps more
-abbrev pub then : List Line → History
+abbrev pub then : List ListingLine → History
 then l = all l (all deliveries (opening 3 3))
 
 -- the crash of controller 1
-abbrev pub crash : Line
+abbrev pub crash : ListingLine
 crash = line (Crash 1) (Crashed 1 0 1 1 0)
 
 -- what the history says after each of some steps
@@ -209,7 +210,7 @@ pub record Deliveries : Type 0 where
 
 -- all of it, by computing
 pub deliveries-hold : Deliveries
-unfolding all fed says report value sameInterval at atInterval newest member those oldest degreeSet sentFrom joined leaving stabilized hearing losing opening delivering logging checkpointing restarting crashing rollingBack
+unfolding all fed fedStep answers report valueAt sameInterval changedAt changedAtInterval newest member those oldest degreeSet sentFrom joined leaving stabilized hearing losing opening delivering logging checkpointing restarting crashing rollingBack
 deliveries-hold =
     record {
       logged-first = refl;

@@ -6,6 +6,7 @@ use Prim.Native.Nat.{ℕ, _+_, _-_}
 use lib.ListN.{length, getD, drop}
 use Rattle.base.specs.Choice.{_==_, _≤?_, _<?_}
 use Rattle.rules.specs.Report.{report}
+use Rattle.rules.specs.Step.{Call, asks}
 use Rattle.rules.specs.declared.Answer.{Answer}
 use Rattle.rules.specs.declared.Answer.the-variants.{Done, Sent, Delivered, Crashed, Heard, Rolled}
 use Rattle.rules.specs.declared.Command.{Command}
@@ -18,10 +19,10 @@ pub record Interval : Type 0 where
   pub number : ℕ
 
 abbrev pub interval : ℕ → ℕ → ℕ → Interval
-interval c t x = record { owner = c; incarnation = t; number = x }
+interval c i x = record { owner = c; incarnation = i; number = x }
 
 unfoldable pub sameInterval : Interval → Interval → Bool
-sameInterval i j = (i .owner == j .owner) && ((i .incarnation == j .incarnation) && (i .number == j .number))
+sameInterval y z = (y .owner == z .owner) && ((y .incarnation == z .incarnation) && (y .number == z .number))
 
 -- "It keeps each controller's degree, incarnation, chain and crashes heard; each message's receiver and sending interval; and
 -- for each interval ever begun what it rests on, whether it is stable, and the crash it was lost in, if any."
@@ -31,7 +32,7 @@ pub record History : Type 0 where
   pub incarnation : ℕ → ℕ
   -- the live intervals, newest first
   pub chain : ℕ → List Interval
-  -- controller b has heard the crash that ended a's incarnation t
+  -- the first controller has heard the crash that ended that incarnation of the second
   pub heard : ℕ → ℕ → ℕ → Bool
   -- message number
   pub receiver : ℕ → ℕ
@@ -40,28 +41,28 @@ pub record History : Type 0 where
   -- the first rests on the second
   pub rests : Interval → Interval → Bool
   pub stable : Interval → Bool
-  -- lost in the crash that ended its controller's incarnation t
+  -- lost in the crash that ended that incarnation of its controller
   pub lost : Interval → ℕ → Bool
 
 -- a function changed at one number, or at one interval
-unfoldable pub at : {A : Type 0} → (ℕ → A) → ℕ → A → ℕ → A
-at f i a j = cond (j == i) a (f j)
+unfoldable pub changedAt : {A : Type 0} → (ℕ → A) → ℕ → A → ℕ → A
+changedAt f n a k = cond (k == n) a (f k)
 
-unfoldable pub atInterval : {A : Type 0} → (Interval → A) → Interval → A → Interval → A
-atInterval f i a j = cond (sameInterval j i) a (f j)
+unfoldable pub changedAtInterval : {A : Type 0} → (Interval → A) → Interval → A → Interval → A
+changedAtInterval f y a z = cond (sameInterval z y) a (f z)
 
 -- the newest of a chain; a chain is never empty, but the function must answer
 unfoldable pub newest : List Interval → Interval
 newest [] = interval 0 0 0
-newest (i ∷ l) = i
+newest (y ∷ l) = y
 
 unfoldable pub member : Interval → List Interval → Bool
-member i [] = false
-member i (j ∷ l) = sameInterval i j || member i l
+member y [] = false
+member y (z ∷ l) = sameInterval y z || member y l
 
 unfoldable pub those : (Interval → Bool) → List Interval → List Interval
 those p [] = []
-those p (i ∷ l) = cond (p i) (i ∷ those p l) (those p l)
+those p (y ∷ l) = cond (p y) (y ∷ those p l) (those p l)
 
 unfoldable pub oldest : ℕ → List Interval → List Interval
 oldest q l = drop (length l - q) l
@@ -71,7 +72,7 @@ oldest q l = drop (length l - q) l
 unfoldable pub degreeSet : History → ℕ → ℕ → History
 degreeSet h c k =
     record {
-      degree = at (h .degree) c k;
+      degree = changedAt (h .degree) c k;
       incarnation = h .incarnation;
       chain = h .chain;
       heard = h .heard;
@@ -91,27 +92,27 @@ sentFrom h m s r =
       incarnation = h .incarnation;
       chain = h .chain;
       heard = h .heard;
-      receiver = at (h .receiver) m r;
-      sending = at (h .sending) m (newest (h .chain s));
+      receiver = changedAt (h .receiver) m r;
+      sending = changedAt (h .sending) m (newest (h .chain s));
       begun = h .begun;
       rests = h .rests;
       stable = h .stable;
       lost = h .lost;
     }
 
--- interval i of c joins the chain: it rests on itself and on what r says, and is stable or not
+-- interval y of c joins the chain: it rests on itself and on what `on` tells, and is stable or not
 unfoldable pub joined : History → ℕ → Interval → (Interval → Bool) → Bool → History
-joined h c i r s =
+joined h c y on isStable =
     record {
       degree = h .degree;
-      incarnation = at (h .incarnation) c (i .incarnation);
-      chain = at (h .chain) c (i ∷ h .chain c);
+      incarnation = changedAt (h .incarnation) c (y .incarnation);
+      chain = changedAt (h .chain) c (y ∷ h .chain c);
       heard = h .heard;
       receiver = h .receiver;
       sending = h .sending;
-      begun = atInterval (h .begun) i true;
-      rests = atInterval (h .rests) i (λ (j : Interval). sameInterval j i || r j);
-      stable = atInterval (h .stable) i s;
+      begun = changedAtInterval (h .begun) y true;
+      rests = changedAtInterval (h .rests) y (λ (z : Interval). sameInterval z y || on z);
+      stable = changedAtInterval (h .stable) y isStable;
       lost = h .lost;
     }
 
@@ -121,7 +122,7 @@ leaving h c p =
     record {
       degree = h .degree;
       incarnation = h .incarnation;
-      chain = at (h .chain) c (those p (h .chain c));
+      chain = changedAt (h .chain) c (those p (h .chain c));
       heard = h .heard;
       receiver = h .receiver;
       sending = h .sending;
@@ -143,18 +144,18 @@ stabilized h l =
       sending = h .sending;
       begun = h .begun;
       rests = h .rests;
-      stable = λ (i : Interval). h .stable i || member i l;
+      stable = λ (y : Interval). h .stable y || member y l;
       lost = h .lost;
     }
 
--- "b has heard the crash that ended a's incarnation t"
+-- H: "b has heard the crash that ended a's incarnation t": the hearer b, the crashed a and its incarnation
 unfoldable pub hearing : History → ℕ → ℕ → ℕ → History
-hearing h b a t =
+hearing h hearer crashed i =
     record {
       degree = h .degree;
       incarnation = h .incarnation;
       chain = h .chain;
-      heard = at (h .heard) b (at (h .heard b) a (at (h .heard b a) t true));
+      heard = changedAt (h .heard) hearer (changedAt (h .heard hearer) crashed (changedAt (h .heard hearer crashed) i true));
       receiver = h .receiver;
       sending = h .sending;
       begun = h .begun;
@@ -176,7 +177,7 @@ losing h c =
       begun = h .begun;
       rests = h .rests;
       stable = h .stable;
-      lost = λ (i : Interval) (t : ℕ). h .lost i t || ((t == h .incarnation c) && (member i (h .chain c) && not (h .stable i)));
+      lost = λ (y : Interval) (i : ℕ). h .lost y i || ((i == h .incarnation c) && (member y (h .chain c) && not (h .stable y)));
     }
 
 -- O: "each chain is (0,1), stable, resting on itself; all degrees are k."
@@ -187,13 +188,13 @@ opening n k =
       degree = λ (c : ℕ). k;
       incarnation = λ (c : ℕ). 0;
       chain = λ (c : ℕ). interval c 0 1 ∷ [];
-      heard = λ (b a t : ℕ). false;
+      heard = λ (hearer crashed i : ℕ). false;
       receiver = λ (m : ℕ). 0;
       sending = λ (m : ℕ). interval 0 0 0;
-      begun = λ (i : Interval). (i .owner <? n) && ((i .incarnation == 0) && (i .number == 1));
-      rests = λ (i j : Interval). sameInterval j i;
-      stable = λ (i : Interval). (i .owner <? n) && ((i .incarnation == 0) && (i .number == 1));
-      lost = λ (i : Interval) (t : ℕ). false;
+      begun = λ (y : Interval). (y .owner <? n) && ((y .incarnation == 0) && (y .number == 1));
+      rests = λ (y z : Interval). sameInterval z y;
+      stable = λ (y : Interval). (y .owner <? n) && ((y .incarnation == 0) && (y .number == 1));
+      lost = λ (y : Interval) (i : ℕ). false;
     }
 
 -- `delivered`: "the receiver's next interval, not stable, joins its chain." It rests on what "the live interval just before it
@@ -202,48 +203,59 @@ unfoldable pub delivering : History → ℕ → History
 delivering h m =
     let c = h .receiver m in
     let last = newest (h .chain c) in
-    joined h c (interval c (h .incarnation c) (last .number + 1)) (λ (j : Interval). h .rests last j || h .rests (h .sending m) j) false
+    let on : Interval → Bool = λ (z : Interval). h .rests last z || h .rests (h .sending m) z in
+    joined h c (interval c (h .incarnation c) (last .number + 1)) on false
 
 -- L: "the q oldest live ones of c not yet stable become stable." C: "all of them do."
 unfoldable pub logging : History → ℕ → ℕ → History
-logging h c q = stabilized h (oldest q (those (λ (i : Interval). not (h .stable i)) (h .chain c)))
+logging h c q = let unstable = those (λ (y : Interval). not (h .stable y)) (h .chain c) in stabilized h (oldest q unstable)
 
 unfoldable pub checkpointing : History → ℕ → History
 checkpointing h c = stabilized h (h .chain c)
 
 -- "After X and `rolled` a stable interval joins: incarnation plus 1, number one above the highest left."
 unfoldable pub restarting : History → ℕ → History
-restarting h c = let last = newest (h .chain c) in joined h c (interval c (h .incarnation c + 1) (last .number + 1)) (h .rests last) true
+restarting h c =
+    let last = newest (h .chain c) in
+    joined h c (interval c (h .incarnation c + 1) (last .number + 1)) (h .rests last) true
 
 -- X: "the live ones of c that are not stable are lost in this crash and leave the chain; c has heard it."
 unfoldable pub crashing : History → ℕ → History
-crashing h c = restarting (leaving (hearing (losing h c) c c (h .incarnation c)) c (h .stable)) c
+crashing h c =
+    let marked = hearing (losing h c) c c (h .incarnation c) in
+    restarting (leaving marked c (h .stable)) c
 
 -- `rolled`: "b's live ones with numbers above k are undone and leave, the others become stable."
 unfoldable pub rollingBack : History → ℕ → ℕ → History
 rollingBack h b k =
-    let kept : Interval → Bool = λ (i : Interval). i .number ≤? k in
-    restarting (leaving (stabilized h (those kept (h .chain b))) b kept) b
+    let kept : Interval → Bool = λ (y : Interval). y .number ≤? k in
+    let secured = stabilized h (those kept (h .chain b)) in
+    restarting (leaving secured b kept) b
 
--- An answer is `word` with its values (Report.antt).
-unfoldable pub says : Answer → Answer → Bool
-says a word = report a .number == report word .number
+-- An answer has the word of another, whatever their values, and its values by their place in it (Report.antt).
+unfoldable pub answers : Answer → Answer → Bool
+answers a word = report a .number == report word .number
 
-unfoldable pub value : Answer → ℕ → ℕ
-value a i = getD (report a .values) i 0
+unfoldable pub valueAt : Answer → ℕ → ℕ
+valueAt a place = getD (report a .values) place 0
 
 -- "The history is fed each step, in order, with its numbers and its answer." Held, waits, dropped, T, R and refused steps
 -- change nothing; what a release lets out is told by the step itself (Demand.antt).
-unfoldable pub fed : Command → Answer → History → History
-fed (Open n k) a h = cond (says a Done) (opening n k) h
-fed (SetDegree c k) a h = cond (says a Done) (degreeSet h c k) h
-fed (Send s r p) a h = cond (says a (Sent 0)) (sentFrom h (value a 0) s r) h
-fed (Release m) a h = h
-fed (Deliver m) a h = cond (says a (Delivered 0 0 0)) (delivering h m) h
-fed (Log c q) a h = cond (says a Done) (logging h c q) h
-fed (Checkpoint c) a h = cond (says a Done) (checkpointing h c) h
-fed (Tell b c) a h = h
-fed (Crash c) a h = cond (says a (Crashed 0 0 0 0 0)) (crashing h c) h
-fed (Hear b c t) a h =
-    cond (says a (Heard 0)) (hearing h b c t)
-    (cond (says a (Rolled 0 0 0 0)) (rollingBack (hearing h b c t) b (value a 1)) h)
+unfoldable pub fedStep : Command → Answer → History → History
+fedStep (Open n k) a h = cond (answers a Done) (opening n k) h
+fedStep (SetDegree c k) a h = cond (answers a Done) (degreeSet h c k) h
+fedStep (Send s r p) a h = cond (answers a (Sent 0)) (sentFrom h (valueAt a 0) s r) h
+fedStep (Release m) a h = h
+fedStep (Deliver m) a h = cond (answers a (Delivered 0 0 0)) (delivering h m) h
+fedStep (Log c q) a h = cond (answers a Done) (logging h c q) h
+fedStep (Checkpoint c) a h = cond (answers a Done) (checkpointing h c) h
+fedStep (Tell teller told) a h = h
+fedStep (Crash c) a h = cond (answers a (Crashed 0 0 0 0 0)) (crashing h c) h
+fedStep (Hear b crashed i) a h =
+    let informed = hearing h b crashed i in
+    cond (answers a (Heard 0)) informed
+    (cond (answers a (Rolled 0 0 0 0)) (rollingBack informed b (valueAt a 1)) h)
+
+-- asking for a step feeds that step
+unfoldable pub fed : Call → Answer → History → History
+fed (asks x) a h = fedStep x a h

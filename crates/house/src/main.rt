@@ -1,23 +1,24 @@
 // The program: lines in, one answer line each out. What a line asks, what the step does and how the answer is written are
-// proved in `lines` and `machine`; this file only moves bytes.
+// proved in `parsing`, `machine` and `printing`; this file only moves bytes.
 ghost use mathlib.Core.Path.{_≡_};
 ghost use Prim.Native.Nat.{_+_, _≤_, _<_};
 ghost use lib.ListN.{length};
+ghost use Rattle.printing.specs.Parts.{answerRoom};
+ghost use Rattle.house.specs.Room.{lineRoom, Room};
+use lines::LINE_FEED;
+use lines::LONGEST_LINE;
 use lines::Parsed;
+use printing::ANSWER_ROOM;
 
 const STDIN: i32 = 0;
 
 const STDOUT: i32 = 1;
 
-const LINE_FEED: u8 = 10;
+// A place more than a line may have only says that there were more bytes.
+const LINE_ROOM: usize = LONGEST_LINE + 1;
 
-// A line has at most 64 bytes; the 65th place only says that there were more.
-const LINE_ROOM: usize = 65;
-
-const LONGEST_LINE: usize = 64;
-
-// Room for the longest answer line.
-const ANSWER_ROOM: usize = 64;
+// For what is read and for what is to be written.
+const BUFFER_ROOM: usize = 65536;
 
 // How many bytes of the line and of the output are there, and whether to go on.
 pub struct Progress {
@@ -28,18 +29,18 @@ pub struct Progress {
 
 // The answer to a line of n bytes goes behind the first `at` bytes of the output; answers how many are there then.
 fn answer(t: &mut [u32], line: &[u8], n: usize, out: &mut [u8], at: usize) -> usize
-    requires { ⌜ (n ≤ length (now line)) × (at + 64 ≤ length (now out)) ⌝ }
+    requires { ⌜ (n ≤ length (now line)) × (at + answerRoom ≤ length (now out)) ⌝ }
     ensures { λ r. ⌜ r ≤ length (now (out .exit)) ⌝ }
 {
     if LONGEST_LINE < n {
-        return lines::write_bad(out, at);
+        return printing::write_bad(out, at);
     }
-    match lines::parse(&line[..n]) {
+    match parsing::parse(&line[..n]) {
         Parsed::Asks(x) => {
             let a = machine::step(t, x);
-            lines::write_answer(out, at, a)
+            printing::write_answer(out, at, a)
         }
-        Parsed::Bad => lines::write_bad(out, at),
+        Parsed::Bad => printing::write_bad(out, at),
     }
 }
 
@@ -52,7 +53,7 @@ fn flush(out: &[u8], n: usize) -> bool
 
 // A line has ended: its answer joins the output, which is written out first where there is no room.
 fn end_line(t: &mut [u32], line: &[u8], out: &mut [u8], p: Progress) -> Progress
-    requires { ⌜ (p .line ≤ length (now line)) × (p .out ≤ length (now out)) × (64 ≤ length (now out)) ⌝ }
+    requires { ⌜ (p .line ≤ length (now line)) × (p .out ≤ length (now out)) × (answerRoom ≤ length (now out)) ⌝ }
     ensures { λ r. ⌜ (r .line ≡ 0) × (r .out ≤ length (now (out .exit))) ⌝ }
 {
     let n = p.line;
@@ -76,8 +77,8 @@ fn end_line(t: &mut [u32], line: &[u8], out: &mut [u8], p: Progress) -> Progress
 
 // One byte of input.
 fn take_byte(t: &mut [u32], line: &mut [u8], out: &mut [u8], p: Progress, b: u8) -> Progress
-    requires { ⌜ (length (now line) ≡ 65) × (p .line ≤ 65) × (p .out ≤ length (now out)) × (64 ≤ length (now out)) ⌝ }
-    ensures { λ r. ⌜ (r .line ≤ 65) × (r .out ≤ length (now (out .exit))) ⌝ }
+    requires { ⌜ Room (now line) (now out) (p .line) (p .out) ⌝ }
+    ensures { λ r. ⌜ (r .line ≤ lineRoom) × (r .out ≤ length (now (out .exit))) ⌝ }
 {
     if b == LINE_FEED {
         return end_line(t, line, out, p);
@@ -102,8 +103,8 @@ fn take_chunk(
     start: Progress,
     chunk: &[u8],
 ) -> Progress
-    requires { ⌜ (length (now line) ≡ 65) × (start .line ≤ 65) × (start .out ≤ length (now out)) × (64 ≤ length (now out)) ⌝ }
-    ensures { λ r. ⌜ (r .line ≤ 65) × (r .out ≤ length (now (out .exit))) ⌝ }
+    requires { ⌜ Room (now line) (now out) (start .line) (start .out) ⌝ }
+    ensures { λ r. ⌜ (r .line ≤ lineRoom) × (r .out ≤ length (now (out .exit))) ⌝ }
 {
     let mut p = start;
     let mut i = 0;
@@ -127,7 +128,7 @@ fn closed() -> Progress
 
 // The input has ended: a last line without line feed counts, and what is owed is written out.
 fn finish(t: &mut [u32], line: &[u8], out: &mut [u8], p: Progress) -> Progress
-    requires { ⌜ (p .line ≤ length (now line)) × (p .out ≤ length (now out)) × (64 ≤ length (now out)) ⌝ }
+    requires { ⌜ (p .line ≤ length (now line)) × (p .out ≤ length (now out)) × (answerRoom ≤ length (now out)) ⌝ }
     ensures { λ r. ⌜ (r .line ≡ 0) × (r .out ≡ 0) ⌝ }
 {
     let n = p.line;
@@ -150,8 +151,8 @@ fn serve(
     chunk: &mut [u8],
     start: Progress,
 ) -> Progress
-    requires { ⌜ (length (now line) ≡ 65) × (start .line ≤ 65) × (start .out ≤ length (now out)) × (64 ≤ length (now out)) ⌝ }
-    ensures { λ r. ⌜ (r .line ≤ 65) × (r .out ≡ 0) ⌝ }
+    requires { ⌜ Room (now line) (now out) (start .line) (start .out) ⌝ }
+    ensures { λ r. ⌜ (r .line ≤ lineRoom) × (r .out ≡ 0) ⌝ }
 {
     let got = libc::read(STDIN, chunk);
     if got <= 0 {
@@ -170,9 +171,9 @@ fn serve(
 
 fn main() {
     let mut table = [0u32; 15152];
-    let mut line = [0u8; 65];
-    let mut out = [0u8; 65536];
-    let mut chunk = [0u8; 65536];
+    let mut line = [0u8; LINE_ROOM];
+    let mut out = [0u8; BUFFER_ROOM];
+    let mut chunk = [0u8; BUFFER_ROOM];
     let mut p = Progress {
         line: 0,
         out: 0,

@@ -2,30 +2,31 @@
 use mathlib.Core.Path.{_≡_, refl, sym, ap, ap₂, _∙_, fun-ext}
 use mathlib.Core.Bool.{cond}
 use mathlib.Core.List.{List}
-use Prim.Native.Nat.{ℕ, _+_, _-_, _*_, _≤_, _<_}
+use Prim.Native.Nat.{ℕ, _+_, _≤_, _<_}
 use native.Mathlib.Omega.{arith}
 use lib.ListN.{length, length-set}
 use borrow.Author.Tests.{eq-eqb, lt-leb}
 use Rattle.base.specs.Choice.{_==_, _<?_, cond-ind}
-use Rattle.table.specs.Field.{State, Known, End, OfPlace, Size, Incarnation, LiveCount, StableCount, PlaceIncarnation, MessageState, placeHead, same}
-use Rattle.table.specs.Change.{put, put-same, putPart, clearPlaces, putStates}
+use Rattle.table.specs.Field.{State, Known, End, OfPlace, Incarnation, LiveCount, StableCount, PlaceIncarnation, PairIncarnation, PairNumber, word, same}
+use Rattle.table.specs.Change.{put, put-same, putStates, clearPlaces, putPart}
 use Rattle.table.specs.Layout.{controllers, incarnations, places}
-use Rattle.table.specs.Numbering.{numberOf}
+use Rattle.table.specs.Numbering.{numberOf, placeOf, number-from, number-next, place-lt, place-next, Numbered, numbers-kept, numbers-put, numbers-states, numbers-trans}
 use Rattle.rules.specs.Limits.{lastIncarnation}
-use Rattle.rules.specs.Vector.{pair, placeVector, messageVector, filtered, condemned}
-use Rattle.rules.specs.Form.{stateReleased, stateLost, stateDropped}
-use Rattle.rules.specs.Shared.{placeRecord, logged, loggedTo, causedFrom, causes, newVector, restarted, dropHeld, startAnew}
+use Rattle.rules.specs.Vector.{pair as pairList}
+use Rattle.rules.specs.Form.{stateLost}
+use Rattle.rules.specs.Shared.{placeRecord, logged, loggedTo, causesIn, causes, offeredAgain, newVector, placed, entered, restarted, dropHeld, startAnew}
 use Rattle.rules.specs.Steps.{crashed, noted, rolledBack}
-use Rattle.model.specs.Model.{entry, Node, Model, putNode, loggedNode, endNode, noteNode, newVec, anewNode, filtered as filteredFor}
-use Rattle.laws.specs.Facts.{Near, Form, placeForm}
+use Rattle.model.specs.Model.{pair, changedAt₂, Controller, Model, putController, loggedController, endController, noteController, newVec, anewController}
 use Rattle.laws.specs.Agree.{agree-restarted}
-use Rattle.image.specs.View.{view, view-at, view-tight, Tight, tight-put, tight-clear}
+use Rattle.laws.specs.Chain.{Starts, starts-put, starts-causes, starts-loggedTo}
+use Rattle.image.specs.View.{view, view-tight, Tight, tight-put, tight-clear}
 use Rattle.image.specs.Functions.{within, within-renewed}
-use Rattle.image.specs.Image.{noVec, placeVec, nodeOf, decode, image, image-rule, agree-view, node-path, one-node, putNode-twice, putNode-own}
+use Rattle.image.specs.Image.{noVec, placeVec, controllerBy, modelController, decode, image, image-rule, agree-view, controller-path, one-controller, putController-twice, putController-own}
 use Rattle.image.specs.Changes.{nothing-else, away-put, away-part, away-clear, known-put, image-states}
 use Rattle.image.specs.Vectors.{vecOf, length-filtered, set-vec}
-use Rattle.image.specs.Begin.{written, written-incarnation, written-vec, written-other, tight-written, filtered-place, node-vec}
-use Rattle.image.specs.Nodes.{image-loggedTo, image-end, image-noted}
+use Rattle.image.specs.Reads.{number-seen, incarnation-seen, live-seen}
+use Rattle.image.specs.Begin.{written, written-incarnation, written-vec, written-other, tight-written, countVector, filtered-count}
+use Rattle.image.specs.Controllers.{image-loggedTo, image-end, image-noted}
 
 -- places below the freed ones stay
 clear-kept : (σ : State) (c p q x k : ℕ) → x < p → clearPlaces σ c p q (OfPlace c x k) ≡ σ (OfPlace c x k)
@@ -33,185 +34,183 @@ unfolding clearPlaces
 clear-kept σ c p q x k l = simp (eq-eqb c c refl, lt-leb p x l)
 
 -- "the kept vector filtered for c with c's own pair set to the new interval"
-new-vec : (σ : State) → Tight σ → (c k : ℕ) → c < controllers → 1 ≤ k → k ≤ σ (LiveCount c) → vecOf (newVector σ c k) ≡ newVec c (nodeOf σ c) k
-unfolding newVector newVec numberOf nodeOf
+new-vec : (σ : State) → Tight σ → (c k : ℕ) → c < controllers → 1 ≤ k → k ≤ σ (LiveCount c) → vecOf (newVector σ c k) ≡ newVec c (modelController σ c) (numberOf σ c k)
+unfolding newVector newVec controllerBy
 new-vec σ z c k cl k1 kl =
-    let v = filtered σ c (placeVector σ c (k - 1)) in
-    let p = pair (σ (Incarnation c) + 1) (k + 1) in
-    let kept : vecOf v ≡ filteredFor (nodeOf σ c) (nodeOf σ c .vec k) =
-    filtered-place σ z c (k - 1) ∙ sym (ap (filteredFor (nodeOf σ c)) (node-vec σ c k k1 kl)) in
-    set-vec v c p (omega (arith, length-filtered σ c (placeVector σ c (k - 1))))
-    ∙ (λ d a. cond (a == c) (entry (σ (Incarnation c) + 1) (k + 1)) (kept d a))
+    let i = σ (Incarnation c) + 1 in
+    let long : length (countVector σ c k) ≡ controllers = length-filtered σ c _ in
+    let kept = filtered-count σ z c k k1 kl in
+    set-vec (countVector σ c k) c (pairList i (numberOf σ c (k + 1))) (omega arith)
+    ∙ (λ d owner. cond (owner == c) (pair i (number-next σ c k d)) (kept d owner))
 
 module _ (σ : State) (z : Tight σ) (c k : ℕ) (cl : c < controllers) (k1 : 1 ≤ k) (kl : k ≤ σ (LiveCount c)) (room : k < places) where
-  abbrev t : ℕ
-  t = σ (Incarnation c) + 1
+  -- the new interval
+  abbrev i : ℕ
+  i = σ (Incarnation c) + 1
+
+  abbrev x : ℕ
+  x = numberOf σ c (k + 1)
+
+  -- the number that is kept, and the highest live one
+  abbrev kept : ℕ
+  kept = numberOf σ c k
 
   abbrev live : ℕ
-  live = σ (LiveCount c)
+  live = numberOf σ c (σ (LiveCount c))
 
   abbrev freed : State
-  freed = clearPlaces σ c k live
+  freed = clearPlaces σ c k (σ (LiveCount c))
 
   abbrev words : List ℕ
-  words = placeRecord t (k + 1) 0 0 (newVector σ c k)
+  words = placeRecord i x 0 0 (newVector σ c k)
 
   abbrev τ : State
-  τ = written freed c k t (k + 1) 0 0 (newVector σ c k)
+  τ = written freed c k i x 0 0 (newVector σ c k)
 
   -- the new place is in the table
   tight-τ : Tight τ
-  tight-τ = tight-written freed c k t (k + 1) 0 0 (newVector σ c k) (tight-clear σ c k live z) cl room
+  tight-τ = tight-written freed c k i x 0 0 (newVector σ c k) (tight-clear σ c k (σ (LiveCount c)) z) cl room
 
-  -- the new vector has eight pairs
+  -- the new vector has a pair for each controller
   long : length (newVector σ c k) ≡ controllers
   unfolding newVector
-  long = length-set (filtered σ c (placeVector σ c (k - 1))) c _ ∙ length-filtered σ c (placeVector σ c (k - 1))
+  long = length-set (countVector σ c k) c _ ∙ length-filtered σ c _
 
   -- a word of a kept place
-  kept-word : (x w : ℕ) → 1 ≤ x → x ≤ k → τ (OfPlace c (x - 1) w) ≡ σ (OfPlace c (x - 1) w)
-  kept-word x w p q = written-other freed c k t (k + 1) 0 0 (newVector σ c k) (x - 1) w (omega arith) ∙ clear-kept σ c k live (x - 1) w (omega arith)
+  kept-word : (y w : ℕ) → y ≤ kept → τ (OfPlace c (placeOf σ c y) w) ≡ σ (OfPlace c (placeOf σ c y) w)
+  kept-word y w q =
+      let l = place-lt σ c k y k1 q in
+      written-other freed c k i x 0 0 (newVector σ c k) (placeOf σ c y) w (omega arith) ∙ clear-kept σ c k (σ (LiveCount c)) (placeOf σ c y) w l
 
   -- starting anew on a tight state
-  decode-restarted : decode (restarted σ c k) ≡ putNode (decode σ) c (anewNode c (decode σ .node c) k)
-  unfolding decode nodeOf anewNode restarted numberOf put same putPart clearPlaces
+  decode-restarted : decode (restarted σ c k) ≡ putController (decode σ) c (anewController c (decode σ .controller c) kept)
+  unfolding decode controllerBy anewController restarted placed entered put same putPart clearPlaces
   decode-restarted =
-      one-node σ (restarted σ c k) c (anewNode c (nodeOf σ c) k)
-      (node-path refl (put-same τ (Incarnation c) t) (put-same τ (LiveCount c) (k + 1)) (put-same τ (StableCount c) (k + 1))
-      (fun-ext (λ a. fun-ext (known-put τ c c t (k + 1) a))) refl
-      (ap (λ n. within n 0 (λ x. τ (PlaceIncarnation c (x - 1)))) (put-same τ (LiveCount c) (k + 1))
-      ∙ within-renewed k live 0 (λ x. σ (PlaceIncarnation c (x - 1))) (λ x. τ (PlaceIncarnation c (x - 1))) t kl
-      (ap (λ p. τ (PlaceIncarnation c p)) here ∙ written-incarnation freed c k t (k + 1) 0 0 (newVector σ c k)) (λ x p q. kept-word x 0 p q))
-      (ap (λ n. within n noVec (λ x. placeVec τ c (x - 1))) (put-same τ (LiveCount c) (k + 1))
-      ∙ within-renewed k live noVec (λ x. placeVec σ c (x - 1)) (λ x. placeVec τ c (x - 1)) (newVec c (nodeOf σ c) k) kl
-      (ap (placeVec τ c) here ∙ written-vec freed c k t (k + 1) 0 0 (newVector σ c k) tight-τ long ∙ new-vec σ z c k cl k1 kl)
-      (λ x p q. fun-ext (λ a. ap₂ entry (kept-word x (placeHead + 2 * a) p q) (kept-word x (placeHead + 2 * a + 1) p q)))))
-      (away-put c σ (put (put (put τ (Incarnation c) t) (LiveCount c) (k + 1)) (StableCount c) (k + 1)) (Known c c t) (k + 1) (λ a. a refl)
-      (away-put c σ (put (put τ (Incarnation c) t) (LiveCount c) (k + 1)) (StableCount c) (k + 1) (λ a. a refl)
-      (away-put c σ (put τ (Incarnation c) t) (LiveCount c) (k + 1) (λ a. a refl)
-      (away-put c σ τ (Incarnation c) t (λ a. a refl)
-      (away-part c σ freed (OfPlace c k 0) 0 words (λ i a. a refl) (away-clear c σ σ k live (nothing-else c σ)))))))
+      one-controller σ (restarted σ c k) c (anewController c (modelController σ c) kept)
+      (controller-path refl (put-same τ (Incarnation c) i) count (ap (numberOf σ c) (put-same τ (StableCount c) (k + 1)) ∙ number-next σ c k)
+      (fun-ext (λ owner. fun-ext (known-put τ c c i x owner)) ∙ ap (changedAt₂ (λ owner i. σ (Known c owner i)) c i) (number-next σ c k)) refl
+      (ap (λ n. within n 0 (λ y. τ (PlaceIncarnation c (placeOf σ c y)))) count
+      ∙ within-renewed kept live 0 (λ y. σ (PlaceIncarnation c (placeOf σ c y))) (λ y. τ (PlaceIncarnation c (placeOf σ c y))) i below
+      (ap (λ p. τ (PlaceIncarnation c p)) (place-next σ c k) ∙ written-incarnation freed c k i x 0 0 (newVector σ c k))
+      (λ y p q. kept-word y (word (PlaceIncarnation c k)) q))
+      (ap (λ n. within n noVec (λ y. placeVec τ c (placeOf σ c y))) count
+      ∙ within-renewed kept live noVec (λ y. placeVec σ c (placeOf σ c y)) (λ y. placeVec τ c (placeOf σ c y)) (newVec c (modelController σ c) kept) below
+      (ap (placeVec τ c) (place-next σ c k) ∙ written-vec freed c k i x 0 0 (newVector σ c k) tight-τ long ∙ new-vec σ z c k cl k1 kl)
+      (λ y p q. fun-ext (λ owner. ap₂ pair (kept-word y (word (PairIncarnation c k owner)) q) (kept-word y (word (PairNumber c k owner)) q)))))
+      (away-put c σ (put (put (put τ (Incarnation c) i) (LiveCount c) (k + 1)) (StableCount c) (k + 1)) (Known c c i) x (λ a. a refl)
+      (away-put c σ (put (put τ (Incarnation c) i) (LiveCount c) (k + 1)) (StableCount c) (k + 1) (λ a. a refl)
+      (away-put c σ (put τ (Incarnation c) i) (LiveCount c) (k + 1) (λ a. a refl)
+      (away-put c σ τ (Incarnation c) i (λ a. a refl)
+      (away-part c σ freed (OfPlace c k 0) 0 words (λ j a. a refl) (away-clear c σ σ k (σ (LiveCount c)) (nothing-else c σ)))))))
     where
-      here : k + 1 - 1 ≡ k
-      here = omega arith
+      count : numberOf σ c (put τ (LiveCount c) (k + 1) (LiveCount c)) ≡ kept + 1
+      count = ap (numberOf σ c) (put-same τ (LiveCount c) (k + 1)) ∙ number-next σ c k
+
+      below : kept ≤ live
+      below = omega (arith, number-from σ c k, number-from σ c (σ (LiveCount c)))
 
   -- no word outside the table
   tight-restarted : σ (Incarnation c) < lastIncarnation → Tight (restarted σ c k)
-  unfolding restarted numberOf
+  unfolding restarted placed entered
   tight-restarted il =
-      tight-put _ (Known c c t) (k + 1) (cl, cl, omega arith) (tight-put _ (StableCount c) (k + 1) (cl, omega arith)
-      (tight-put _ (LiveCount c) (k + 1) (cl, omega arith) (tight-put τ (Incarnation c) t (cl, omega arith) tight-τ)))
-
--- what starting anew at c after kept number k needs
-pub record Renewable (σ : State) (c k : ℕ) : Type 0 where
-  pub controller-lt : c < controllers
-  pub kept-pos : 1 ≤ k
-  pub kept-le : k ≤ σ (LiveCount c)
-  pub room : k < places
-  pub incarnation-lt : σ (Incarnation c) < lastIncarnation
-  pub near : Near (placeVector σ c (k - 1))
-
--- a state in form has it
-pub renewable : (σ : State) → Form σ → (c k : ℕ) → c < σ Size → 1 ≤ k → k ≤ σ (LiveCount c) → k < places → σ (Incarnation c) < lastIncarnation → Renewable σ c k
-renewable σ f c k h k1 kl room il =
-    record {
-      controller-lt = omega arith;
-      kept-pos = k1;
-      kept-le = kl;
-      room = room;
-      incarnation-lt = il;
-      near = placeForm f c (k - 1) h (omega arith) .vector .near;
-    }
+      tight-put _ (Known c c i) x (cl, cl, omega arith) (tight-put _ (StableCount c) (k + 1) (cl, omega arith)
+      (tight-put _ (LiveCount c) (k + 1) (cl, omega arith) (tight-put τ (Incarnation c) i (cl, omega arith) tight-τ)))
 
 -- "Starting anew at c after kept number k"
-pub image-startAnew : (σ : State) (c k : ℕ) → Renewable σ c k → image (startAnew σ c k) ≡ putNode (image σ) c (anewNode c (image σ .node c) k)
+image-startAnew : (σ : State) (c k : ℕ) → Starts σ c k → image (startAnew σ c k) ≡ putController (image σ) c (anewController c (image σ .controller c) (numberOf σ c k))
 unfolding startAnew dropHeld image
-image-startAnew σ c k r =
+image-startAnew σ c k s =
     let ω = view σ in
-    let cl = r .controller-lt in
-    let l : ω (LiveCount c) ≡ σ (LiveCount c) = view-at σ (LiveCount c) (cl, omega arith) in
-    let i : ω (Incarnation c) ≡ σ (Incarnation c) = view-at σ (Incarnation c) (cl, omega arith) in
+    let cl = s .chain .named in
+    let l = live-seen σ c cl in
+    let i = incarnation-seen σ c cl in
     image-states (restarted σ c k) _
-    ∙ image-rule (λ τ. restarted τ c k) σ (agree-restarted σ ω (agree-view σ) c k cl (omega arith) (r .kept-pos) (r .near))
-    (tight-restarted ω (view-tight σ) c k cl (r .kept-pos) (omega arith) (r .room) (omega arith))
-    ∙ decode-restarted ω (view-tight σ) c k cl (r .kept-pos) (omega arith) (r .room)
+    ∙ image-rule (λ τ. restarted τ c k) σ (agree-restarted σ ω (agree-view σ) c k cl (omega arith) (s .kept) (s .chain .near _ (omega arith)))
+    (tight-restarted ω (view-tight σ) c k cl (s .kept) (omega arith) (s .room) (omega arith))
+    ∙ decode-restarted ω (view-tight σ) c k cl (s .kept) (omega arith) (s .room)
+    ∙ ap (λ x. putController (decode ω) c (anewController c (decode ω .controller c) x)) (number-seen σ c cl k)
 
--- a second change of a node whose first change is known
-pub then-node : (m n : Model) (c : ℕ) (k : Node) (F : Node → Node) → n ≡ putNode m c k → putNode n c (F (n .node c)) ≡ putNode m c (F k)
-then-node m n c k F e =
-    ap (λ (n : Model). putNode n c (F (n .node c))) e ∙ ap (λ (l : Node). putNode (putNode m c k) c (F l)) (putNode-own m c k) ∙ putNode-twice m c k (F k)
+-- a second change of a controller whose first change is known
+then-controller : (μ μ′ : Model) (c : ℕ) (k : Controller) (F : Controller → Controller) → μ′ ≡ putController μ c k → putController μ′ c (F (μ′ .controller c)) ≡ putController μ c (F k)
+then-controller μ μ′ c k F e =
+    ap (λ (μ : Model). putController μ c (F (μ .controller c))) e ∙ ap (λ (l : Controller). putController (putController μ c k) c (F l)) (putController-own μ c k)
+    ∙ putController-twice μ c k (F k)
 
--- causes get their states: nothing of the model changes
+-- Causes that get their states: nothing of the numbers changes.
 image-causes : (σ : State) (c k : ℕ) (s : ℕ → ℕ) → image (causes σ c k s) ≡ image σ
-unfolding causes
-image-causes σ c k s = image-states σ (λ (r : ℕ). cond (causedFrom σ c k r) (s r) (σ (MessageState r)))
+unfolding causes causesIn
+image-causes σ c k s = image-states σ _
 
--- what is needed stays, whatever was noted, logged or put to a message's state
-module _ {σ : State} {c k : ℕ} (r : Renewable σ c k) where
-  -- another state with the same counts, incarnation and kept vector
-  moved : (τ : State) → k ≤ τ (LiveCount c) → τ (Incarnation c) < lastIncarnation → Near (placeVector τ c (k - 1)) → Renewable τ c k
-  moved τ l i n = record { controller-lt = r .controller-lt; kept-pos = r .kept-pos; kept-le = l; room = r .room; incarnation-lt = i; near = n }
+numbers-causes : (σ : State) (c k : ℕ) (s : ℕ → ℕ) → Numbered (causes σ c k s) σ
+unfolding causes causesIn
+numbers-causes σ c k s = numbers-states σ _
 
-  -- states of causes put
-  renewable-causes : (j : ℕ) (s : ℕ → ℕ) → Renewable (causes σ c j s) c k
-  unfolding causes putStates placeVector
-  renewable-causes j s = moved (causes σ c j s) (r .kept-le) (r .incarnation-lt) (r .near)
+-- a crash noted
+pub numbers-noted : (σ : State) (hearer owner i : ℕ) → Numbered (noted σ hearer owner i) σ
+unfolding noted
+numbers-noted σ hearer owner i = numbers-trans _ _ σ (numbers-put _ (Known hearer owner i) _ refl) (numbers-put σ (End hearer owner i) _ refl)
 
-  -- an end word put
-  renewable-end : (b a t x : ℕ) → Renewable (put σ (End b a t) x) c k
-  unfolding put same placeVector
-  renewable-end b a t x = moved (put σ (End b a t) x) (r .kept-le) (r .incarnation-lt) (r .near)
+starts-noted : (σ : State) (c k hearer owner i : ℕ) → Starts σ c k → Starts (noted σ hearer owner i) c k
+unfolding noted
+starts-noted σ c k hearer owner i s = starts-put _ c k (Known hearer owner i) _ refl (starts-put σ c k (End hearer owner i) _ refl s)
 
-  -- a crash noted
-  pub renewable-noted : (b a t : ℕ) → Renewable (noted σ b a t) c k
-  unfolding noted put same placeVector
-  renewable-noted b a t = moved (noted σ b a t) (r .kept-le) (r .incarnation-lt) (r .near)
-
-  -- kept intervals logged
-  renewable-logged : (j : ℕ) → Renewable (logged σ c j) c k
-  unfolding logged put same placeVector
-  renewable-logged j = moved (logged σ c j) (r .kept-le) (r .incarnation-lt) (r .near)
-
-  -- kept intervals logged, if any
-  renewable-loggedTo : (j : ℕ) → Renewable (loggedTo σ c j) c k
-  unfolding loggedTo
-  renewable-loggedTo j = cond-ind (λ τ. Renewable τ c k) (σ (StableCount c) <? j) (λ e. renewable-logged j) (λ e. r)
+-- kept intervals logged, if any
+numbers-loggedTo : (σ : State) (c k : ℕ) → Numbered (loggedTo σ c k) σ
+unfolding loggedTo logged
+numbers-loggedTo σ c k =
+    cond-ind (λ τ. Numbered τ σ) (σ (StableCount c) <? k)
+    (λ e. numbers-trans _ _ σ (numbers-put _ (Known c c (σ (Incarnation c))) _ refl) (numbers-put σ (StableCount c) k refl)) (λ e. numbers-kept σ σ (λ f _. refl))
 
 -- causes lost, and then the end word
 image-ended : (σ : State) (c k : ℕ) (s : ℕ → ℕ) → c < controllers → σ (Incarnation c) < incarnations →
-    image (put (causes σ c k s) (End c c (σ (Incarnation c))) (σ (StableCount c))) ≡ putNode (image σ) c (endNode c (image σ .node c))
-unfolding causes putStates
-image-ended σ c k s cl il = image-end (causes σ c k s) c cl il ∙ ap (λ (m : Model). putNode m c (endNode c (m .node c))) (image-causes σ c k s)
+    image (put (causes σ c k s) (End c c (σ (Incarnation c))) (numberOf σ c (σ (StableCount c)))) ≡ putController (image σ) c (endController c (image σ .controller c))
+unfolding causes causesIn putStates
+image-ended σ c k s cl il =
+    let τ = causes σ c k s in
+    ap (λ x. image (put τ (End c c (σ (Incarnation c))) x)) (sym (numbers-causes σ c k s .number c (σ (StableCount c))))
+    ∙ image-end τ c cl il ∙ ap (λ (μ : Model). putController μ c (endController c (μ .controller c))) (image-causes σ c k s)
 
 -- X: "Causes of lost intervals get state lost. c's own end word for its incarnation becomes k. Then start anew."
-pub image-crashed : (σ : State) (c : ℕ) → Renewable σ c (σ (StableCount c)) →
-    image (crashed σ c) ≡ putNode (image σ) c (anewNode c (endNode c (image σ .node c)) (σ (StableCount c)))
-unfolding crashed numberOf
-image-crashed σ c r =
+pub image-crashed : (σ : State) (c : ℕ) → Starts σ c (σ (StableCount c)) →
+    image (crashed σ c) ≡ putController (image σ) c (anewController c (endController c (image σ .controller c)) (numberOf σ c (σ (StableCount c))))
+unfolding crashed
+image-crashed σ c s =
     let k = σ (StableCount c) in
-    let s : ℕ → ℕ = λ r. stateLost in
-    let τ = put (causes σ c k s) (End c c (σ (Incarnation c))) k in
-    let e : image τ ≡ putNode (image σ) c (endNode c (image σ .node c)) = image-ended σ c k s (r .controller-lt) (omega arith) in
-    image-startAnew τ c k (renewable-end (renewable-causes r k s) c c (σ (Incarnation c)) k)
-    ∙ then-node (image σ) (image τ) c (endNode c (image σ .node c)) (λ n. anewNode c n k) e
+    let f = End c c (σ (Incarnation c)) in
+    let lost = causes σ c k (λ (r : ℕ). stateLost) in
+    let τ = put lost f (numberOf σ c k) in
+    let e : image τ ≡ putController (image σ) c (endController c (image σ .controller c)) = image-ended σ c k _ (s .chain .named) (omega (arith, s .left)) in
+    let number : numberOf τ c k ≡ numberOf σ c k = numbers-put lost f _ refl .number c k ∙ numbers-causes σ c k _ .number c k in
+    image-startAnew τ c k (starts-put lost c k f _ refl (starts-causes σ c k k _ s))
+    ∙ then-controller (image σ) (image τ) c (endController c (image σ .controller c)) (λ n. anewController c n (numberOf τ c k)) e
+    ∙ ap (λ x. putController (image σ) c (anewController c (endController c (image σ .controller c)) x)) number
 
 -- H: "kept intervals not yet stable, if any, are logged as by L; each cause of an undone interval becomes dropped .. else
 -- released again; then start anew."
-pub image-rolled : (σ : State) (b k : ℕ) → Renewable σ b k → image (rolledBack σ b k) ≡ putNode (image σ) b (anewNode b (loggedNode b (image σ .node b) k) k)
+image-rolled : (σ : State) (hearer k : ℕ) → Starts σ hearer k →
+    image (rolledBack σ hearer k)
+    ≡ putController (image σ) hearer (anewController hearer (loggedController hearer (image σ .controller hearer) (numberOf σ hearer k)) (numberOf σ hearer k))
 unfolding rolledBack
-image-rolled σ b k r =
-    let s : ℕ → ℕ = λ r. cond (condemned σ b (messageVector σ r)) stateDropped stateReleased in
-    let τ = causes (loggedTo σ b k) b k s in
-    let e : image τ ≡ putNode (image σ) b (loggedNode b (image σ .node b) k) =
-    image-causes (loggedTo σ b k) b k s ∙ image-loggedTo σ b k (r .controller-lt) (omega arith) in
-    image-startAnew τ b k (renewable-causes (renewable-loggedTo r k) k s)
-    ∙ then-node (image σ) (image τ) b (loggedNode b (image σ .node b) k) (λ n. anewNode b n k) e
+image-rolled σ hearer k s =
+    let kept = loggedTo σ hearer k in
+    let offered = offeredAgain kept hearer in
+    let τ = causes kept hearer k offered in
+    let logs = loggedController hearer (image σ .controller hearer) (numberOf σ hearer k) in
+    let e : image τ ≡ putController (image σ) hearer logs = image-causes kept hearer k offered ∙ image-loggedTo σ hearer k (s .chain .named) (omega (arith, s .left)) in
+    let number : numberOf τ hearer k ≡ numberOf σ hearer k = numbers-causes kept hearer k offered .number hearer k ∙ numbers-loggedTo σ hearer k .number hearer k in
+    image-startAnew τ hearer k (starts-causes kept hearer k k offered (starts-loggedTo σ hearer k k s))
+    ∙ then-controller (image σ) (image τ) hearer logs (λ n. anewController hearer n (numberOf τ hearer k)) e
+    ∙ ap (λ x. putController (image σ) hearer (anewController hearer logs x)) number
 
 -- a hearing that must undo, whole
-pub image-heard-rolled : (σ : State) (b a t k : ℕ) → Renewable σ b k → a < controllers → t < incarnations →
-    image (rolledBack (noted σ b a t) b k)
-    ≡ putNode (image σ) b (anewNode b (loggedNode b (noteNode (image σ .node b) a t (image σ .node a .ends a t)) k) k)
-image-heard-rolled σ b a t k r al tl =
-    image-rolled (noted σ b a t) b k (renewable-noted r b a t)
-    ∙ then-node (image σ) (image (noted σ b a t)) b (noteNode (image σ .node b) a t (image σ .node a .ends a t)) (λ n. anewNode b (loggedNode b n k) k)
-    (image-noted σ b a t (r .controller-lt) al tl)
+pub image-heard-rolled : (σ : State) (hearer owner i k : ℕ) → Starts σ hearer k → owner < controllers → i < incarnations →
+    let n = noteController (image σ .controller hearer) owner i (image σ .controller owner .ends owner i) in
+    let x = numberOf σ hearer k in
+    image (rolledBack (noted σ hearer owner i) hearer k) ≡ putController (image σ) hearer (anewController hearer (loggedController hearer n x) x)
+image-heard-rolled σ hearer owner i k s ol il =
+    let τ = noted σ hearer owner i in
+    let n = noteController (image σ .controller hearer) owner i (image σ .controller owner .ends owner i) in
+    image-rolled τ hearer k (starts-noted σ hearer k hearer owner i s)
+    ∙ then-controller (image σ) (image τ) hearer n (λ n. anewController hearer (loggedController hearer n (numberOf τ hearer k)) (numberOf τ hearer k))
+    (image-noted σ hearer owner i (s .chain .named) ol il)
+    ∙ ap (λ x. putController (image σ) hearer (anewController hearer (loggedController hearer n x) x)) (numbers-noted σ hearer owner i .number hearer k)

@@ -4,16 +4,18 @@ use mathlib.Core.Path.{_≡_, refl, sym, ap, _∙_}
 use mathlib.Core.Bool.{cond}
 use mathlib.Core.List.{List}
 use mathlib.Core.Logic.{_≢_}
-use Prim.Native.Nat.{ℕ, _+_, _-_, _*_, _<_}
+use Prim.Native.Nat.{ℕ, _+_, _<_}
 use native.Mathlib.Omega.{arith}
 use lib.ListN.{length, getD}
-use Rattle.table.specs.Field.{Field, State, Known, End, OfPlace, LiveCount, Flag, MessageState, placeHead, same, word, wordOf, word-of}
+use Rattle.table.specs.Field.{Field, State, Known, End, OfPlace, LiveCount, Flag, PairIncarnation, PairNumber, MessageState, same, word, wordOf, word-of}
 use Rattle.table.specs.Change.{put, put-ind, put-same, put-other, putPart, part-ind, clearPlaces, clear-ind, putStates, states-ind}
-use Rattle.model.specs.Model.{entry, at₂}
-use Rattle.model.specs.Tests.{at₂-ind}
-use Rattle.image.specs.View.{valid, view}
+use Rattle.table.specs.Layout.{valid}
+use Rattle.table.specs.Numbering.{numberOf, placeOf}
+use Rattle.model.specs.Model.{pair, changedAt₂}
+use Rattle.model.specs.Tests.{changedAt₂-ind}
+use Rattle.image.specs.View.{view}
 use Rattle.image.specs.Functions.{within}
-use Rattle.image.specs.Image.{noVec, nodeOf, image, Away, node-path, same-node}
+use Rattle.image.specs.Image.{noVec, controllerBy, image, Away, Elsewhere, controller-path, same-controller}
 
 -- a part: its own words, and any other field
 pub part-at : (σ : State) (f : Field) (k : ℕ) (r : List ℕ) (i j : ℕ) → i < length r → j ≡ k + i → putPart σ f k r (wordOf f j) ≡ getD r i 0
@@ -25,10 +27,6 @@ part-at σ f k r i j h q =
 -- a field outside the part
 pub part-other : (σ : State) (f g : Field) (k : ℕ) (r : List ℕ) → ((i : ℕ) → i < length r → g ≢ wordOf f (k + i)) → putPart σ f k r g ≡ σ g
 part-other σ f g k r = part-ind (λ g y. ((i : ℕ) → i < length r → g ≢ wordOf f (k + i)) → y ≡ σ g) σ f k r (λ i h n. absurd (n i h refl)) (λ g _ _. refl) g
-
--- A change keeps what is said of the words of other controllers: those of τ are those of σ.
-abbrev pub Elsewhere : ℕ → State → State → Type 0
-Elsewhere c σ τ = (g : Field) → Away c g → τ g ≡ σ g
 
 -- no change at all
 pub nothing-else : (c : ℕ) (σ : State) → Elsewhere c σ σ
@@ -44,23 +42,23 @@ away-part c σ τ f k r n h = part-ind (λ g y. Away c g → y ≡ σ g) τ f k 
 
 -- its places cleared
 pub away-clear : (c : ℕ) (σ τ : State) (p q : ℕ) → Elsewhere c σ τ → Elsewhere c σ (clearPlaces τ c p q)
-away-clear c σ τ p q h = clear-ind (λ g y. Away c g → y ≡ σ g) τ c p q (λ x k l m a. absurd (a refl)) (λ g _. h g)
+away-clear c σ τ p q h = clear-ind (λ g y. Away c g → y ≡ σ g) τ c p q (λ x k l u a. absurd (a refl)) (λ g _. h g)
 
 -- states of messages put
 away-states : (c : ℕ) (σ τ : State) (s : ℕ → ℕ) → Elsewhere c σ τ → Elsewhere c σ (putStates τ s)
 away-states c σ τ s h = states-ind (λ g y. Away c g → y ≡ σ g) τ s (λ r a. absurd (a refl)) (λ g _. h g)
 
--- a known word, and an end word, put in c's rows
-pub known-put : (σ : State) (c a t v b u : ℕ) → put σ (Known c a t) v (Known c b u) ≡ at₂ (λ b u. σ (Known c b u)) a t v b u
-known-put σ c a t v =
-    at₂-ind (λ b u y. put σ (Known c a t) v (Known c b u) ≡ y) (λ b u. σ (Known c b u)) a t v (put-same σ (Known c a t) v)
-    (λ b u ne. put-other σ (Known c a t) (Known c b u) v (λ e. ne (cc) (cc)))
+-- a known word, and an end word, put in the holder's rows
+pub known-put : (σ : State) (holder owner i v b j : ℕ) → put σ (Known holder owner i) v (Known holder b j) ≡ changedAt₂ (λ b j. σ (Known holder b j)) owner i v b j
+known-put σ holder owner i v =
+    changedAt₂-ind (λ b j y. put σ (Known holder owner i) v (Known holder b j) ≡ y) (λ b j. σ (Known holder b j)) owner i v (put-same σ (Known holder owner i) v)
+    (λ b j ne. put-other σ (Known holder owner i) (Known holder b j) v (λ e. ne (cc) (cc)))
 
 -- an end word put
-pub end-put : (σ : State) (c a t v b u : ℕ) → put σ (End c a t) v (End c b u) ≡ at₂ (λ b u. σ (End c b u)) a t v b u
-end-put σ c a t v =
-    at₂-ind (λ b u y. put σ (End c a t) v (End c b u) ≡ y) (λ b u. σ (End c b u)) a t v (put-same σ (End c a t) v)
-    (λ b u ne. put-other σ (End c a t) (End c b u) v (λ e. ne (cc) (cc)))
+pub end-put : (σ : State) (holder owner i v b j : ℕ) → put σ (End holder owner i) v (End holder b j) ≡ changedAt₂ (λ b j. σ (End holder b j)) owner i v b j
+end-put σ holder owner i v =
+    changedAt₂-ind (λ b j y. put σ (End holder owner i) v (End holder b j) ≡ y) (λ b j. σ (End holder b j)) owner i v (put-same σ (End holder owner i) v)
+    (λ b j ne. put-other σ (End holder owner i) (End holder b j) v (λ e. ne (cc) (cc)))
 
 -- states of messages, and flags, are not in the model
 view-away : (c : ℕ) (σ τ : State) → Elsewhere c σ τ → Elsewhere c (view σ) (view τ)
@@ -69,21 +67,24 @@ view-away c σ τ h g a = ap (λ x. cond (valid g) x 0) (h g a)
 
 -- states of messages put: one model
 pub image-states : (σ : State) (s : ℕ → ℕ) → image (putStates σ s) ≡ image σ
-unfolding image view nodeOf putStates
-image-states σ s = same-node (view σ) (view (putStates σ s)) 0 refl (view-away 0 σ (putStates σ s) (away-states 0 σ σ s (nothing-else 0 σ)))
+unfolding image view controllerBy putStates
+image-states σ s = same-controller (view σ) (view (putStates σ s)) 0 refl (view-away 0 σ (putStates σ s) (away-states 0 σ σ s (nothing-else 0 σ)))
 
 -- one message's state put
 pub image-state : (σ : State) (r x : ℕ) → image (put σ (MessageState r) x) ≡ image σ
-unfolding image view nodeOf put same
-image-state σ r x = same-node (view σ) (view (put σ (MessageState r) x)) 0 refl (view-away 0 σ _ (away-put 0 σ σ (MessageState r) x (λ a. a refl) (nothing-else 0 σ)))
+unfolding image view controllerBy put same
+image-state σ r x = same-controller (view σ) (view (put σ (MessageState r) x)) 0 refl (view-away 0 σ _ (away-put 0 σ σ (MessageState r) x (λ a. a refl) (nothing-else 0 σ)))
 
 -- a flag put
 pub image-flag : (σ : State) (c p x : ℕ) → image (put σ (Flag c p) x) ≡ image σ
-unfolding image view nodeOf put same
+unfolding image view controllerBy put same
 image-flag σ c p x =
-    same-node (view σ) (view (put σ (Flag c p) x)) c
-    (node-path refl refl refl refl refl refl refl (λ d. within (view σ (LiveCount c)) noVec (λ x a. entry (word-k (x - 1) (placeHead + 2 * a) (omega arith) d) (word-k (x - 1) (placeHead + 2 * a + 1) (omega arith) d))))
+    same-controller (view σ) (view (put σ (Flag c p) x)) c
+    (controller-path refl refl refl refl refl refl refl
+    (λ d. within (numberOf (view σ) c (view σ (LiveCount c))) noVec
+    (λ x owner. let q = placeOf (view σ) c x in
+    pair (stays q (word (PairIncarnation c q owner)) (omega arith) d) (stays q (word (PairNumber c q owner)) (omega arith) d))))
     (view-away c σ _ (away-put c σ σ (Flag c p) x (λ a. a refl) (nothing-else c σ)))
   where
-    word-k : (q k : ℕ) → k ≢ 3 → view (put σ (Flag c p) x) (OfPlace c q k) ≡ view σ (OfPlace c q k)
-    word-k q k ne = ap (λ y. cond (valid (OfPlace c q k)) y 0) (put-other σ (Flag c p) (OfPlace c q k) x (λ e. ne (ap word e)))
+    stays : (q k : ℕ) → k ≢ word (Flag c p) → view (put σ (Flag c p) x) (OfPlace c q k) ≡ view σ (OfPlace c q k)
+    stays q k ne = ap (λ y. cond (valid (OfPlace c q k)) y 0) (put-other σ (Flag c p) (OfPlace c q k) x (λ e. ne (ap word e)))

@@ -6,14 +6,14 @@ use Prim.Native.Nat.{ℕ, _+_, _≤_, _<_}
 use native.Mathlib.Omega.{arith}
 use borrow.Author.Tests.{eqb-true, eqb-false, leb-true, leb-false, le-leb}
 use Rattle.base.specs.Choice.{_==_, _≤?_, and-left, and-right, cond-ind, le?}
-use Rattle.history.specs.History.{at}
+use Rattle.history.specs.History.{changedAt}
 use Rattle.model.specs.Model.{renewed}
-use Rattle.model.specs.Tests.{at-ind, at-same, at-other}
+use Rattle.model.specs.Tests.{changedAt-ind, changedAt-same, changedAt-other}
 
 -- a function changed twice at one number
-pub at-twice : {A : Type 0} (f : ℕ → A) (i : ℕ) (a b : A) → at (at f i a) i b ≡ at f i b
-at-twice f i a b =
-    fun-ext (at-ind (λ j y. at (at f i a) i b j ≡ y) f i b (at-same (at f i a) i b) (λ j ne. at-other (at f i a) i j b ne ∙ at-other f i j a ne))
+pub changedAt-twice : {A : Type 0} (f : ℕ → A) (i : ℕ) (a b : A) → changedAt (changedAt f i a) i b ≡ changedAt f i b
+changedAt-twice f i a b =
+    fun-ext (changedAt-ind (λ j y. changedAt (changedAt f i a) i b j ≡ y) f i b (changedAt-same (changedAt f i a) i b) (λ j ne. changedAt-other (changedAt f i a) i j b ne ∙ changedAt-other f i j a ne))
 
 -- the second of two tests failed if the first passed
 and-no : (a b : Bool) → (a && b) ≡ false → a ≡ true → b ≡ false
@@ -43,23 +43,11 @@ module _ {A : Type 0} where
   within-out n empty f x =
       within-ind (λ x y. (1 ≤ x → n < x) → y ≡ empty) n empty f (λ x p q o. absurd (let l = o p in omega arith)) (λ x _ _. refl) x
 
-  -- the same numbers, with the same said of each
-  pub within-same : (n : ℕ) (empty : A) (f g : ℕ → A) → ((x : ℕ) → 1 ≤ x → x ≤ n → g x ≡ f x) → within n empty g ≡ within n empty f
-  within-same n empty f g h =
-      fun-ext (within-ind (λ x y. within n empty g x ≡ y) n empty f (λ x p q. within-in n empty g x p q ∙ h x p q) (λ x o. within-out n empty g x o))
-
-  -- one of the numbers has something else
-  pub within-at : (n : ℕ) (empty : A) (f g : ℕ → A) (i : ℕ) (new : A) → 1 ≤ i → i ≤ n → g i ≡ new →
-      ((x : ℕ) → 1 ≤ x → x ≤ n → x ≢ i → g x ≡ f x) → within n empty g ≡ at (within n empty f) i new
-  within-at n empty f g i new p q e h =
-      fun-ext (at-ind (λ x y. within n empty g x ≡ y) (within n empty f) i new (within-in n empty g i p q ∙ e)
-      (within-ind (λ x y. x ≢ i → within n empty g x ≡ y) n empty f (λ x p q ne. within-in n empty g x p q ∙ h x p q ne) (λ x o ne. within-out n empty g x o)))
-
   -- one more number
   pub within-more : (n : ℕ) (empty : A) (f g : ℕ → A) (new : A) → g (n + 1) ≡ new → ((x : ℕ) → 1 ≤ x → x ≤ n → g x ≡ f x) →
-      within (n + 1) empty g ≡ at (within n empty f) (n + 1) new
+      within (n + 1) empty g ≡ changedAt (within n empty f) (n + 1) new
   within-more n empty f g new e h =
-      fun-ext (at-ind (λ x y. within (n + 1) empty g x ≡ y) (within n empty f) (n + 1) new (within-in (n + 1) empty g (n + 1) (omega arith) (omega arith) ∙ e)
+      fun-ext (changedAt-ind (λ x y. within (n + 1) empty g x ≡ y) (within n empty f) (n + 1) new (within-in (n + 1) empty g (n + 1) (omega arith) (omega arith) ∙ e)
       (within-ind (λ x y. x ≢ n + 1 → within (n + 1) empty g x ≡ y) n empty f (λ x p q ne. within-in (n + 1) empty g x p (omega arith) ∙ h x p q)
       (λ x o ne. within-out (n + 1) empty g x (λ p. let l = o p in omega arith))))
 

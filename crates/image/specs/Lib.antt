@@ -2,13 +2,13 @@ pub mod View
 pub mod Functions
 pub mod Image
 pub mod Changes
-pub mod Nodes
 pub mod Vectors
+pub mod Reads
+pub mod Controllers
 pub mod Begin
 pub mod Anew
-pub mod Letters
+pub mod Messages
 pub mod Open
-pub mod Reads
 pub mod Mask
 pub mod Tests
 pub mod Outcome

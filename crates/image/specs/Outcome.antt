@@ -3,54 +3,57 @@ use mathlib.Core.Path.{_≡_, refl}
 use mathlib.Core.Logic.{_≢_}
 use Prim.Native.Nat.{ℕ, _+_, _≤_, _<_}
 use Rattle.table.specs.Layout.{controllers, incarnations}
+use Rattle.rules.specs.Step.{Call, asks}
 use Rattle.rules.specs.declared.Answer.{Answer}
 use Rattle.rules.specs.declared.Answer.the-variants.{Done, Sent, Released, Held, Delivered, Dropped, Waits, Crashed, Heard, Rolled, Refused}
-use Rattle.rules.specs.declared.Command.{Command}
 use Rattle.rules.specs.declared.Command.the-variants.{Open, SetDegree, Send, Release, Deliver, Log, Checkpoint, Tell, Crash, Hear}
-use Rattle.model.specs.Model.{Model, putNode, degreeNode, logNode, loggedNode, tellNode, endNode, beginNode, anewNode, sendLetter, releaseLetter, openModel}
+use Rattle.model.specs.Model.{Model, putController, degreeController, logController, loggedController, tellController, endController, beginController, anewController, sendMessage, releaseMessage, openModel}
 use Rattle.model.specs.Vectors.{Condemned}
 use Rattle.model.specs.Steps.{Delivers, LetsOut}
-use Rattle.model.specs.Recovery.{HearsOf, notedNode, NoneCondemned, LowestCondemned}
+use Rattle.model.specs.Recovery.{HearsOf, notedController, NoneCondemned, LowestCondemned}
 
--- In a house of n controllers with the model m.
-module _ (n : ℕ) (m : Model) where
-  -- the step, its answer, how many controllers the house has then, and its model
-  pub data Outcome : Command → Answer → ℕ → Model → Type 0 where
-    refused : (x : Command) (number : ℕ) → Outcome x (Refused number) n m
-    opened : (j k : ℕ) → 1 ≤ j → j ≤ controllers → k ≤ j → Outcome (Open j k) Done j (openModel j k)
-    degree-set : (c k : ℕ) → c < n → k ≤ n → Outcome (SetDegree c k) Done n (putNode m c (degreeNode (m .node c) k))
-    sent : (s r p : ℕ) → s < n → r < n → s ≢ r → Outcome (Send s r p) (Sent (m .sent + 1)) n (sendLetter m (m .sent + 1) s r)
-    released : (i mask : ℕ) → LetsOut m i mask → ((c : ℕ) → c < n → m .node c .incarnation < incarnations) → Outcome (Release i) (Released i mask) n (releaseLetter m i)
-    held : (i mask : ℕ) → Outcome (Release i) (Held i mask) n m
-    dropped : (i : ℕ) → 1 ≤ i → i ≤ m .sent → Condemned n (m .node (m .letter i .to)) (m .letter i .vec) → Outcome (Deliver i) (Dropped i) n m
-    waits : (i : ℕ) → Outcome (Deliver i) (Waits i) n m
-    delivered : (i c : ℕ) → c ≡ m .letter i .to → Delivers n m i →
-        Outcome (Deliver i) (Delivered i (m .node c .incarnation) (m .node c .live + 1)) n (putNode m c (beginNode c (m .node c) (m .letter i .vec)))
-    logged : (c q : ℕ) → c < n → 1 ≤ q → m .node c .stable + q ≤ m .node c .live →
-        Outcome (Log c q) Done n (putNode m c (logNode c (m .node c) (m .node c .stable + q)))
-    checkpointed : (c : ℕ) → c < n → Outcome (Checkpoint c) Done n (putNode m c (loggedNode c (m .node c) (m .node c .live)))
-    told : (a b : ℕ) → a < n → b < n → a ≢ b → Outcome (Tell a b) Done n (putNode m b (tellNode a (m .node b) (m .node a .known a)))
+-- In a house of n controllers with the model μ.
+module _ (n : ℕ) (μ : Model) where
+  -- the call, its answer, how many controllers the house has then, and its model
+  pub data Outcome : Call → Answer → ℕ → Model → Type 0 where
+    refused : (x : Call) (number : ℕ) → Outcome x (Refused number) n μ
+    opened : (j k : ℕ) → 1 ≤ j → j ≤ controllers → k ≤ j → Outcome (asks (Open j k)) Done j (openModel j k)
+    degree-set : (c k : ℕ) → c < n → k ≤ n → Outcome (asks (SetDegree c k)) Done n (putController μ c (degreeController (μ .controller c) k))
+    sent : (sender receiver payload : ℕ) → sender < n → receiver < n → sender ≢ receiver →
+        Outcome (asks (Send sender receiver payload)) (Sent (μ .sent + 1)) n (sendMessage μ (μ .sent + 1) sender receiver)
+    released : (m mask : ℕ) → LetsOut μ m mask → ((c : ℕ) → c < n → μ .controller c .incarnation < incarnations) → Outcome (asks (Release m)) (Released m mask) n (releaseMessage μ m)
+    held : (m mask : ℕ) → Outcome (asks (Release m)) (Held m mask) n μ
+    dropped : (m : ℕ) → 1 ≤ m → m ≤ μ .sent → Condemned n (μ .controller (μ .message m .to)) (μ .message m .vec) → Outcome (asks (Deliver m)) (Dropped m) n μ
+    waits : (m : ℕ) → Outcome (asks (Deliver m)) (Waits m) n μ
+    delivered : (m c : ℕ) → c ≡ μ .message m .to → Delivers n μ m →
+        Outcome (asks (Deliver m)) (Delivered m (μ .controller c .incarnation) (μ .controller c .live + 1)) n (putController μ c (beginController c (μ .controller c) (μ .message m .vec)))
+    logged : (c q : ℕ) → c < n → 1 ≤ q → μ .controller c .stable + q ≤ μ .controller c .live →
+        Outcome (asks (Log c q)) Done n (putController μ c (logController c (μ .controller c) (μ .controller c .stable + q)))
+    checkpointed : (c : ℕ) → c < n → Outcome (asks (Checkpoint c)) Done n (putController μ c (loggedController c (μ .controller c) (μ .controller c .live)))
+    told : (owner holder : ℕ) → owner < n → holder < n → owner ≢ holder →
+        Outcome (asks (Tell owner holder)) Done n (putController μ holder (tellController owner (μ .controller holder) (μ .controller owner .known owner)))
     crashed : (c lost replayed : ℕ) → c < n →
-        Outcome (Crash c) (Crashed c (m .node c .incarnation) (m .node c .stable) lost replayed) n
-        (putNode m c (anewNode c (endNode c (m .node c)) (m .node c .stable)))
-    heard : (b a t : ℕ) → HearsOf n m b a t → NoneCondemned n (notedNode m b a t) → Outcome (Hear b a t) (Heard b) n (putNode m b (notedNode m b a t))
-    rolled : (b a t j undone replayed : ℕ) → HearsOf n m b a t → LowestCondemned n (notedNode m b a t) j →
-        Outcome (Hear b a t) (Rolled b j undone replayed) n (putNode m b (anewNode b (loggedNode b (notedNode m b a t) j) j))
+        Outcome (asks (Crash c)) (Crashed c (μ .controller c .incarnation) (μ .controller c .stable) lost replayed) n
+        (putController μ c (anewController c (endController c (μ .controller c)) (μ .controller c .stable)))
+    heard : (hearer owner i : ℕ) → HearsOf n μ hearer owner i → NoneCondemned n (notedController μ hearer owner i) →
+        Outcome (asks (Hear hearer owner i)) (Heard hearer) n (putController μ hearer (notedController μ hearer owner i))
+    rolled : (hearer owner i x undone replayed : ℕ) → HearsOf n μ hearer owner i → LowestCondemned n (notedController μ hearer owner i) x →
+        Outcome (asks (Hear hearer owner i)) (Rolled hearer x undone replayed) n (putController μ hearer (anewController hearer (loggedController hearer (notedController μ hearer owner i) x) x))
 
 -- only a done opening changes the number of controllers
-pub kept-size : {n : ℕ} {m : Model} {x : Command} {a : Answer} {j : ℕ} {p : Model} → Outcome n m x a j p → ((i k : ℕ) → x ≡ Open i k → a ≢ Done) → j ≡ n
+pub kept-size : {n : ℕ} {μ : Model} {x : Call} {a : Answer} {j : ℕ} {μ′ : Model} → Outcome n μ x a j μ′ → ((i k : ℕ) → x ≡ asks (Open i k) → a ≢ Done) → j ≡ n
 kept-size (refused x number) o = refl
 kept-size (opened j k p q r) o = absurd (o j k refl refl)
 kept-size (degree-set c k p q) o = refl
-kept-size (sent s r p h i ne) o = refl
-kept-size (released i mask h w) o = refl
-kept-size (held i mask) o = refl
-kept-size (dropped i p l z) o = refl
-kept-size (waits i) o = refl
-kept-size (delivered i c e h) o = refl
+kept-size (sent sender receiver payload p q ne) o = refl
+kept-size (released m mask h w) o = refl
+kept-size (held m mask) o = refl
+kept-size (dropped m p l z) o = refl
+kept-size (waits m) o = refl
+kept-size (delivered m c e h) o = refl
 kept-size (logged c q h i l) o = refl
 kept-size (checkpointed c h) o = refl
-kept-size (told a b h i ne) o = refl
+kept-size (told owner holder p q ne) o = refl
 kept-size (crashed c lost replayed h) o = refl
-kept-size (heard b a t h s) o = refl
-kept-size (rolled b a t j undone replayed h l) o = refl
+kept-size (heard hearer owner i h s) o = refl
+kept-size (rolled hearer owner i x undone replayed h l) o = refl

@@ -1,48 +1,51 @@
 -- The tests of deliveries, releases and hearings, in terms of the model.
-use mathlib.Core.Path.{_≡_, sym, ap, _∙_, subst}
+use mathlib.Core.Path.{_≡_, refl, sym, ap, _∙_, subst}
 use mathlib.Core.Bool.{true, false}
-use Prim.Native.Nat.{ℕ, _+_, _-_, _≤_, _<_}
+use Prim.Native.Nat.{ℕ, _+_, _≤_, _<_}
 use native.Mathlib.Omega.{arith}
 use lib.ListN.{length}
 use Rattle.base.specs.Choice.{le?}
-use Rattle.table.specs.Field.{State, End, Size, SentCount, LiveCount, Sender, same}
+use Rattle.table.specs.Field.{State, OfHead, Known, End, Size, LiveCount, Sender, same}
 use Rattle.table.specs.Change.{put}
-use Rattle.table.specs.Layout.{controllers, places}
-use Rattle.table.specs.Numbering.{recordOf}
+use Rattle.table.specs.Layout.{controllers, headWords}
+use Rattle.table.specs.Numbering.{numberOf, placeOf, used, recordOf, number-from, place-lt, place-next, place-ge, Numbered, number-fresh}
+use Rattle.rules.specs.Limits.{house}
+use Rattle.rules.specs.Form.{inForm}
 use Rattle.rules.specs.Vector.{Vector, incarnation, number, pairOf, placeVector, messageVector, filtered, condemned, conflict}
 use Rattle.rules.specs.Steps.{noted, lowestCondemned}
 use Rattle.history.specs.History.{Interval}
-use Rattle.model.specs.Model.{Entry, releasedVec, filtered as filteredFor}
+use Rattle.model.specs.Model.{Pair, releasedVec, filtered as filteredFor}
 use Rattle.model.specs.Vectors.{Condemned, full-pos}
 use Rattle.model.specs.Beginning.{Compatible}
 use Rattle.model.specs.Recovery.{NoneCondemned, LowestCondemned}
-use Rattle.laws.specs.Facts.{VectorForm, Form, controllerForm, placeForm, messageForm}
+use Rattle.laws.specs.Facts.{VectorForm, Form, placeForm, messageForm, spare-words}
 use Rattle.laws.specs.Agree.{filtered-same}
+use Rattle.laws.specs.Chain.{Chain, chain-form, chain-noted}
 use Rattle.laws.specs.Found.{condemned-some, condemned-none, conflict-none, Lowest, lowest}
-use Rattle.image.specs.View.{view}
+use Rattle.image.specs.View.{view, view-at, view-out}
 use Rattle.image.specs.Image.{decode, image, agree-view}
 use Rattle.image.specs.Vectors.{vecOf, past, length-place, length-message, filter-vec}
-use Rattle.image.specs.Reads.{live-is, ends-is, vec-is, from-is, message-vec-is}
+use Rattle.image.specs.Reads.{number-seen, live-is, ends-is, vec-is, from-is, message-vec-is}
 
-module _ (σ : State) (b : ℕ) (bl : b < controllers) (v : Vector) {n : ℕ} (form : VectorForm n v) (long : length v ≡ controllers) where
-  -- the end word that b has for owner a's pair
-  end-of : (a : ℕ) → a < controllers → image σ .node b .ends a (vecOf v a .incarnation) ≡ σ (End b a (incarnation (pairOf v a)))
-  end-of a l = ends-is σ b bl a (incarnation (pairOf v a)) l (form .near a l)
+module _ (σ : State) (holder : ℕ) (hl : holder < controllers) (v : Vector) {n : ℕ} (form : VectorForm n v) (long : length v ≡ controllers) where
+  -- the end word that the holder has for an owner's pair
+  end-of : (owner : ℕ) → owner < controllers → image σ .controller holder .ends owner (vecOf v owner .incarnation) ≡ σ (End holder owner (incarnation (pairOf v owner)))
+  end-of owner l = ends-is σ holder hl owner (incarnation (pairOf v owner)) l (form .near owner l)
 
   -- a vector that is not condemned
-  pub spared : condemned σ b v ≡ false → Condemned n (image σ .node b) (vecOf v) → ⊥
+  pub spared : condemned σ holder v ≡ false → Condemned n (image σ .controller holder) (vecOf v) → ⊥
   spared e z =
       let p = z .ended in
       let u = z .above in
       le? (z .owner + 1) controllers
       (λ l. let q = end-of (z .owner) (omega arith) in
-      let h = condemned-none σ b v e (z .owner) (omega arith) (λ y. omega arith) in omega arith)
-      (λ l. let y : vecOf v (z .owner) .number ≡ 0 = ap (λ (p : Entry). p .number) (past v (z .owner) (omega arith)) in omega arith)
+      let h = condemned-none σ holder v e (z .owner) (omega arith) (λ y. omega arith) in omega arith)
+      (λ l. let y : vecOf v (z .owner) .number ≡ 0 = ap (λ (p : Pair). p .number) (past v (z .owner) (omega arith)) in omega arith)
 
   -- a condemned vector
-  pub condemned-for : condemned σ b v ≡ true → Condemned n (image σ .node b) (vecOf v)
+  pub condemned-for : condemned σ holder v ≡ true → Condemned n (image σ .controller holder) (vecOf v)
   condemned-for e =
-      let s = condemned-some σ b v e in
+      let s = condemned-some σ holder v e in
       let q = end-of (s .owner) (s .owner-lt) in
       let ended = s .ended in
       record {
@@ -53,95 +56,126 @@ module _ (σ : State) (b : ℕ) (bl : b < controllers) (v : Vector) {n : ℕ} (f
       }
 
   -- "Filtering a vector for b"
-  pub filtered-is : vecOf (filtered σ b v) ≡ filteredFor (image σ .node b) (vecOf v)
+  pub filtered-is : vecOf (filtered σ holder v) ≡ filteredFor (image σ .controller holder) (vecOf v)
   unfolding image decode
-  filtered-is = ap vecOf (filtered-same σ (view σ) (agree-view σ) b v bl (form .near)) ∙ filter-vec (view σ) b v long
+  filtered-is = ap vecOf (filtered-same σ (view σ) (agree-view σ) holder v hl (form .near)) ∙ filter-vec (view σ) holder v long
 
 -- D: a delivery that does not wait
 pub compatible : (n c : ℕ) (v w : Vector) → n ≤ controllers → conflict c v w ≡ false → Compatible n c (vecOf v) (vecOf w)
-compatible n c v w nl e a l ne p q =
-    let x = full-pos (vecOf v a) p in
-    let y = full-pos (vecOf w a) q in
-    conflict-none c v w e a (omega arith) ne (λ z. omega arith) (λ z. omega arith)
+compatible n c v w nl e owner l ne p q =
+    let x = full-pos (vecOf v owner) p in
+    let y = full-pos (vecOf w owner) q in
+    conflict-none c v w e owner (omega arith) ne (λ z. omega arith) (λ z. omega arith)
 
 -- R: the vector whose mask is given is the model's
-pub released-is : (σ : State) → Form σ → (i : ℕ) → 1 ≤ i → i ≤ σ SentCount →
-    let r = recordOf σ i in
-    vecOf (filtered σ (σ (Sender r)) (messageVector σ r)) ≡ releasedVec (image σ) i
-unfolding releasedVec recordOf
-released-is σ f i i1 il =
-    let g = messageForm f (i - 1) (omega arith) in
-    let s = ap (λ (x : Interval). x .owner) (from-is σ i i1 il (f .sent-le)) in
-    filtered-is σ (σ (Sender (i - 1))) (omega arith) (messageVector σ (i - 1)) (g .vector) (length-message σ (i - 1))
-    ∙ (λ d. filteredFor (image σ .node (sym s d)) (sym (message-vec-is σ i i1 il (f .sent-le)) d))
+pub released-is : (σ : State) → Form σ → (m : ℕ) → recordOf σ m < used σ →
+    let r = recordOf σ m in
+    vecOf (filtered σ (σ (Sender r)) (messageVector σ r)) ≡ releasedVec (image σ) m
+unfolding releasedVec
+released-is σ f m l =
+    let r = recordOf σ m in
+    let g = messageForm f r l in
+    let s = ap (λ (x : Interval). x .owner) (from-is σ m l (f .used-le)) in
+    filtered-is σ (σ (Sender r)) (omega arith) (messageVector σ r) (g .vector) (length-message σ r)
+    ∙ (λ d. filteredFor (image σ .controller (sym s d)) (sym (message-vec-is σ m l (f .used-le)) d))
 
 -- a chain whose vectors can be looked at
-pub record Chain (σ : State) (b : ℕ) : Type 0 where
-  pub controller-lt : b < controllers
-  pub live-pos : 1 ≤ σ (LiveCount b)
-  pub live-le : σ (LiveCount b) ≤ places
-  pub vector : (p : ℕ) → p < σ (LiveCount b) → VectorForm (σ Size) (placeVector σ b p)
+pub record Sound (σ : State) (c : ℕ) : Type 0 where
+  pub chain : Chain σ c
+  pub vector : (p : ℕ) → p < σ (LiveCount c) → VectorForm (σ Size) (placeVector σ c p)
 
 -- in form, every controller of the house has one
-pub chain : (σ : State) → Form σ → (b : ℕ) → b < σ Size → Chain σ b
-chain σ f b h =
-    let k = controllerForm f b h in
-    record { controller-lt = omega arith; live-pos = k .live-pos; live-le = k .live-le; vector = λ p l. placeForm f b p h l .vector }
+pub sound : (σ : State) → Form σ → (c : ℕ) → c < σ Size → Sound σ c
+sound σ f c h = record { chain = chain-form σ c f h; vector = λ p l. placeForm f c p h l .vector }
 
 -- and a crash noted leaves it
-pub chain-noted : (σ : State) (c a t b : ℕ) → Chain σ b → Chain (noted σ c a t) b
+pub sound-noted : (σ : State) (hearer owner i c : ℕ) → Sound σ c → Sound (noted σ hearer owner i) c
 unfolding noted put same placeVector
-chain-noted σ c a t b g = record { controller-lt = g .controller-lt; live-pos = g .live-pos; live-le = g .live-le; vector = g .vector }
+sound-noted σ hearer owner i c s = record { chain = chain-noted σ c hearer owner i (s .chain); vector = s .vector }
 
-module _ (σ : State) (b : ℕ) (g : Chain σ b) (x : ℕ) (x1 : 1 ≤ x) (xl : x ≤ σ (LiveCount b)) where
-  -- the vector of number x
-  place-is : vecOf (placeVector σ b (x - 1)) ≡ image σ .node b .vec x
-  place-is = sym (vec-is σ b (g .controller-lt) x x1 xl (g .live-le))
+module _ (σ : State) (c : ℕ) (s : Sound σ c) (x : ℕ) (x1 : 1 ≤ x) (xl : x ≤ numberOf σ c (σ (LiveCount c))) where
+  -- the place of number x, which is live
+  abbrev p : ℕ
+  p = placeOf σ c x
+
+  form : VectorForm (σ Size) (placeVector σ c p)
+  form = s .vector p (place-lt σ c (σ (LiveCount c)) x (s .chain .live-pos) xl)
+
+  -- its vector
+  place-is : vecOf (placeVector σ c p) ≡ image σ .controller c .vec x
+  place-is = sym (vec-is σ c (s .chain .named) x x1 xl (s .chain .live-pos) (s .chain .live-le))
 
   -- number x is not condemned
-  pub spared-number : condemned σ b (placeVector σ b (x - 1)) ≡ false → Condemned (σ Size) (image σ .node b) (image σ .node b .vec x) → ⊥
+  spared-number : condemned σ c (placeVector σ c p) ≡ false → Condemned (σ Size) (image σ .controller c) (image σ .controller c .vec x) → ⊥
   spared-number e =
-      subst (λ w. Condemned (σ Size) (image σ .node b) w → ⊥) place-is
-      (spared σ b (g .controller-lt) (placeVector σ b (x - 1)) (g .vector (x - 1) (omega arith)) (length-place σ b (x - 1)) e)
+      subst (λ w. Condemned (σ Size) (image σ .controller c) w → ⊥) place-is (spared σ c (s .chain .named) (placeVector σ c p) form (length-place σ c p) e)
 
   -- number x is condemned
-  pub condemned-number : condemned σ b (placeVector σ b (x - 1)) ≡ true → Condemned (σ Size) (image σ .node b) (image σ .node b .vec x)
+  condemned-number : condemned σ c (placeVector σ c p) ≡ true → Condemned (σ Size) (image σ .controller c) (image σ .controller c .vec x)
   condemned-number e =
-      subst (Condemned (σ Size) (image σ .node b)) place-is
-      (condemned-for σ b (g .controller-lt) (placeVector σ b (x - 1)) (g .vector (x - 1) (omega arith)) (length-place σ b (x - 1)) e)
+      subst (Condemned (σ Size) (image σ .controller c)) place-is (condemned-for σ c (s .chain .named) (placeVector σ c p) form (length-place σ c p) e)
 
   -- the vector of number x, filtered for its controller
-  pub filtered-number : vecOf (filtered σ b (placeVector σ b (x - 1))) ≡ filteredFor (image σ .node b) (image σ .node b .vec x)
-  filtered-number =
-      filtered-is σ b (g .controller-lt) (placeVector σ b (x - 1)) (g .vector (x - 1) (omega arith)) (length-place σ b (x - 1))
-      ∙ ap (filteredFor (image σ .node b)) place-is
+  pub filtered-number : vecOf (filtered σ c (placeVector σ c p)) ≡ filteredFor (image σ .controller c) (image σ .controller c .vec x)
+  filtered-number = filtered-is σ c (s .chain .named) (placeVector σ c p) form (length-place σ c p) ∙ ap (filteredFor (image σ .controller c)) place-is
+
+-- A house whose numbers are counts: nothing was discarded. The search for a condemned place begins above place 0, so that number 2
+-- must not stand there.
+pub record Fresh (σ : State) : Type 0 where
+  pub count : (c k : ℕ) → c < controllers → numberOf σ c k ≡ k
+
+-- a house in form is one: its spare words are 0
+pub fresh : (σ : State) → inForm house σ ≡ true → Fresh σ
+fresh σ e =
+    record {
+      count = λ c k cl.
+          sym (number-seen σ c cl k)
+          ∙ number-fresh (view σ) c k
+          (λ w l. le? (w + 1) headWords (λ h. view-at σ (OfHead w) (omega arith) ∙ spare-words σ e w l (omega arith)) (λ h. view-out σ (OfHead w) (λ v. omega arith)));
+    }
+
+-- and so is what a change leaves that numbers alike
+pub fresh-kept : (σ τ : State) → Numbered τ σ → Fresh σ → Fresh τ
+fresh-kept σ τ n z = record { count = λ c k cl. n .number c k ∙ z .count c k cl }
 
 -- H: what the search for the lowest condemned place finds
-module _ (σ : State) (b : ℕ) (g : Chain σ b) where
-  -- its parts, with the live count of the model
-  found : Lowest σ b (lowestCondemned σ b)
-  found = lowest σ b (g .live-pos)
+module _ (σ : State) (hearer : ℕ) (s : Sound σ hearer) (z : Fresh σ) where
+  -- its parts, with the live count of the table
+  found : Lowest σ hearer (lowestCondemned σ hearer)
+  found = lowest σ hearer (s .chain .live-pos)
 
-  -- the numbers before it are not condemned
-  none-before : (x : ℕ) → 2 ≤ x → x ≤ lowestCondemned σ b → Condemned (σ Size) (image σ .node b) (image σ .node b .vec x) → ⊥
+  -- how many intervals are kept, and the highest number of them
+  abbrev k : ℕ
+  k = lowestCondemned σ hearer
+
+  abbrev kept : ℕ
+  kept = numberOf σ hearer k
+
+  -- the numbers up to it are not condemned
+  none-before : (x : ℕ) → 2 ≤ x → x ≤ kept → Condemned (σ Size) (image σ .controller hearer) (image σ .controller hearer .vec x) → ⊥
   none-before x p q =
-      let l = found .le in
-      spared-number σ b g x (omega arith) (omega arith) (found .before (x - 1) (omega arith) (omega arith))
+      let le = found .le in
+      let second = z .count hearer 2 (s .chain .named) in
+      spared-number σ hearer s x (omega arith) (omega (arith, number-from σ hearer k, number-from σ hearer (σ (LiveCount hearer))))
+      (found .before (placeOf σ hearer x) (place-ge σ hearer 1 x (omega arith)) (place-lt σ hearer k x (found .pos) q))
 
   -- there is none
-  pub none-condemned : σ (LiveCount b) ≤ lowestCondemned σ b → NoneCondemned (σ Size) (image σ .node b)
-  none-condemned l = let n = live-is σ b (g .controller-lt) in record { none = λ x p q. none-before x p (omega arith) }
+  pub none-condemned : σ (LiveCount hearer) ≤ k → NoneCondemned (σ Size) (image σ .controller hearer)
+  none-condemned l =
+      let live = live-is σ hearer (s .chain .named) in
+      record { none = λ x p q. none-before x p (omega (arith, number-from σ hearer k, number-from σ hearer (σ (LiveCount hearer)))) }
 
   -- there is one
-  pub lowest-condemned : lowestCondemned σ b < σ (LiveCount b) → LowestCondemned (σ Size) (image σ .node b) (lowestCondemned σ b)
+  pub lowest-condemned : k < σ (LiveCount hearer) → LowestCondemned (σ Size) (image σ .controller hearer) kept
   lowest-condemned l =
-      let j = lowestCondemned σ b in
-      let n = live-is σ b (g .controller-lt) in
-      let e : j ≡ j + 1 - 1 = omega arith in
+      let live = live-is σ hearer (s .chain .named) in
+      let from = number-from σ hearer k in
+      let top = number-from σ hearer (σ (LiveCount hearer)) in
+      let pos = found .pos in
       record {
-        pos = found .pos;
+        pos = omega arith;
         below = omega arith;
         condemned =
-            condemned-number σ b g (j + 1) (omega arith) (omega arith) (ap (λ p. condemned σ b (placeVector σ b p)) (sym e) ∙ found .hit l);
+            condemned-number σ hearer s (kept + 1) (omega arith) (omega arith) (ap (λ p. condemned σ hearer (placeVector σ hearer p)) (place-next σ hearer k) ∙ found .hit l);
         lowest = none-before;
       }

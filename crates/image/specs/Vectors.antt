@@ -12,68 +12,89 @@ use Rattle.base.specs.Lists.{tab, length-tab, getD-tab}
 use Rattle.table.specs.Field.{Field, State, Known, PairIncarnation, PairNumber, MessagePairIncarnation, MessagePairNumber, wordOf}
 use Rattle.table.specs.Change.{putPart}
 use Rattle.table.specs.Layout.{controllers, vectorWords}
-use Rattle.rules.specs.Vector.{Pair, Vector, pair, noPair, incarnation, number, pairOf, placeVector, messageVector, flat, knownStable, filterPair, filtered, mergePair, merged}
-use Rattle.model.specs.Model.{Entry, entry, Vec, larger, filtered as filteredFor}
+use Rattle.rules.specs.Vector.{Pair as PairList, Vector, pair as pairList, noPair, incarnation, number, pairOf, placeVector, messageVector, flat, knownStable, filterPair, filtered, mergePair, merged}
+use Rattle.model.specs.Model.{Pair, pair, Vec, larger, filtered as filteredFor}
+use Rattle.laws.specs.Records.{length-flat}
 use Rattle.image.specs.View.{Tight}
-use Rattle.image.specs.Image.{placeVec, nodeOf, letterOf}
+use Rattle.image.specs.Image.{placeVec, controllerBy, modelController, modelMessage}
 use Rattle.image.specs.Changes.{part-at}
 
--- a pair as an entry
-abbrev pub entryOf : Pair → Entry
-entryOf p = entry (incarnation p) (number p)
+-- a pair as a pair of the model
+abbrev pub modelPair : PairList → Pair
+modelPair p = pair (incarnation p) (number p)
 
 -- a vector of pairs as a vector of the model
 abbrev pub vecOf : Vector → Vec
-vecOf v a = entryOf (pairOf v a)
+vecOf v owner = modelPair (pairOf v owner)
 
--- a vector of pairs has no entry beyond its pairs
-pub past : (v : Vector) (a : ℕ) → length v ≤ a → vecOf v a ≡ entry 0 0
-past v a l = ap entryOf (List·getD-eq-default v [] l)
+-- a vector of pairs has no pair beyond its pairs
+pub past : (v : Vector) (owner : ℕ) → length v ≤ owner → vecOf v owner ≡ pair 0 0
+past v owner l = ap modelPair (List·getD-eq-default v [] l)
 
 -- a vector given by a function of the owner
-tab-vec : (f : ℕ → Pair) (w : Vec) → ((a : ℕ) → a < controllers → entryOf (f a) ≡ w a) → ((a : ℕ) → controllers ≤ a → w a ≡ entry 0 0) → vecOf (tab controllers f) ≡ w
+tab-vec : (f : ℕ → PairList) (w : Vec) → ((owner : ℕ) → owner < controllers → modelPair (f owner) ≡ w owner) →
+    ((owner : ℕ) → controllers ≤ owner → w owner ≡ pair 0 0) → vecOf (tab controllers f) ≡ w
 tab-vec f w h o =
-    fun-ext (λ a. le? (a + 1) controllers (λ l. ap entryOf (getD-tab controllers f a [] (omega arith)) ∙ h a (omega arith))
-    (λ l. past (tab controllers f) a (omega (arith, length-tab controllers f)) ∙ sym (o a (omega arith))))
+    fun-ext (λ owner. le? (owner + 1) controllers (λ l. ap modelPair (getD-tab controllers f owner [] (omega arith)) ∙ h owner (omega arith))
+    (λ l. past (tab controllers f) owner (omega (arith, length-tab controllers f)) ∙ sym (o owner (omega arith))))
 
--- the vectors of the table
-pub place-vec : (σ : State) → Tight σ → (c p : ℕ) → vecOf (placeVector σ c p) ≡ placeVec σ c p
-unfolding placeVector
-place-vec σ z c p =
-    tab-vec _ (placeVec σ c p) (λ a l. refl)
-    (λ a l. ap₂ entry (z (PairIncarnation c p a) (λ v. let h = v .2 in omega arith)) (z (PairNumber c p a) (λ v. let h = v .2 in omega arith)))
+-- a record of the table has no pair beyond the controllers
+module _ (σ : State) (z : Tight σ) where
+  -- in a place
+  place-past : (c p owner : ℕ) → controllers ≤ owner → placeVec σ c p owner ≡ pair 0 0
+  place-past c p owner l =
+      ap₂ pair (z (PairIncarnation c p owner) (λ v. let h = v .2 in omega arith)) (z (PairNumber c p owner) (λ v. let h = v .2 in omega arith))
 
--- that of a message
-pub message-vec : (σ : State) → Tight σ → (r : ℕ) → vecOf (messageVector σ r) ≡ letterOf σ r .vec
-unfolding messageVector letterOf
-message-vec σ z r =
-    tab-vec _ (letterOf σ r .vec) (λ a l. refl)
-    (λ a l. ap₂ entry (z (MessagePairIncarnation r a) (λ v. let h = v .1 in omega arith)) (z (MessagePairNumber r a) (λ v. let h = v .1 in omega arith)))
+  -- in a message's record
+  message-past : (r owner : ℕ) → controllers ≤ owner → modelMessage σ r .vec owner ≡ pair 0 0
+  unfolding modelMessage
+  message-past r owner l =
+      ap₂ pair (z (MessagePairIncarnation r owner) (λ v. let h = v .1 in omega arith)) (z (MessagePairNumber r owner) (λ v. let h = v .1 in omega arith))
 
--- all vectors have eight pairs
+  -- the vectors of the table
+  pub place-vec : (c p : ℕ) → vecOf (placeVector σ c p) ≡ placeVec σ c p
+  unfolding placeVector
+  place-vec c p = tab-vec _ (placeVec σ c p) (λ owner l. refl) (place-past c p)
+
+  -- that of a message
+  pub message-vec : (r : ℕ) → vecOf (messageVector σ r) ≡ modelMessage σ r .vec
+  unfolding messageVector modelMessage
+  message-vec r = tab-vec _ (modelMessage σ r .vec) (λ owner l. refl) (message-past r)
+
+  -- a place whose pairs are those of v
+  pub place-pairs : (c p : ℕ) (v : Vector) → length v ≡ controllers → ((owner : ℕ) → owner < controllers → placeVec σ c p owner ≡ vecOf v owner) → placeVec σ c p ≡ vecOf v
+  place-pairs c p v e h =
+      fun-ext (λ owner. le? (owner + 1) controllers (λ l. h owner (omega arith)) (λ l. place-past c p owner (omega arith) ∙ sym (past v owner (omega arith))))
+
+  -- a record whose pairs are those of v
+  pub message-pairs : (r : ℕ) (v : Vector) → length v ≡ controllers → ((owner : ℕ) → owner < controllers → modelMessage σ r .vec owner ≡ vecOf v owner) → modelMessage σ r .vec ≡ vecOf v
+  message-pairs r v e h =
+      fun-ext (λ owner. le? (owner + 1) controllers (λ l. h owner (omega arith)) (λ l. message-past r owner (omega arith) ∙ sym (past v owner (omega arith))))
+
+-- all vectors have a pair for each controller
 pub length-place : (σ : State) (c p : ℕ) → length (placeVector σ c p) ≡ controllers
 unfolding placeVector
-length-place σ c p = length-tab controllers (λ (a : ℕ). pair (σ (PairIncarnation c p a)) (σ (PairNumber c p a)))
+length-place σ c p = length-tab controllers (λ (owner : ℕ). pairList (σ (PairIncarnation c p owner)) (σ (PairNumber c p owner)))
 
 -- that of a message
 pub length-message : (σ : State) (r : ℕ) → length (messageVector σ r) ≡ controllers
 unfolding messageVector
-length-message σ r = length-tab controllers (λ (a : ℕ). pair (σ (MessagePairIncarnation r a)) (σ (MessagePairNumber r a)))
+length-message σ r = length-tab controllers (λ (owner : ℕ). pairList (σ (MessagePairIncarnation r owner)) (σ (MessagePairNumber r owner)))
 
 -- a filtered one
-pub length-filtered : (σ : State) (b : ℕ) (v : Vector) → length (filtered σ b v) ≡ controllers
+pub length-filtered : (σ : State) (holder : ℕ) (v : Vector) → length (filtered σ holder v) ≡ controllers
 unfolding filtered
-length-filtered σ b v = length-tab controllers (λ (a : ℕ). filterPair σ b a (pairOf v a))
+length-filtered σ holder v = length-tab controllers (λ (owner : ℕ). filterPair σ holder owner (pairOf v owner))
 
 -- a merged one
 pub length-merged : (v w : Vector) → length (merged v w) ≡ controllers
 unfolding merged
-length-merged v w = length-tab controllers (λ (a : ℕ). mergePair (pairOf v a) (pairOf w a))
+length-merged v w = length-tab controllers (λ (owner : ℕ). mergePair (pairOf v owner) (pairOf w owner))
 
 -- a pair chosen by a test
-entry-cond : (b : Bool) (p q : Pair) → entryOf (cond b p q) ≡ cond b (entryOf p) (entryOf q)
-entry-cond true p q = refl
-entry-cond false p q = refl
+pair-cond : (b : Bool) (p q : PairList) → modelPair (cond b p q) ≡ cond b (modelPair p) (modelPair q)
+pair-cond true p q = refl
+pair-cond false p q = refl
 
 -- two cases with one value
 both : {A : Type 0} (b : Bool) {x y z : A} → x ≡ z → y ≡ z → cond b x y ≡ z
@@ -81,52 +102,67 @@ both true p q = p
 both false p q = q
 
 -- filtering, merging, and the own pair
-pub filter-vec : (σ : State) (b : ℕ) (v : Vector) → length v ≡ controllers → vecOf (filtered σ b v) ≡ filteredFor (nodeOf σ b) (vecOf v)
-unfolding filtered filterPair knownStable filteredFor nodeOf
-filter-vec σ b v e =
-    tab-vec _ (filteredFor (nodeOf σ b) (vecOf v)) (λ a l. entry-cond (number (pairOf v a) ≤? σ (Known b a (incarnation (pairOf v a)))) noPair (pairOf v a))
-    (λ a l. both (number (pairOf v a) ≤? σ (Known b a (incarnation (pairOf v a)))) refl (past v a (omega arith)))
+pub filter-vec : (σ : State) (holder : ℕ) (v : Vector) → length v ≡ controllers → vecOf (filtered σ holder v) ≡ filteredFor (modelController σ holder) (vecOf v)
+unfolding filtered filterPair knownStable filteredFor controllerBy
+filter-vec σ holder v e =
+    tab-vec _ (filteredFor (modelController σ holder) (vecOf v))
+    (λ owner l. pair-cond (number (pairOf v owner) ≤? σ (Known holder owner (incarnation (pairOf v owner)))) noPair (pairOf v owner))
+    (λ owner l. both (number (pairOf v owner) ≤? σ (Known holder owner (incarnation (pairOf v owner)))) refl (past v owner (omega arith)))
 
 -- merging
-pub merge-vec : (v w : Vector) → length v ≡ controllers → length w ≡ controllers → vecOf (merged v w) ≡ (λ a. larger (vecOf v a) (vecOf w a))
+pub merge-vec : (v w : Vector) → length v ≡ controllers → length w ≡ controllers → vecOf (merged v w) ≡ (λ owner. larger (vecOf v owner) (vecOf w owner))
 unfolding merged mergePair larger
 merge-vec v w e f =
-    tab-vec _ (λ a. larger (vecOf v a) (vecOf w a)) (λ a l. entry-cond (number (pairOf v a) <? number (pairOf w a)) (pairOf w a) (pairOf v a))
-    (λ a l. both (number (pairOf v a) <? number (pairOf w a)) (past w a (omega arith)) (past v a (omega arith)))
+    tab-vec _ (λ owner. larger (vecOf v owner) (vecOf w owner))
+    (λ owner l. pair-cond (number (pairOf v owner) <? number (pairOf w owner)) (pairOf w owner) (pairOf v owner))
+    (λ owner l. both (number (pairOf v owner) <? number (pairOf w owner)) (past w owner (omega arith)) (past v owner (omega arith)))
 
 -- the own pair set
-pub set-vec : (v : Vector) (c : ℕ) (p : Pair) → c < length v → vecOf (set v c p) ≡ (λ a. cond (a == c) (entryOf p) (vecOf v a))
+pub set-vec : (v : Vector) (c : ℕ) (p : PairList) → c < length v → vecOf (set v c p) ≡ (λ owner. cond (owner == c) (modelPair p) (vecOf v owner))
 set-vec v c p l =
-    fun-ext (λ a. cond-ind (λ y. vecOf (set v c p) a ≡ y) (a == c)
-    (λ e. ap (vecOf (set v c p)) (eqb-true a c e) ∙ ap entryOf (getD-set-same v c p [] l)) (λ e. ap entryOf (getD-set-other v c a p [] (eqb-false a c e))))
+    fun-ext (λ owner. cond-ind (λ y. vecOf (set v c p) owner ≡ y) (owner == c)
+    (λ e. ap (vecOf (set v c p)) (eqb-true owner c e) ∙ ap modelPair (getD-set-same v c p [] l)) (λ e. ap modelPair (getD-set-other v c owner p [] (eqb-false owner c e))))
+
+-- where the two words of an owner's pair stand, in a record whose vector begins at word n
+abbrev incarnationAt : ℕ → ℕ → ℕ
+incarnationAt n owner = n + 2 * owner
+
+abbrev numberAt : ℕ → ℕ → ℕ
+numberAt n owner = n + 2 * owner + 1
 
 -- the words of a vector
-flat-at : (v : Vector) (i a k : ℕ) → i ≡ 2 * a + k → k < 2 → a < controllers → getD (flat v) i 0 ≡ getD (pairOf v a) k 0
+flat-at : (v : Vector) (k owner w : ℕ) → k ≡ 2 * owner + w → w < 2 → owner < controllers → getD (flat v) k 0 ≡ getD (pairOf v owner) w 0
 unfolding flat
-flat-at v i a k e kl al =
-    let p : i / 2 ≡ a = omega arith in
-    let q : i % 2 ≡ k = omega arith in
-    getD-tab vectorWords (λ (i : ℕ). getD (pairOf v (i / 2)) (i % 2) 0) i 0 (omega arith) ∙ ap₂ (λ n m. getD (pairOf v n) m 0) p q
-
--- a vector has sixteen words
-pub length-flat : (v : Vector) → length (flat v) ≡ vectorWords
-unfolding flat
-length-flat v = length-tab vectorWords _
+flat-at v k owner w e wl ol =
+    let p : k / 2 ≡ owner = omega arith in
+    let q : k % 2 ≡ w = omega arith in
+    getD-tab vectorWords (λ (k : ℕ). getD (pairOf v (k / 2)) (k % 2) 0) k 0 (omega arith) ∙ ap₂ (λ a b. getD (pairOf v a) b 0) p q
 
 -- the words h and then a vector
-pub record-word : (h : List ℕ) (v : Vector) (a w j : ℕ) → a < controllers → w < 2 → j ≡ length h + (2 * a + w) → getD (h ++ flat v) j 0 ≡ getD (pairOf v a) w 0
-record-word h v a w j al wl q =
-    ap (λ i. getD (h ++ flat v) i 0) q ∙ getD-append-add h (flat v) (2 * a + w) 0 ∙ flat-at v (2 * a + w) a w refl wl al
-
--- these words, put in the record of f from word k on: the vector's words stand from word n on
-module _ (σ : State) (f : Field) (k n : ℕ) (h : List ℕ) (v : Vector) (e : n ≡ k + length h) where
+module _ (h : List ℕ) (v : Vector) (n : ℕ) (e : n ≡ length h) where
   -- one word of a pair
-  part-word : (a w j : ℕ) → a < controllers → w < 2 → j ≡ n + (2 * a + w) → putPart σ f k (h ++ flat v) (wordOf f j) ≡ getD (pairOf v a) w 0
-  part-word a w j al wl q =
-      part-at σ f k (h ++ flat v) (length h + (2 * a + w)) j (omega (arith, length-append h (flat v), length-flat v)) (omega arith)
-      ∙ record-word h v a w (length h + (2 * a + w)) al wl refl
+  record-word : (owner w k : ℕ) → owner < controllers → w < 2 → k ≡ n + (2 * owner + w) → getD (h ++ flat v) k 0 ≡ getD (pairOf v owner) w 0
+  record-word owner w k ol wl q =
+      let j : k ≡ length h + (2 * owner + w) = omega arith in
+      ap (λ i. getD (h ++ flat v) i 0) j ∙ getD-append-add h (flat v) (2 * owner + w) 0 ∙ flat-at v (2 * owner + w) owner w refl wl ol
 
   -- one pair
-  pub part-entry : (a : ℕ) → a < controllers →
-      entry (putPart σ f k (h ++ flat v) (wordOf f (n + 2 * a))) (putPart σ f k (h ++ flat v) (wordOf f (n + 2 * a + 1))) ≡ vecOf v a
-  part-entry a al = ap₂ entry (part-word a 0 (n + 2 * a) al (omega arith) (omega arith)) (part-word a 1 (n + 2 * a + 1) al (omega arith) (omega arith))
+  pub record-pair : (owner : ℕ) → owner < controllers → pair (getD (h ++ flat v) (incarnationAt n owner) 0) (getD (h ++ flat v) (numberAt n owner) 0) ≡ vecOf v owner
+  record-pair owner ol =
+      ap₂ pair (record-word owner 0 (incarnationAt n owner) ol (omega arith) (omega arith)) (record-word owner 1 (numberAt n owner) ol (omega arith) (omega arith))
+
+  -- these words put in the record of f: the whole record
+  pub whole-pair : (σ : State) (f : Field) (owner : ℕ) → owner < controllers →
+      pair (putPart σ f 0 (h ++ flat v) (wordOf f (incarnationAt n owner))) (putPart σ f 0 (h ++ flat v) (wordOf f (numberAt n owner))) ≡ vecOf v owner
+  whole-pair σ f owner ol =
+      let l : length (h ++ flat v) ≡ length h + vectorWords = length-append h (flat v) ∙ ap (λ k. length h + k) (length-flat v) in
+      ap₂ pair (part-at σ f 0 (h ++ flat v) (incarnationAt n owner) (incarnationAt n owner) (omega arith) (omega arith))
+      (part-at σ f 0 (h ++ flat v) (numberAt n owner) (numberAt n owner) (omega arith) (omega arith)) ∙ record-pair owner ol
+
+-- a vector's words put in the record of f from word n on
+pub part-pair : (σ : State) (f : Field) (n : ℕ) (v : Vector) (owner : ℕ) → owner < controllers →
+    pair (putPart σ f n (flat v) (wordOf f (incarnationAt n owner))) (putPart σ f n (flat v) (wordOf f (numberAt n owner))) ≡ vecOf v owner
+part-pair σ f n v owner ol =
+    let l = length-flat v in
+    ap₂ pair (part-at σ f n (flat v) (incarnationAt 0 owner) (incarnationAt n owner) (omega arith) (omega arith))
+    (part-at σ f n (flat v) (numberAt 0 owner) (numberAt n owner) (omega arith) (omega arith)) ∙ record-pair [] v 0 refl owner ol

@@ -9,17 +9,18 @@ ghost use Rattle.table.specs.Layout.{controllers, places, placeWords, tableWord
 ghost use Rattle.table.specs.Words.{state, words};
 ghost use Rattle.rules.specs.Shared.{placeRecord, latestFlagged};
 ghost use Rattle.rules.specs.Steps.{lowestCondemned};
-ghost use Rattle.interval.specs.Chain.{Chain, zeroWords};
+ghost use Rattle.laws.specs.Chain.{Chain};
+ghost use Rattle.interval.specs.Walks.{zeroWords};
 
 // The 20 words of a place, lent from inside the table, become an interval's record.
-pub fn write_interval(d: &mut [u32], t: u32, x: u32, cause: u32, flag: u32, v: [[u32; 2]; 8])
+pub fn write_interval(d: &mut [u32], i: u32, x: u32, cause: u32, flag: u32, v: [[u32; 2]; 8])
     requires { ⌜ length (now d) ≡ placeWords ⌝ }
-    ensures { λ _. ⌜ now (d .exit) ≡ placeRecord t x cause flag v ⌝ }
+    ensures { λ _. ⌜ now (d .exit) ≡ placeRecord i x cause flag v ⌝ }
 {
-    d[0] = t;
-    d[1] = x;
-    d[2] = cause;
-    d[3] = flag;
+    d[table::PLACE_INCARNATION_WORD] = i;
+    d[table::PLACE_NUMBER_WORD] = x;
+    d[table::CAUSE_WORD] = cause;
+    d[table::FLAG_WORD] = flag;
     let from = table::PLACE_HEAD;
     let to = table::PLACE_WORDS;
     vector::write_vector(&mut d[from..to], v);
@@ -27,21 +28,21 @@ pub fn write_interval(d: &mut [u32], t: u32, x: u32, cause: u32, flag: u32, v: [
 
 // Place p of c becomes an interval's record; no other word is written.
 pub fn write_place(
-    s: &mut [u32],
+    t: &mut [u32],
     c: usize,
     p: usize,
-    t: u32,
+    i: u32,
     x: u32,
     cause: u32,
     flag: u32,
     v: [[u32; 2]; 8],
 )
-    requires { ⌜ (length (now s) ≡ tableWords) × (c < controllers) × (p < places) ⌝ }
-    ensures { λ _. ⌜ now (s .exit) ≡ words (putPart (state (now (s .entry))) (OfPlace c p 0) 0 (placeRecord t x cause flag v)) ⌝ }
+    requires { ⌜ (length (now t) ≡ tableWords) × (c < controllers) × (p < places) ⌝ }
+    ensures { λ _. ⌜ now (t .exit) ≡ words (putPart (state (now (t .entry))) (OfPlace c p 0) 0 (placeRecord i x cause flag v)) ⌝ }
 {
-    let from = table::PLACES_FROM + c * table::CHAIN_WORDS + p * table::PLACE_WORDS;
+    let from = table::place_at(c, p);
     let to = from + table::PLACE_WORDS;
-    write_interval(&mut s[from..to], t, x, cause, flag, v);
+    write_interval(&mut t[from..to], i, x, cause, flag, v);
 }
 
 // All words of a part become 0.
@@ -61,29 +62,29 @@ pub fn clear_places(t: &mut [u32], c: usize, p: usize, q: usize)
     requires { ⌜ (length (now t) ≡ tableWords) × (c < controllers) × (p ≤ q) × (q ≤ places) ⌝ }
     ensures { λ _. ⌜ now (t .exit) ≡ words (clearPlaces (state (now (t .entry))) c p q) ⌝ }
 {
-    let from = table::PLACES_FROM + c * table::CHAIN_WORDS + p * table::PLACE_WORDS;
-    let to = table::PLACES_FROM + c * table::CHAIN_WORDS + q * table::PLACE_WORDS;
+    let from = table::place_at(c, p);
+    let to = table::place_at(c, q);
     clear(&mut t[from..to]);
 }
 
-// The lowest place of b above 0 whose vector holds a condemned entry, or the live count.
-pub fn lowest_condemned(t: &[u32], b: usize) -> usize
-    requires { ⌜ Chain (now t) b ⌝ }
-    ensures { λ k. ⌜ k ≡ lowestCondemned (state (now (t .entry))) b ⌝ }
+// The lowest place of the hearer above 0 whose vector holds a condemned entry, or the live count.
+pub fn lowest_condemned(t: &[u32], hearer: usize) -> usize
+    requires { ⌜ (length (now t) ≡ tableWords) × Chain (state (now t)) hearer ⌝ }
+    ensures { λ k. ⌜ k ≡ lowestCondemned (state (now (t .entry))) hearer ⌝ }
 {
-    let live = t[table::LIVE_COUNT + b * table::CONTROLLER_WORDS] as usize;
+    let live = table::live_count(t, hearer) as usize;
     let mut p = 1;
     let k = 'places: loop {
         if live <= p {
             break 'places p;
         }
-        let v = vector::place_vector(t, b, p);
-        let mut a = 0;
-        while a < table::CONTROLLERS {
-            if vector::condemned_pair(t, b, a, v[a]) {
+        let v = vector::place_vector(t, hearer, p);
+        let mut owner = 0;
+        while owner < table::CONTROLLERS {
+            if vector::condemned_pair(t, hearer, owner, v[owner]) {
                 break 'places p;
             }
-            a += 1;
+            owner += 1;
         }
         p += 1;
     };
@@ -98,7 +99,7 @@ pub fn latest_flagged(t: &[u32], c: usize, k: usize) -> u32
     let mut p = k;
     while 0 < p {
         let q = p - 1;
-        if t[table::FLAG + c * table::CHAIN_WORDS + q * table::PLACE_WORDS] == 1 {
+        if table::flag(t, c, q) == 1 {
             return table::number_of(t, c, p as u32);
         }
         p = q;

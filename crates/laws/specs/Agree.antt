@@ -1,235 +1,206 @@
 -- Rules look only at words of the table: on states with the same words they give the same, and leave the same words.
-use mathlib.Core.Path.{_≡_, refl, ap, ap₂, _∙_, subst}
-use mathlib.Core.Bool.{Bool, true, false, cond, not, _&&_}
-use mathlib.Core.List.{List}
-use Prim.Native.Nat.{ℕ, zero, suc, _+_, _-_, _*_, _≤_, _<_, max}
+use mathlib.Core.Path.{_≡_, refl, ap, ap₂, _∙_}
+use mathlib.Core.Bool.{Bool, cond, not, _&&_}
+use Prim.Native.Nat.{ℕ, zero, suc, _+_, _-_, _≤_, _<_, max}
 use native.Mathlib.Omega.{arith}
 use lib.ListN.{set}
 use Rattle.base.specs.Choice.{_==_, _≤?_, _<?_}
 use Rattle.base.specs.Ranges.{anyb, first, anyb-same, first-same}
 use Rattle.base.specs.Lists.{tab-same}
-use Rattle.table.specs.Field.{State, OfHead, OfController, Known, End, OfPlace, OfMessage, SentCount, Incarnation, LiveCount, StableCount, PlaceIncarnation, PlaceNumber, Cause, MessageState, messageHead}
-use Rattle.table.specs.Change.{put, putPart, inPlaces, clearPlaces, putStates}
-use Rattle.table.specs.Layout.{controllers, incarnations, places, messages}
-use Rattle.table.specs.Words.{state, words, words-same, Agree, agree-put, agree-part}
-use Rattle.table.specs.Numbering.{numberOf, recordOf, messageOf}
+use Rattle.table.specs.Field.{State, Known, End, OfPlace, OfMessage, Incarnation, LiveCount, StableCount, PlaceIncarnation, PlaceNumber, Cause, Flag, MessageState, Sender, SendingNumber, messageHead}
+use Rattle.table.specs.Layout.{controllers, incarnations, places, messages, valid-pair, valid-message-pair}
+use Rattle.table.specs.Words.{Agree, agree-put, agree-put-to, agree-value, agree-part, agree-part-to, agree-values, agree-clear-to, agree-cond, agree-states}
+use Rattle.table.specs.Numbering.{numberOf, used, messageOf, number-same, used-agree, message-agree, posted-agree}
 use Rattle.rules.specs.Vector.{Pair, Vector, pair, noPair, incarnation, number, empty, pairOf, placeVector, messageVector, flat, knownStable, filterPair, filtered, condemnedPair, condemned}
 use Rattle.rules.specs.Form.{stateHeld, stateReleased, stateDelivered, stateDropped}
-use Rattle.rules.specs.Shared.{newestPlace, placeRecord, logged, loggedTo, causedFrom, causes, newVector, restarted, orphanedFrom, dropHeld, startAnew, latestFlagged, replayed}
-use Rattle.rules.specs.Steps.{messageRecord, sent, letOut, begun, told, noted, lowestCondemned}
+use Rattle.rules.specs.Shared.{newestPlace, placeRecord, logged, loggedTo, causedIn, causesIn, causes, offeredAgain, newVector, placed, entered, restarted, orphaned, heldOrDropped, dropHeld, startAnew, latestFlagged, replayed}
+use Rattle.rules.specs.Steps.{messageRecord, sent, letOut, intervalAdded, toldRow, told, noted, lowestCondemned}
 use Rattle.laws.specs.Facts.{Near}
-
--- places cleared, and states put
-pub agree-clear : (σ τ : State) (c p q : ℕ) → Agree σ τ → Agree (clearPlaces σ c p q) (clearPlaces τ c p q)
-unfolding clearPlaces
-agree-clear σ τ c p q e g v = ap (cond (inPlaces c p q g) 0) (e g v)
-
--- states put that are the same for each record of the table
-pub agree-states : (σ τ : State) (s u : ℕ → ℕ) → ((r : ℕ) → r < messages → s r ≡ u r) → Agree σ τ → Agree (putStates σ s) (putStates τ u)
-unfolding putStates
-agree-states σ τ s u h e (OfHead i) v = e (OfHead i) v
-agree-states σ τ s u h e (OfController c k) v = e (OfController c k) v
-agree-states σ τ s u h e (Known b a t) v = e (Known b a t) v
-agree-states σ τ s u h e (End b a t) v = e (End b a t) v
-agree-states σ τ s u h e (OfPlace c p k) v = e (OfPlace c p k) v
-agree-states σ τ s u h e (OfMessage r k) v = ap₂ (λ x y. cond (k == 0) x y) (h r (v .0)) (e (OfMessage r k) v)
-
--- one of two changes, by one test
-agree-cond : (σ τ σ′ τ′ : State) (b : Bool) → Agree σ τ → Agree σ′ τ′ → Agree (cond b σ σ′) (cond b τ τ′)
-agree-cond σ τ σ′ τ′ true e e′ = e
-agree-cond σ τ σ′ τ′ false e e′ = e′
-
--- what starting anew writes, by what it has read: incarnation, live count, vector
-abbrev writtenAnew : State → ℕ → ℕ → ℕ → ℕ → Vector → State
-writtenAnew σ c k i l v =
-    let begun = putPart (clearPlaces σ c k l) (OfPlace c k 0) 0 (placeRecord (i + 1) (k + 1) 0 0 v) in
-    put (put (put (put begun (Incarnation c) (i + 1)) (LiveCount c) (k + 1)) (StableCount c) (k + 1)) (Known c c (i + 1)) (k + 1)
+use Rattle.laws.specs.Records.{placeVector-of, messageVector-of}
 
 module _ (σ τ : State) (e : Agree σ τ) where
-  -- a word of a controller, of a place, of a message
-  pub controller-same : (c k : ℕ) → c < controllers → k < 4 → σ (OfController c k) ≡ τ (OfController c k)
-  controller-same c k cl kl = e (OfController c k) (cl, omega arith)
+  -- a controller's own words
+  pub incarnation-same : (c : ℕ) → c < controllers → σ (Incarnation c) ≡ τ (Incarnation c)
+  incarnation-same c cl = e (Incarnation c) (cl, omega arith)
 
-  -- a word of a place
-  pub place-same : (c p k : ℕ) → c < controllers → p < places → k < 20 → σ (OfPlace c p k) ≡ τ (OfPlace c p k)
-  place-same c p k cl pl kl = e (OfPlace c p k) (cl, pl, omega arith)
+  pub live-same : (c : ℕ) → c < controllers → σ (LiveCount c) ≡ τ (LiveCount c)
+  live-same c cl = e (LiveCount c) (cl, omega arith)
 
-  -- a word of a message
-  pub message-same : (r k : ℕ) → r < messages → k < 22 → σ (OfMessage r k) ≡ τ (OfMessage r k)
-  message-same r k rl kl = e (OfMessage r k) (rl, omega arith)
+  pub stable-same : (c : ℕ) → c < controllers → σ (StableCount c) ≡ τ (StableCount c)
+  stable-same c cl = e (StableCount c) (cl, omega arith)
+
+  -- the state of a message
+  pub state-same : (r : ℕ) → r < messages → σ (MessageState r) ≡ τ (MessageState r)
+  state-same r rl = e (MessageState r) (rl, omega arith)
 
   -- vectors
   pub placeVector-same : (c p : ℕ) → c < controllers → p < places → placeVector σ c p ≡ placeVector τ c p
-  unfolding placeVector
   placeVector-same c p cl pl =
-      tab-same controllers _ _
-      (λ a l. ap₂ pair (place-same c p (4 + 2 * a) cl pl (omega arith)) (place-same c p (4 + 2 * a + 1) cl pl (omega arith)))
+      placeVector-of σ τ c p (λ owner l. let v = valid-pair c p owner cl pl l in (e _ (v .0), e _ (v .1)))
 
-  -- the vector of a message
   pub messageVector-same : (r : ℕ) → r < messages → messageVector σ r ≡ messageVector τ r
-  unfolding messageVector
-  messageVector-same r rl =
-      tab-same controllers _ _ (λ a l. ap₂ pair (message-same r (6 + 2 * a) rl (omega arith)) (message-same r (6 + 2 * a + 1) rl (omega arith)))
+  messageVector-same r rl = messageVector-of σ τ r (λ owner l. let v = valid-message-pair r owner rl l in (e _ (v .0), e _ (v .1)))
 
   -- whether a pair is known stable
-  pub knownStable-same : (b a : ℕ) (p : Pair) → b < controllers → a < controllers → incarnation p < incarnations → knownStable σ b a p ≡ knownStable τ b a p
+  pub knownStable-same : (holder owner : ℕ) (p : Pair) → holder < controllers → owner < controllers → incarnation p < incarnations →
+      knownStable σ holder owner p ≡ knownStable τ holder owner p
   unfolding knownStable
-  knownStable-same b a p bl al tl = ap (λ x. number p ≤? x) (e (Known b a (incarnation p)) (bl, al, tl))
-
-  -- a pair filtered
-  pub filterPair-same : (b a : ℕ) (p : Pair) → b < controllers → a < controllers → incarnation p < incarnations → filterPair σ b a p ≡ filterPair τ b a p
-  unfolding filterPair
-  filterPair-same b a p bl al tl = ap (λ x. cond x noPair p) (knownStable-same b a p bl al tl)
+  knownStable-same holder owner p hl ol il = ap (λ x. number p ≤? x) (e (Known holder owner (incarnation p)) (hl, ol, il))
 
   -- a vector filtered
-  pub filtered-same : (b : ℕ) (v : Vector) → b < controllers → Near v → filtered σ b v ≡ filtered τ b v
-  unfolding filtered
-  filtered-same b v bl near = tab-same controllers _ _ (λ a l. filterPair-same b a (pairOf v a) bl l (near a l))
+  pub filtered-same : (holder : ℕ) (v : Vector) → holder < controllers → Near v → filtered σ holder v ≡ filtered τ holder v
+  unfolding filtered filterPair
+  filtered-same holder v hl near =
+      tab-same controllers _ _ (λ owner l. ap (λ x. cond x noPair (pairOf v owner)) (knownStable-same holder owner (pairOf v owner) hl l (near owner l)))
 
   -- whether a pair is condemned
-  pub condemnedPair-same : (b a : ℕ) (p : Pair) → b < controllers → a < controllers → incarnation p < incarnations → condemnedPair σ b a p ≡ condemnedPair τ b a p
+  pub condemnedPair-same : (holder owner : ℕ) (p : Pair) → holder < controllers → owner < controllers → incarnation p < incarnations →
+      condemnedPair σ holder owner p ≡ condemnedPair τ holder owner p
   unfolding condemnedPair
-  condemnedPair-same b a p bl al tl = ap (λ x. not (empty p) && (not (x == 0) && (x <? number p))) (e (End b a (incarnation p)) (bl, al, tl))
+  condemnedPair-same holder owner p hl ol il =
+      ap (λ x. not (empty p) && (not (x == 0) && (x <? number p))) (e (End holder owner (incarnation p)) (hl, ol, il))
 
   -- whether a vector is condemned
-  pub condemned-same : (b : ℕ) (v : Vector) → b < controllers → Near v → condemned σ b v ≡ condemned τ b v
+  pub condemned-same : (holder : ℕ) (v : Vector) → holder < controllers → Near v → condemned σ holder v ≡ condemned τ holder v
   unfolding condemned
-  condemned-same b v bl near = anyb-same controllers _ _ (λ a l. condemnedPair-same b a (pairOf v a) bl l (near a l))
+  condemned-same holder v hl near = anyb-same controllers _ _ (λ owner l. condemnedPair-same holder owner (pairOf v owner) hl l (near owner l))
+
+  -- the state of a cause that is offered again
+  pub offeredAgain-same : (c r : ℕ) → c < controllers → r < messages → Near (messageVector σ r) → offeredAgain σ c r ≡ offeredAgain τ c r
+  unfolding offeredAgain
+  offeredAgain-same c r cl rl near =
+      ap (λ x. cond x stateDropped stateReleased) (condemned-same c (messageVector σ r) cl near ∙ ap (condemned τ c) (messageVector-same r rl))
 
   -- what is looked for on a chain
-  pub causedFrom-same : (c k r : ℕ) → c < controllers → σ (LiveCount c) ≤ places → causedFrom σ c k r ≡ causedFrom τ c k r
-  unfolding causedFrom messageOf
-  causedFrom-same c k r cl ll =
-      anyb-same (σ (LiveCount c) - k) _ _ (λ i l. ap (λ x. x == r + 1) (place-same c (k + i) 2 cl (omega arith) (omega arith)))
-      ∙ ap (λ n. anyb (n - k) (λ (i : ℕ). τ (Cause c (k + i)) == r + 1)) (controller-same c 2 cl (omega arith))
+  pub causedIn-same : (c k r : ℕ) {n o : ℕ} → c < controllers → r < messages → k + n ≤ places → n ≡ o → causedIn σ c k n r ≡ causedIn τ c k o r
+  unfolding causedIn
+  causedIn-same c k r {n} {o} cl rl l z =
+      ap₂ (λ n b. (r <? n) && b) (used-agree σ τ e)
+      (anyb-same n _ _ (λ j h. ap₂ (λ x m. x == m) (e (Cause c (k + j)) (cl, omega arith, omega arith)) (message-agree σ τ e r rl))
+      ∙ ap (λ n. anyb n (λ (j : ℕ). τ (Cause c (k + j)) == messageOf τ r)) z)
 
   -- the highest flagged number
   pub latestFlagged-same : (c k : ℕ) → c < controllers → k ≤ places → latestFlagged σ c k ≡ latestFlagged τ c k
-  unfolding latestFlagged numberOf
+  unfolding latestFlagged
   latestFlagged-same c zero cl kl = refl
   latestFlagged-same c (suc p) cl kl =
-      ap₂ (λ (x y : ℕ). cond (x == 1) (p + 1) y) (place-same c p 3 cl (omega arith) (omega arith)) (latestFlagged-same c p cl (omega arith))
+      λ d. cond (e (Flag c p) (cl, omega arith, omega arith) d == 1) (number-same σ τ e c (p + 1) cl d) (latestFlagged-same c p cl (omega arith) d)
 
   -- how much is replayed
   pub replayed-same : (c k : ℕ) → c < controllers → k ≤ places → replayed σ c k ≡ replayed τ c k
-  unfolding replayed numberOf
-  replayed-same c k cl kl = ap (λ x. k - x) (latestFlagged-same c k cl kl)
+  unfolding replayed
+  replayed-same c k cl kl = ap₂ (λ x y. x - y) (number-same σ τ e c k cl) (latestFlagged-same c k cl kl)
 
   -- the lowest condemned place
-  pub lowestCondemned-same : (b : ℕ) → b < controllers → σ (LiveCount b) ≤ places → ((p : ℕ) → p < σ (LiveCount b) → Near (placeVector σ b p)) →
-      lowestCondemned σ b ≡ lowestCondemned τ b
+  pub lowestCondemned-same : (hearer : ℕ) → hearer < controllers → σ (LiveCount hearer) ≤ places →
+      ((p : ℕ) → p < σ (LiveCount hearer) → Near (placeVector σ hearer p)) → lowestCondemned σ hearer ≡ lowestCondemned τ hearer
   unfolding lowestCondemned
-  lowestCondemned-same b bl ll near =
+  lowestCondemned-same hearer hl ll near =
       ap (λ x. 1 + x)
-      (first-same (σ (LiveCount b) - 1) _ _
-      (λ i l. condemned-same b (placeVector σ b (1 + i)) bl (near (1 + i) (omega arith))
-      ∙ ap (condemned τ b) (placeVector-same b (1 + i) bl (omega arith)))
-      ∙ ap (λ n. first (n - 1) (λ (i : ℕ). condemned τ b (placeVector τ b (1 + i)))) (controller-same b 2 bl (omega arith)))
+      (first-same (σ (LiveCount hearer) - 1) _ _
+      (λ j l. condemned-same hearer (placeVector σ hearer (1 + j)) hl (near (1 + j) (omega arith))
+      ∙ ap (condemned τ hearer) (placeVector-same hearer (1 + j) hl (omega arith)))
+      ∙ ap (λ n. first (n - 1) (λ (j : ℕ). condemned τ hearer (placeVector τ hearer (1 + j)))) (live-same hearer hl))
 
   -- logging
-  pub agree-logged : (c j : ℕ) → c < controllers → Agree (logged σ c j) (logged τ c j)
-  unfolding logged numberOf
-  agree-logged c j cl =
-      subst (λ i. Agree (put (put σ (StableCount c) j) (Known c c (σ (Incarnation c))) j) (put (put τ (StableCount c) j) (Known c c i) j))
-      (controller-same c 1 cl (omega arith)) (agree-put _ _ (Known c c (σ (Incarnation c))) j (agree-put σ τ (StableCount c) j e))
+  pub agree-logged : (c k : ℕ) → c < controllers → Agree (logged σ c k) (logged τ c k)
+  unfolding logged
+  agree-logged c k cl =
+      agree-put-to _ _ (ap (Known c c) (incarnation-same c cl)) (number-same σ τ e c k cl) (agree-put σ τ (StableCount c) k e)
 
   -- logging, if there is anything to log
-  pub agree-loggedTo : (c j : ℕ) → c < controllers → Agree (loggedTo σ c j) (loggedTo τ c j)
+  pub agree-loggedTo : (c k : ℕ) → c < controllers → Agree (loggedTo σ c k) (loggedTo τ c k)
   unfolding loggedTo
-  agree-loggedTo c j cl =
-      subst (λ n. Agree (cond (σ (StableCount c) <? j) (logged σ c j) σ) (cond (n <? j) (logged τ c j) τ)) (controller-same c 3 cl (omega arith))
-      (agree-cond _ _ _ _ (σ (StableCount c) <? j) (agree-logged c j cl) e)
+  agree-loggedTo c k cl = agree-cond _ _ _ _ (ap (λ n. n <? k) (stable-same c cl)) (agree-logged c k cl) e
 
-  -- states of messages
-  pub agree-causes : (c k : ℕ) (s u : ℕ → ℕ) → c < controllers → σ (LiveCount c) ≤ places → ((r : ℕ) → r < messages → s r ≡ u r) → Agree (causes σ c k s) (causes τ c k u)
-  unfolding causes
-  agree-causes c k s u cl ll h =
-      agree-states σ τ _ _
-      (λ r l. λ d. cond (causedFrom-same c k r cl ll d) (h r l d) (message-same r 0 l (omega arith) d)) e
+  -- states of causes
+  pub agree-causes : (c k : ℕ) (s u : ℕ → ℕ) → c < controllers → k ≤ σ (LiveCount c) → σ (LiveCount c) ≤ places → ((r : ℕ) → r < messages → s r ≡ u r) →
+      Agree (causes σ c k s) (causes τ c k u)
+  unfolding causes causesIn
+  agree-causes c k s u cl kl ll h =
+      let n = ap (λ live. live - k) (live-same c cl) in
+      agree-states σ τ _ _ (λ r l. λ d. cond (causedIn-same c k r cl l (omega arith) n d) (h r l d) (state-same r l d)) e
 
-  -- whether a message is held and from an undone interval
-  pub orphanedFrom-same : (c k r : ℕ) → r < messages → orphanedFrom σ c k r ≡ orphanedFrom τ c k r
-  unfolding numberOf
-  orphanedFrom-same c k r l =
-      λ d. (message-same r 0 l (omega arith) d == stateHeld) && ((message-same r 1 l (omega arith) d == c) && (k <? message-same r 4 l (omega arith) d))
+  -- the state of a message that may be dropped
+  pub heldOrDropped-same : (c r : ℕ) {x y : ℕ} → r < messages → x ≡ y → heldOrDropped σ c x r ≡ heldOrDropped τ c y r
+  unfolding heldOrDropped
+  heldOrDropped-same c r l z =
+      let number-is = e (SendingNumber r) (l, omega arith) in
+      λ d. cond ((state-same r l d == stateHeld) && ((e (Sender r) (l, omega arith) d == c) && (z d <? number-is d))) stateDropped (state-same r l d)
 
   -- held messages dropped
-  pub agree-dropHeld : (c k : ℕ) → Agree (dropHeld σ c k) (dropHeld τ c k)
+  pub agree-dropHeld : (c k : ℕ) → c < controllers → Agree (dropHeld σ c k) (dropHeld τ c k)
   unfolding dropHeld
-  agree-dropHeld c k =
-      agree-states σ τ _ _ (λ r l. λ d. cond (orphanedFrom-same c k r l d) stateDropped (message-same r 0 l (omega arith) d)) e
+  agree-dropHeld c k cl = agree-states σ τ _ _ (λ r l. heldOrDropped-same c r l (number-same σ τ e c k cl)) e
 
   -- starting anew
   pub newVector-same : (c k : ℕ) → c < controllers → k ≤ places → 1 ≤ k → Near (placeVector σ c (k - 1)) → newVector σ c k ≡ newVector τ c k
-  unfolding newVector numberOf
+  unfolding newVector
   newVector-same c k cl kl k1 near =
       let v = filtered-same c (placeVector σ c (k - 1)) cl near ∙ ap (filtered τ c) (placeVector-same c (k - 1) cl (omega arith)) in
-      λ d. set (v d) c (pair (controller-same c 1 cl (omega arith) d + 1) (k + 1))
+      λ d. set (v d) c (pair (incarnation-same c cl d + 1) (number-same σ τ e c (k + 1) cl d))
 
-  -- the words that starting anew writes
-  agree-written : (c k i l : ℕ) (v : Vector) → Agree (writtenAnew σ c k i l v) (writtenAnew τ c k i l v)
-  agree-written c k i l v =
-      agree-put _ _ (Known c c (i + 1)) _ (agree-put _ _ (StableCount c) _ (agree-put _ _ (LiveCount c) _ (agree-put _ _ (Incarnation c) _
-      (agree-part _ _ (OfPlace c k 0) 0 _ (agree-clear σ τ c k l e)))))
+  -- the new place, and the controller's own words
+  pub agree-placed : (c k : ℕ) {i j x y : ℕ} {v w : Vector} → c < controllers → i ≡ j → x ≡ y → v ≡ w → Agree (placed σ c k i x v) (placed τ c k j y w)
+  unfolding placed
+  agree-placed c k cl p q r = agree-values _ _ (OfPlace c k 0) 0 (λ d. placeRecord (p d) (q d) 0 0 (r d)) (agree-clear-to σ τ c k (live-same c cl) e)
 
-  -- starting anew, without the messages that it drops
-  pub agree-restarted : (c k : ℕ) → c < controllers → k ≤ places → 1 ≤ k → Near (placeVector σ c (k - 1)) → Agree (restarted σ c k) (restarted τ c k)
-  unfolding restarted numberOf
-  agree-restarted c k cl kl k1 near =
-      let p : writtenAnew τ c k (σ (Incarnation c)) (σ (LiveCount c)) (newVector σ c k) ≡ writtenAnew τ c k (τ (Incarnation c)) (τ (LiveCount c)) (newVector τ c k) =
-      λ d. writtenAnew τ c k (controller-same c 1 cl (omega arith) d) (controller-same c 2 cl (omega arith) d) (newVector-same c k cl kl k1 near d) in
-      subst (Agree (restarted σ c k)) p (agree-written c k (σ (Incarnation c)) (σ (LiveCount c)) (newVector σ c k))
+  pub agree-entered : (c k : ℕ) {i j x y : ℕ} → i ≡ j → x ≡ y → Agree (entered σ c k i x) (entered τ c k j y)
+  unfolding entered
+  agree-entered c k p q =
+      agree-put-to _ _ (ap (Known c c) p) q (agree-put _ _ (StableCount c) k (agree-put _ _ (LiveCount c) k (agree-value σ τ (Incarnation c) p e)))
 
-  -- a message sent, let out; an interval begun
-  pub agree-sent : (s r p : ℕ) → s < controllers → newestPlace σ s < places → Near (placeVector σ s (newestPlace σ s)) → Agree (sent σ s r p) (sent τ s r p)
+  -- a message sent
+  pub agree-sent : (sender receiver payload : ℕ) → sender < controllers → newestPlace σ sender < places → Near (placeVector σ sender (newestPlace σ sender)) →
+      Agree (sent σ sender receiver payload) (sent τ sender receiver payload)
   unfolding sent
-  agree-sent s r p sl nl near =
-      let n : newestPlace σ s ≡ newestPlace τ s = ap (λ x. x - 1) (controller-same s 2 sl (omega arith)) in
-      let v : filtered σ s (placeVector σ s (newestPlace σ s)) ≡ filtered τ s (placeVector τ s (newestPlace τ s)) =
-      filtered-same s _ sl near ∙ ap (filtered τ s) (placeVector-same s (newestPlace σ s) sl nl ∙ ap (placeVector τ s) n) in
-      let t : σ (PlaceIncarnation s (newestPlace σ s)) ≡ τ (PlaceIncarnation s (newestPlace τ s)) =
-      place-same s (newestPlace σ s) 0 sl nl (omega arith) ∙ ap (λ q. τ (PlaceIncarnation s q)) n in
-      let x : σ (PlaceNumber s (newestPlace σ s)) ≡ τ (PlaceNumber s (newestPlace τ s)) =
-      place-same s (newestPlace σ s) 1 sl nl (omega arith) ∙ ap (λ q. τ (PlaceNumber s q)) n in
-      let m : σ SentCount ≡ τ SentCount = e SentCount (omega arith) in
-      let written : State → ℕ → ℕ → ℕ → Vector → State = λ ρ m t x v. put (putPart ρ (OfMessage m 0) 0 (messageRecord stateHeld s r t x p v)) SentCount (m + 1) in
-      subst (Agree (sent σ s r p)) (λ d. written τ (m d) (t d) (x d) (v d)) (agree-put _ _ SentCount _ (agree-part σ τ (OfMessage (σ SentCount) 0) 0 _ e))
-
-  -- a message let out
-  pub agree-letOut : (r : ℕ) (v : Vector) → Agree (letOut σ r v) (letOut τ r v)
-  unfolding letOut
-  agree-letOut r v = agree-put _ _ (MessageState r) stateReleased (agree-part σ τ (OfMessage r 0) messageHead (flat v) e)
+  agree-sent sender receiver payload sl nl near =
+      let n : newestPlace σ sender ≡ newestPlace τ sender = ap (λ x. x - 1) (live-same sender sl) in
+      let v : filtered σ sender (placeVector σ sender (newestPlace σ sender)) ≡ filtered τ sender (placeVector τ sender (newestPlace τ sender)) =
+      filtered-same sender _ sl near ∙ ap (filtered τ sender) (placeVector-same sender (newestPlace σ sender) sl nl ∙ ap (placeVector τ sender) n) in
+      let i : σ (PlaceIncarnation sender (newestPlace σ sender)) ≡ τ (PlaceIncarnation sender (newestPlace τ sender)) =
+      e (PlaceIncarnation sender (newestPlace σ sender)) (sl, nl, omega arith) ∙ ap (λ p. τ (PlaceIncarnation sender p)) n in
+      let x : σ (PlaceNumber sender (newestPlace σ sender)) ≡ τ (PlaceNumber sender (newestPlace τ sender)) =
+      e (PlaceNumber sender (newestPlace σ sender)) (sl, nl, omega arith) ∙ ap (λ p. τ (PlaceNumber sender p)) n in
+      posted-agree σ τ e (λ d. messageRecord stateHeld sender receiver (i d) (x d) payload (v d))
 
   -- an interval begun
-  pub agree-begun : (c m : ℕ) (v : Vector) → c < controllers → Agree (begun σ c m v) (begun τ c m v)
-  unfolding begun numberOf recordOf
-  agree-begun c m v cl =
-      let written : State → ℕ → ℕ → State =
-      λ ρ t l. put (put (putPart ρ (OfPlace c l 0) 0 (placeRecord t (l + 1) m 0 (set v c (pair t (l + 1))))) (LiveCount c) (l + 1)) (MessageState (m - 1)) stateDelivered in
-      subst (Agree (begun σ c m v)) (λ d. written τ (controller-same c 1 cl (omega arith) d) (controller-same c 2 cl (omega arith) d))
-      (agree-put _ _ (MessageState (m - 1)) _ (agree-put _ _ (LiveCount c) _ (agree-part σ τ (OfPlace c (σ (LiveCount c)) 0) 0 _ e)))
+  pub agree-begun : (c m r : ℕ) (v : Vector) → c < controllers → Agree (intervalAdded σ c m r v) (intervalAdded τ c m r v)
+  unfolding intervalAdded
+  agree-begun c m r v cl =
+      let i = incarnation-same c cl in
+      let live = live-same c cl in
+      let x : numberOf σ c (σ (LiveCount c) + 1) ≡ numberOf τ c (τ (LiveCount c) + 1) = number-same σ τ e c _ cl ∙ ap (λ n. numberOf τ c (n + 1)) live in
+      agree-put _ _ (MessageState r) stateDelivered
+      (agree-value _ _ (LiveCount c) (ap (λ n. n + 1) live)
+      (agree-part-to σ τ 0 (ap (λ p. OfPlace c p 0) live) (λ d. placeRecord (i d) (x d) m 0 (set v c (pair (i d) (x d)))) e))
 
-  -- what a controller is told of another
-  pub agree-noted : (b a t : ℕ) → b < controllers → a < controllers → t < incarnations → Agree (noted σ b a t) (noted τ b a t)
+  -- what a hearer notes
+  pub agree-noted : (hearer owner i : ℕ) → hearer < controllers → owner < controllers → i < incarnations → Agree (noted σ hearer owner i) (noted τ hearer owner i)
   unfolding noted
-  agree-noted b a t bl al tl =
-      let written : State → ℕ → ℕ → State = λ ρ x k. put (put ρ (End b a t) x) (Known b a t) (max k x) in
-      subst (Agree (noted σ b a t)) (λ d. written τ (e (End a a t) (al, al, tl) d) (e (Known b a t) (bl, al, tl) d))
-      (agree-put _ _ (Known b a t) _ (agree-put σ τ (End b a t) _ e))
+  agree-noted hearer owner i hl ol il =
+      let end = e (End owner owner i) (ol, ol, il) in
+      agree-value _ _ (Known hearer owner i) (ap₂ max (e (Known hearer owner i) (hl, ol, il)) end)
+      (agree-value σ τ (End hearer owner i) end e)
 
   -- known words told
-  pub agree-told : (a b : ℕ) → a < controllers → b < controllers → Agree (told σ a b) (told τ a b)
-  unfolding told
-  agree-told a b al bl =
-      subst (λ r. Agree (told σ a b) (putPart τ (Known b a 0) 0 r))
-      (tab-same incarnations _ _ (λ t l. ap₂ max (e (Known b a t) (bl, al, l)) (e (Known a a t) (al, al, l)))) (agree-part σ τ (Known b a 0) 0 _ e)
+  pub agree-told : (owner holder : ℕ) → owner < controllers → holder < controllers → Agree (told σ owner holder) (told τ owner holder)
+  unfolding told toldRow
+  agree-told owner holder ol hl =
+      agree-values σ τ (Known holder owner 0) 0
+      (tab-same incarnations _ _ (λ i l. ap₂ max (e (Known holder owner i) (hl, ol, l)) (e (Known owner owner i) (ol, ol, l)))) e
+
+-- starting anew, without the messages that it drops
+pub agree-restarted : (σ τ : State) → Agree σ τ → (c k : ℕ) → c < controllers → k ≤ places → 1 ≤ k → Near (placeVector σ c (k - 1)) →
+    Agree (restarted σ c k) (restarted τ c k)
+unfolding restarted
+agree-restarted σ τ e c k cl kl k1 near =
+    let i = ap (λ x. x + 1) (incarnation-same σ τ e c cl) in
+    let x = number-same σ τ e c (k + 1) cl in
+    agree-entered _ _ (agree-placed σ τ e c k cl i x (newVector-same σ τ e c k cl kl k1 near)) c (k + 1) i x
 
 -- starting anew, with the messages that it drops
 pub agree-startAnew : (σ τ : State) → Agree σ τ → (c k : ℕ) → c < controllers → k ≤ places → 1 ≤ k → Near (placeVector σ c (k - 1)) →
     Agree (startAnew σ c k) (startAnew τ c k)
 unfolding startAnew
-agree-startAnew σ τ e c k cl kl k1 near = agree-dropHeld _ _ (agree-restarted σ τ e c k cl kl k1 near) c k
-
--- a call has applied a rule to the table of σ
-pub called : (rule : State → State) (σ : State) {t u : List ℕ} → t ≡ words σ → u ≡ words (rule (state t)) → Agree (rule (state (words σ))) (rule σ) → u ≡ words (rule σ)
-called rule σ e q h = q ∙ ap (λ t. words (rule (state t))) e ∙ words-same (rule (state (words σ))) (rule σ) h
+agree-startAnew σ τ e c k cl kl k1 near = agree-dropHeld _ _ (agree-restarted σ τ e c k cl kl k1 near) c k cl

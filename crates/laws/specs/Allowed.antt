@@ -7,9 +7,9 @@ use native.Mathlib.Omega.{arith}
 use borrow.Author.Tests.{leb-false, ltb-false, eqb-true, eqb-false, not-false}
 use Rattle.base.specs.Choice.{_==_, _<?_, or-left, or-right}
 use Rattle.base.specs.Cases.{firstOf, cleared}
-use Rattle.table.specs.Field.{State, End, Size, SentCount, Incarnation, LiveCount, StableCount, MessageState}
+use Rattle.table.specs.Field.{State, End, Size, Incarnation, LiveCount, StableCount, MessageState}
 use Rattle.table.specs.Layout.{controllers, places, messages}
-use Rattle.table.specs.Numbering.{recordOf}
+use Rattle.table.specs.Numbering.{used}
 use Rattle.rules.specs.Limits.{house, lastIncarnation}
 use Rattle.rules.specs.Steps.{noController, openRefusals, degreeRefusals, sendRefusals, messageRefusals, logRefusals, checkpointRefusals, tellRefusals, crashRefusals, hearRefusals}
 
@@ -49,7 +49,7 @@ module _ (σ : State) where
     pub sender-lt : s < σ Size
     pub receiver-lt : r < σ Size
     pub differ : s ≢ r
-    pub room : σ SentCount < messages
+    pub room : used σ < messages
 
   -- no refusal of S applies
   pub sendAllowed : (s r : ℕ) → 0 ≡ firstOf (sendRefusals house σ s r) → SendAllowed s r
@@ -61,20 +61,15 @@ module _ (σ : State) where
         room = leb-false _ _ (cleared _ 2 refl e);
       }
 
-  -- R and D: the message is in the state that is wanted
-  pub record MessageAllowed (m wanted : ℕ) : Type 0 where
-    pub message-pos : 1 ≤ m
-    pub message-le : m ≤ σ SentCount
-    pub state-is : σ (MessageState (recordOf σ m)) ≡ wanted
+  -- R and D: record r is in use, and its message in the state that is wanted
+  pub record MessageAllowed (r wanted : ℕ) : Type 0 where
+    pub record-used : r < used σ
+    pub state-is : σ (MessageState r) ≡ wanted
 
   -- no refusal of R or D by its message applies
-  pub messageAllowed : (m wanted : ℕ) → 0 ≡ firstOf (messageRefusals σ m wanted) → MessageAllowed m wanted
-  messageAllowed m wanted e =
-      record {
-        message-pos = pos m (or-left (m == 0) _ (cleared _ 0 refl e));
-        message-le = ltb-false _ _ (or-right (m == 0) _ (cleared _ 0 refl e));
-        state-is = eqb-true _ _ (not-false _ (cleared _ 1 refl e));
-      }
+  pub messageAllowed : (r wanted : ℕ) → 0 ≡ firstOf (messageRefusals σ r wanted) → MessageAllowed r wanted
+  messageAllowed r wanted e =
+      record { record-used = leb-false _ _ (cleared _ 0 refl e); state-is = eqb-true _ _ (not-false _ (cleared _ 1 refl e)) }
 
   -- L
   pub record LogAllowed (c q : ℕ) : Type 0 where
@@ -96,18 +91,18 @@ module _ (σ : State) where
   checkpointAllowed c e = leb-false _ _ (cleared _ 0 refl e)
 
   -- T
-  pub record TellAllowed (a b : ℕ) : Type 0 where
-    pub teller-lt : a < σ Size
-    pub told-lt : b < σ Size
-    pub differ : a ≢ b
+  pub record TellAllowed (owner holder : ℕ) : Type 0 where
+    pub owner-lt : owner < σ Size
+    pub holder-lt : holder < σ Size
+    pub differ : owner ≢ holder
 
   -- no refusal of T applies
-  pub tellAllowed : (a b : ℕ) → 0 ≡ firstOf (tellRefusals σ a b) → TellAllowed a b
-  tellAllowed a b e =
+  pub tellAllowed : (owner holder : ℕ) → 0 ≡ firstOf (tellRefusals σ owner holder) → TellAllowed owner holder
+  tellAllowed owner holder e =
       record {
-        teller-lt = leb-false _ _ (or-left (noController σ a) _ (cleared _ 0 refl e));
-        told-lt = leb-false _ _ (or-right (noController σ a) _ (cleared _ 0 refl e));
-        differ = eqb-false a b (cleared _ 1 refl e);
+        owner-lt = leb-false _ _ (or-left (noController σ owner) _ (cleared _ 0 refl e));
+        holder-lt = leb-false _ _ (or-right (noController σ owner) _ (cleared _ 0 refl e));
+        differ = eqb-false owner holder (cleared _ 1 refl e);
       }
 
   -- X
@@ -126,20 +121,20 @@ module _ (σ : State) where
       }
 
   -- H
-  pub record HearAllowed (b a t : ℕ) : Type 0 where
-    pub hearer-lt : b < σ Size
-    pub crashed-lt : a < σ Size
-    pub incarnation-le : t ≤ lastIncarnation
-    pub own-end : σ (End a a t) ≢ 0
-    pub unheard : σ (End b a t) ≡ 0
+  pub record HearAllowed (hearer owner i : ℕ) : Type 0 where
+    pub hearer-lt : hearer < σ Size
+    pub owner-lt : owner < σ Size
+    pub incarnation-le : i ≤ lastIncarnation
+    pub own-end : σ (End owner owner i) ≢ 0
+    pub unheard : σ (End hearer owner i) ≡ 0
 
-  -- no refusal of H applies, but for 13
-  pub hearAllowed : (b a t : ℕ) → 0 ≡ firstOf (hearRefusals σ b a t) → HearAllowed b a t
-  hearAllowed b a t e =
+  -- no refusal of H applies, but for the last
+  pub hearAllowed : (hearer owner i : ℕ) → 0 ≡ firstOf (hearRefusals σ hearer owner i) → HearAllowed hearer owner i
+  hearAllowed hearer owner i e =
       record {
-        hearer-lt = leb-false _ _ (or-left (noController σ b) _ (cleared _ 0 refl e));
-        crashed-lt = leb-false _ _ (or-right (noController σ b) _ (cleared _ 0 refl e));
-        incarnation-le = ltb-false _ _ (or-left (lastIncarnation <? t) _ (cleared _ 1 refl e));
-        own-end = eqb-false _ _ (or-right (lastIncarnation <? t) _ (cleared _ 1 refl e));
+        hearer-lt = leb-false _ _ (or-left (noController σ hearer) _ (cleared _ 0 refl e));
+        owner-lt = leb-false _ _ (or-right (noController σ hearer) _ (cleared _ 0 refl e));
+        incarnation-le = ltb-false _ _ (or-left (lastIncarnation <? i) _ (cleared _ 1 refl e));
+        own-end = eqb-false _ _ (or-right (lastIncarnation <? i) _ (cleared _ 1 refl e));
         unheard = eqb-true _ _ (not-false _ (cleared _ 2 refl e));
       }

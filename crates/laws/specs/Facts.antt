@@ -1,16 +1,18 @@
 -- What being in form says of each word.
-use mathlib.Core.Path.{_≡_, refl}
+use mathlib.Core.Path.{_≡_, refl, ap}
+use mathlib.Core.List.{[]}
 use mathlib.Core.Bool.{Bool, true, _&&_, _||_}
-use Prim.Native.Nat.{ℕ, _+_, _≤_, _<_}
+use Prim.Native.Nat.{ℕ, _+_, _-_, _≤_, _<_}
 use native.Mathlib.Omega.{arith}
 use borrow.Author.Tests.{leb-true, ltb-true, eqb-true, lt-ltb, le-ltb}
 use Rattle.base.specs.Choice.{_==_, _≤?_, _<?_, and-left, and-right, cond-ind, le?}
 use Rattle.base.specs.Ranges.{allb, allb-get}
+use Rattle.base.specs.Lists.{getD-tab}
 use Rattle.base.specs.Cases.{passed}
-use Rattle.table.specs.Field.{State, OfController, Known, End, OfPlace, OfMessage, Size, SentCount, Degree, Incarnation, LiveCount, StableCount, PlaceIncarnation, PlaceNumber, Cause, Flag, MessageState, Sender, Receiver, SendingIncarnation, SendingNumber}
-use Rattle.table.specs.Layout.{controllers, incarnations, places, messages, controllerWords, placeWords, messageWords}
-use Rattle.table.specs.Numbering.{numberOf}
-use Rattle.rules.specs.Limits.{house, lastIncarnation}
+use Rattle.table.specs.Field.{State, OfHead, OfController, Known, End, OfPlace, OfMessage, Size, Degree, Incarnation, LiveCount, StableCount, PlaceIncarnation, PlaceNumber, Cause, Flag, MessageState, Sender, Receiver, SendingIncarnation, SendingNumber, MessagePairIncarnation, word, spareFrom}
+use Rattle.table.specs.Layout.{controllers, incarnations, places, messages, headWords, controllerWords, placeWords, messageWords}
+use Rattle.table.specs.Numbering.{numberOf, used, lastGiven}
+use Rattle.rules.specs.Limits.{house, lastIncarnation, lastNumber}
 use Rattle.rules.specs.Vector.{Pair, Vector, incarnation, number, pairOf, placeVector, messageVector}
 use Rattle.rules.specs.Form.{stateDropped, zeros, pairOk, vectorOk, controllerOk, highest, rowOk, placeOk, messageOk, inForm}
 
@@ -22,9 +24,9 @@ Near v = (a : ℕ) → a < controllers → incarnation (pairOf v a) < incarnatio
 pub record Form (σ : State) : Type 0 where
   pub size-pos : 1 ≤ σ Size
   pub size-le : σ Size ≤ controllers
-  pub sent-le : σ SentCount ≤ messages
+  pub used-le : used σ ≤ messages
   pub controllers-ok : allb controllers (controllerOk house (σ Size) σ) ≡ true
-  pub rows-ok : allb controllers (λ (b : ℕ). allb controllers (rowOk house (σ Size) σ b)) ≡ true
+  pub rows-ok : allb controllers (λ (holder : ℕ). allb controllers (rowOk house (σ Size) σ holder)) ≡ true
   pub places-ok : allb controllers (λ (c : ℕ). allb places (placeOk house (σ Size) σ c)) ≡ true
   pub messages-ok : allb messages (messageOk house (σ Size) σ) ≡ true
 
@@ -35,7 +37,7 @@ form σ e =
     record {
       size-pos = leb-true _ _ (passed _ 0 e);
       size-le = leb-true _ _ (passed _ 1 e);
-      sent-le = leb-true _ _ (passed _ 2 e);
+      used-le = leb-true _ _ (passed _ 2 e);
       controllers-ok = passed _ 4 e;
       rows-ok = passed _ 5 e;
       places-ok = passed _ 6 e;
@@ -50,7 +52,7 @@ zeros-get k word i e h = eqb-true _ _ (allb-get (λ (i : ℕ). word i == 0) k i 
 -- a vector in form, of a house of n controllers
 pub record VectorForm (n : ℕ) (v : Vector) : Type 0 where
   pub near : Near v
-  pub number-le : (a : ℕ) → a < controllers → number (pairOf v a) ≤ 64
+  pub number-le : (a : ℕ) → a < controllers → number (pairOf v a) ≤ lastNumber
   pub empty-incarnation : (a : ℕ) → a < controllers → number (pairOf v a) ≡ 0 → incarnation (pairOf v a) ≡ 0
   pub beyond-number : (a : ℕ) → a < controllers → n ≤ a → number (pairOf v a) ≡ 0
   pub beyond-incarnation : (a : ℕ) → a < controllers → n ≤ a → incarnation (pairOf v a) ≡ 0
@@ -58,7 +60,7 @@ pub record VectorForm (n : ℕ) (v : Vector) : Type 0 where
 -- a pair in form, of an owner below n or not
 record PairForm (n a : ℕ) (p : Pair) : Type 0 where
   incarnation-le : incarnation p ≤ lastIncarnation
-  number-le : number p ≤ 64
+  number-le : number p ≤ lastNumber
   empty-incarnation : number p ≡ 0 → incarnation p ≡ 0
   beyond-number : n ≤ a → number p ≡ 0
   beyond-incarnation : n ≤ a → incarnation p ≡ 0
@@ -113,7 +115,7 @@ pub record ControllerForm (σ : State) (c : ℕ) : Type 0 where
 pub record PlaceForm (σ : State) (c p : ℕ) : Type 0 where
   pub incarnation-le : σ (PlaceIncarnation c p) ≤ lastIncarnation
   pub number-is : σ (PlaceNumber c p) ≡ numberOf σ c (p + 1)
-  pub cause-le : σ (Cause c p) ≤ σ SentCount
+  pub cause-le : σ (Cause c p) ≤ lastGiven σ
   pub flag-le : σ (Flag c p) ≤ 1
   pub first-flag : p ≡ 0 → σ (Flag c p) ≡ 1
   pub vector : VectorForm (σ Size) (placeVector σ c p)
@@ -126,7 +128,7 @@ pub record MessageForm (σ : State) (r : ℕ) : Type 0 where
   pub receiver-lt : σ (Receiver r) < σ Size
   pub incarnation-le : σ (SendingIncarnation r) ≤ lastIncarnation
   pub number-pos : 1 ≤ σ (SendingNumber r)
-  pub number-le : σ (SendingNumber r) ≤ 64
+  pub number-le : σ (SendingNumber r) ≤ lastNumber
   pub vector : VectorForm (σ Size) (messageVector σ r)
 
 module _ {σ : State} (f : Form σ) where
@@ -148,18 +150,6 @@ module _ {σ : State} (f : Form σ) where
         stable-le = leb-true _ _ (passed _ 5 e);
       }
 
-  -- the words of controllers from n on
-  pub no-controller : (c k : ℕ) → c < controllers → σ Size ≤ c → k < controllerWords → σ (OfController c k) ≡ 0
-  unfolding controllerOk
-  no-controller c k cl h kl =
-      zeros-get controllerWords (λ (k : ℕ). σ (OfController c k)) k
-      (rw (le-ltb c (σ Size) h) at (allb-get (controllerOk house (σ Size) σ) controllers c (f .controllers-ok) cl)) kl
-
-  -- no controller has more live intervals than places
-  pub live-below : (c : ℕ) → c < controllers → σ (LiveCount c) ≤ places
-  live-below c h =
-      le? (c + 1) (σ Size) (λ l. controllerForm c (omega arith) .live-le) (λ l. omega (arith, no-controller c 2 h (omega arith) (omega arith)))
-
   -- the test of one place
   place-ok : (c p : ℕ) → c < controllers → p < places → placeOk house (σ Size) σ c p ≡ true
   place-ok c p cl pl = allb-get _ places p (allb-get (λ (c : ℕ). allb places (placeOk house (σ Size) σ c)) controllers c (f .places-ok) cl) pl
@@ -178,13 +168,8 @@ module _ {σ : State} (f : Form σ) where
         vector = vectorForm _ _ (passed _ 5 e);
       }
 
-  -- the words of places from the live count on
-  pub no-place : (c p k : ℕ) → c < controllers → p < places → σ (LiveCount c) ≤ p → k < placeWords → σ (OfPlace c p k) ≡ 0
-  unfolding placeOk
-  no-place c p k cl pl l kl = zeros-get placeWords (λ (k : ℕ). σ (OfPlace c p k)) k (rw (le-ltb _ _ l) at (place-ok c p cl pl)) kl
-
   -- the words of a used message record
-  pub messageForm : (r : ℕ) → r < σ SentCount → MessageForm σ r
+  pub messageForm : (r : ℕ) → r < used σ → MessageForm σ r
   unfolding messageOk
   messageForm r l =
       let e = rw (lt-ltb _ _ l) at (allb-get (messageOk house (σ Size) σ) messages r (f .messages-ok) (omega arith)) in
@@ -200,55 +185,58 @@ module _ {σ : State} (f : Form σ) where
       }
 
   -- the words of unused message records
-  pub no-message : (r k : ℕ) → r < messages → σ SentCount ≤ r → k < messageWords → σ (OfMessage r k) ≡ 0
+  pub no-message : (r k : ℕ) → r < messages → used σ ≤ r → k < messageWords → σ (OfMessage r k) ≡ 0
   unfolding messageOk
   no-message r k rl l kl =
       zeros-get messageWords (λ (k : ℕ). σ (OfMessage r k)) k
       (rw (le-ltb _ _ l) at (allb-get (messageOk house (σ Size) σ) messages r (f .messages-ok) rl)) kl
 
-  -- a known and an end word: at most 64, and 0 where holder or owner is not of the house
+  -- the vectors of all message records are near, those of unused ones too
+  pub message-near : (r : ℕ) → r < messages → Near (messageVector σ r)
+  unfolding messageVector
+  message-near r l =
+      le? (r + 1) (used σ) (λ u. messageForm r (omega arith) .vector .near)
+      (λ u owner h. let e : incarnation (pairOf (messageVector σ r) owner) ≡ σ (MessagePairIncarnation r owner) = ap incarnation (getD-tab controllers _ owner [] h) in
+      omega (arith, e, no-message r (word (MessagePairIncarnation r owner)) l (omega arith) (omega arith)))
+
+  -- a known and an end word: at most the last number, and 0 where holder or owner is not of the house
   abbrev top : ℕ → ℕ → ℕ
-  top b a = highest house (σ Size) b a
+  top holder owner = highest house (σ Size) holder owner
 
   -- the test of one known and one end word
-  row : (b a t : ℕ) → b < controllers → a < controllers → t < incarnations → ((σ (Known b a t) ≤? top b a) && (σ (End b a t) ≤? top b a)) ≡ true
+  row : (holder owner i : ℕ) → holder < controllers → owner < controllers → i < incarnations → ((σ (Known holder owner i) ≤? top holder owner) && (σ (End holder owner i) ≤? top holder owner)) ≡ true
   unfolding rowOk
-  row b a t bl al tl =
-      allb-get (λ (t : ℕ). (σ (Known b a t) ≤? top b a) && (σ (End b a t) ≤? top b a)) incarnations t
-      (allb-get (rowOk house (σ Size) σ b) controllers a (allb-get (λ (b : ℕ). allb controllers (rowOk house (σ Size) σ b)) controllers b (f .rows-ok) bl) al) tl
+  row holder owner i hl ol il =
+      allb-get (λ (i : ℕ). (σ (Known holder owner i) ≤? top holder owner) && (σ (End holder owner i) ≤? top holder owner)) incarnations i
+      (allb-get (rowOk house (σ Size) σ holder) controllers owner (allb-get (λ (holder : ℕ). allb controllers (rowOk house (σ Size) σ holder)) controllers holder (f .rows-ok) hl) ol) il
 
-  -- a known word is at most the highest that its row may have
-  known-top : (b a t : ℕ) → b < controllers → a < controllers → t < incarnations → σ (Known b a t) ≤ top b a
-  known-top b a t bl al tl = leb-true _ _ (and-left (σ (Known b a t) ≤? top b a) _ (row b a t bl al tl))
+  -- an end word is at most the highest that its row may have
+  end-top : (holder owner i : ℕ) → holder < controllers → owner < controllers → i < incarnations → σ (End holder owner i) ≤ top holder owner
+  end-top holder owner i hl ol il = leb-true _ _ (and-right (σ (Known holder owner i) ≤? top holder owner) _ (row holder owner i hl ol il))
 
-  -- and so is an end word
-  end-top : (b a t : ℕ) → b < controllers → a < controllers → t < incarnations → σ (End b a t) ≤ top b a
-  end-top b a t bl al tl = leb-true _ _ (and-right (σ (Known b a t) ≤? top b a) _ (row b a t bl al tl))
-
-  -- that highest number is at most 64
-  top-le : (b a : ℕ) → top b a ≤ 64
+  -- that highest number is at most the last number
+  top-le : (holder owner : ℕ) → top holder owner ≤ lastNumber
   unfolding highest
-  top-le b a = cond-ind (λ x. x ≤ 64) ((b <? σ Size) && (a <? σ Size)) (λ e. omega arith) (λ e. omega arith)
+  top-le holder owner = cond-ind (λ x. x ≤ lastNumber) ((holder <? σ Size) && (owner <? σ Size)) (λ e. omega arith) (λ e. omega arith)
 
   -- and 0 where holder or owner is not of the house
-  top-none : (b a : ℕ) → (b < σ Size → a < σ Size → ⊥) → top b a ≡ 0
+  top-none : (holder owner : ℕ) → (holder < σ Size → owner < σ Size → ⊥) → top holder owner ≡ 0
   unfolding highest
-  top-none b a out =
-      cond-ind (λ x. x ≡ 0) ((b <? σ Size) && (a <? σ Size))
-      (λ e. absurd (out (ltb-true _ _ (and-left (b <? σ Size) _ e)) (ltb-true _ _ (and-right (b <? σ Size) _ e)))) (λ e. refl)
+  top-none holder owner out =
+      cond-ind (λ x. x ≡ 0) ((holder <? σ Size) && (owner <? σ Size))
+      (λ e. absurd (out (ltb-true _ _ (and-left (holder <? σ Size) _ e)) (ltb-true _ _ (and-right (holder <? σ Size) _ e)))) (λ e. refl)
 
-  -- known words are at most 64
-  pub known-le : (b a t : ℕ) → b < controllers → a < controllers → t < incarnations → σ (Known b a t) ≤ 64
-  known-le b a t bl al tl = omega (arith, top-le b a, known-top b a t bl al tl)
-
-  -- end words are at most 64
-  pub end-le : (b a t : ℕ) → b < controllers → a < controllers → t < incarnations → σ (End b a t) ≤ 64
-  end-le b a t bl al tl = omega (arith, top-le b a, end-top b a t bl al tl)
-
-  -- the known words of controllers from n on
-  pub no-known : (b a t : ℕ) → b < controllers → a < controllers → t < incarnations → (b < σ Size → a < σ Size → ⊥) → σ (Known b a t) ≡ 0
-  no-known b a t bl al tl out = omega (arith, top-none b a out, known-top b a t bl al tl)
+  -- end words are at most the last number
+  pub end-le : (holder owner i : ℕ) → holder < controllers → owner < controllers → i < incarnations → σ (End holder owner i) ≤ lastNumber
+  end-le holder owner i hl ol il = omega (arith, top-le holder owner, end-top holder owner i hl ol il)
 
   -- the end words of controllers from n on
-  pub no-end : (b a t : ℕ) → b < controllers → a < controllers → t < incarnations → (b < σ Size → a < σ Size → ⊥) → σ (End b a t) ≡ 0
-  no-end b a t bl al tl out = omega (arith, top-none b a out, end-top b a t bl al tl)
+  pub no-end : (holder owner i : ℕ) → holder < controllers → owner < controllers → i < incarnations → (holder < σ Size → owner < σ Size → ⊥) → σ (End holder owner i) ≡ 0
+  no-end holder owner i hl ol il out = omega (arith, top-none holder owner out, end-top holder owner i hl ol il)
+
+-- the words of the head that have no meaning yet
+pub spare-words : (σ : State) → inForm house σ ≡ true → (k : ℕ) → spareFrom ≤ k → k < headWords → σ (OfHead k) ≡ 0
+unfolding inForm
+spare-words σ e k l u =
+    let q : spareFrom + (k - spareFrom) ≡ k = omega arith in
+    rw q at (zeros-get (headWords - spareFrom) (λ (k : ℕ). σ (OfHead (spareFrom + k))) (k - spareFrom) (passed _ 3 e) (omega arith))

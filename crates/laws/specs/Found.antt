@@ -13,50 +13,50 @@ use Rattle.rules.specs.Vector.{Pair, Vector, incarnation, number, empty, pairOf
 use Rattle.rules.specs.Steps.{lowestCondemned}
 
 -- "the lowest place above 0 whose vector holds a condemned entry", k, or the live count
-pub record Lowest (σ : State) (b k : ℕ) : Type 0 where
+pub record Lowest (σ : State) (hearer k : ℕ) : Type 0 where
   pub pos : 1 ≤ k
-  pub le : k ≤ σ (LiveCount b)
-  pub before : (p : ℕ) → 1 ≤ p → p < k → condemned σ b (placeVector σ b p) ≡ false
-  pub hit : k < σ (LiveCount b) → condemned σ b (placeVector σ b k) ≡ true
+  pub le : k ≤ σ (LiveCount hearer)
+  pub before : (p : ℕ) → 1 ≤ p → p < k → condemned σ hearer (placeVector σ hearer p) ≡ false
+  pub hit : k < σ (LiveCount hearer) → condemned σ hearer (placeVector σ hearer k) ≡ true
 
 -- that is what the search finds
-pub lowest : (σ : State) (b : ℕ) → 1 ≤ σ (LiveCount b) → Lowest σ b (lowestCondemned σ b)
+pub lowest : (σ : State) (hearer : ℕ) → 1 ≤ σ (LiveCount hearer) → Lowest σ hearer (lowestCondemned σ hearer)
 unfolding lowestCondemned
-lowest σ b l =
-    let n = σ (LiveCount b) - 1 in
-    let f : ℕ → Bool = λ i. condemned σ b (placeVector σ b (1 + i)) in
+lowest σ hearer l =
+    let n = σ (LiveCount hearer) - 1 in
+    let f : ℕ → Bool = λ i. condemned σ hearer (placeVector σ hearer (1 + i)) in
     let h = first-le n f in
     record {
       pos = omega arith;
       le = omega arith;
-      before = λ p p1 pk. ap (λ i. condemned σ b (placeVector σ b i)) (let e : p ≡ 1 + (p - 1) = omega arith in e) ∙ first-before n f (p - 1) (omega arith);
+      before = λ p p1 pk. ap (λ i. condemned σ hearer (placeVector σ hearer i)) (let e : p ≡ 1 + (p - 1) = omega arith in e) ∙ first-before n f (p - 1) (omega arith);
       hit = λ kl. first-hit n f (omega arith);
     }
 
 -- a pair that is not condemned is at most the end word, if there is one; a condemned one exceeds it
-clear-pair : (σ : State) (b a : ℕ) (p : Pair) → condemnedPair σ b a p ≡ false → σ (End b a (incarnation p)) ≢ 0 → number p ≤ σ (End b a (incarnation p))
+clear-pair : (σ : State) (holder owner : ℕ) (p : Pair) → condemnedPair σ holder owner p ≡ false → σ (End holder owner (incarnation p)) ≢ 0 → number p ≤ σ (End holder owner (incarnation p))
 unfolding condemnedPair
-clear-pair σ b a p e ne = go (empty p) refl
+clear-pair σ holder owner p e ne = go (empty p) refl
   where
-    go : (z : Bool) → empty p ≡ z → number p ≤ σ (End b a (incarnation p))
+    go : (z : Bool) → empty p ≡ z → number p ≤ σ (End holder owner (incarnation p))
     go true q = omega (arith, eqb-true (number p) 0 q)
-    go false q = ltb-false _ _ (rw (q, ne-eqb (σ (End b a (incarnation p))) 0 ne) at e)
+    go false q = ltb-false _ _ (rw (q, ne-eqb (σ (End holder owner (incarnation p))) 0 ne) at e)
 
 -- "Condemned, to b: a non-empty pair (t,x) of a where b's end word for a and t isn't 0 and x exceeds it."
-pub record Condemned (σ : State) (b : ℕ) (v : Vector) : Type 0 where
+pub record Condemned (σ : State) (holder : ℕ) (v : Vector) : Type 0 where
   pub owner : ℕ
   pub owner-lt : owner < controllers
   pub full : number (pairOf v owner) ≢ 0
-  pub ended : σ (End b owner (incarnation (pairOf v owner))) ≢ 0
-  pub above : σ (End b owner (incarnation (pairOf v owner))) < number (pairOf v owner)
+  pub ended : σ (End holder owner (incarnation (pairOf v owner))) ≢ 0
+  pub above : σ (End holder owner (incarnation (pairOf v owner))) < number (pairOf v owner)
 
 -- a condemned vector has such a pair
-pub condemned-some : (σ : State) (b : ℕ) (v : Vector) → condemned σ b v ≡ true → Condemned σ b v
+pub condemned-some : (σ : State) (holder : ℕ) (v : Vector) → condemned σ holder v ≡ true → Condemned σ holder v
 unfolding condemned condemnedPair
-condemned-some σ b v e =
-    let s = anyb-some (λ (a : ℕ). condemnedPair σ b a (pairOf v a)) controllers e in
+condemned-some σ holder v e =
+    let s = anyb-some (λ (owner : ℕ). condemnedPair σ holder owner (pairOf v owner)) controllers e in
     let p = pairOf v (s .index) in
-    let x = σ (End b (s .index) (incarnation p)) in
+    let x = σ (End holder (s .index) (incarnation p)) in
     let q = and-right (not (empty p)) _ (s .passes) in
     record {
       owner = s .index;
@@ -67,15 +67,15 @@ condemned-some σ b v e =
     }
 
 -- a vector that is not condemned has none
-pub condemned-none : (σ : State) (b : ℕ) (v : Vector) → condemned σ b v ≡ false →
-    (a : ℕ) → a < controllers → σ (End b a (incarnation (pairOf v a))) ≢ 0 → number (pairOf v a) ≤ σ (End b a (incarnation (pairOf v a)))
+pub condemned-none : (σ : State) (holder : ℕ) (v : Vector) → condemned σ holder v ≡ false →
+    (owner : ℕ) → owner < controllers → σ (End holder owner (incarnation (pairOf v owner))) ≢ 0 → number (pairOf v owner) ≤ σ (End holder owner (incarnation (pairOf v owner)))
 unfolding condemned
-condemned-none σ b v e a l = clear-pair σ b a (pairOf v a) (anyb-clear (λ (a : ℕ). condemnedPair σ b a (pairOf v a)) controllers a e l)
+condemned-none σ holder v e owner l = clear-pair σ holder owner (pairOf v owner) (anyb-clear (λ (owner : ℕ). condemnedPair σ holder owner (pairOf v owner)) controllers owner e l)
 
 -- D: no "owner other than c has non-empty pairs of different incarnations in the two"
-pub conflict-none : (c : ℕ) (v w : Vector) → conflict c v w ≡ false → (a : ℕ) → a < controllers → a ≢ c → number (pairOf v a) ≢ 0 → number (pairOf w a) ≢ 0 →
-    incarnation (pairOf v a) ≡ incarnation (pairOf w a)
+pub conflict-none : (c : ℕ) (v w : Vector) → conflict c v w ≡ false → (owner : ℕ) → owner < controllers → owner ≢ c → number (pairOf v owner) ≢ 0 → number (pairOf w owner) ≢ 0 →
+    incarnation (pairOf v owner) ≡ incarnation (pairOf w owner)
 unfolding conflict conflictPair
-conflict-none c v w e a l ne p q =
-    eqb-true _ _ (not-false _ (rw (ne-eqb a c ne, ne-eqb (number (pairOf v a)) 0 p, ne-eqb (number (pairOf w a)) 0 q) at
-    (anyb-clear (λ (a : ℕ). conflictPair c a (pairOf v a) (pairOf w a)) controllers a e l)))
+conflict-none c v w e owner l ne p q =
+    eqb-true _ _ (not-false _ (rw (ne-eqb owner c ne, ne-eqb (number (pairOf v owner)) 0 p, ne-eqb (number (pairOf w owner)) 0 q) at
+    (anyb-clear (λ (owner : ℕ). conflictPair c owner (pairOf v owner) (pairOf w owner)) controllers owner e l)))

@@ -13,15 +13,16 @@ use Rattle.base.specs.Choice.{_==_, _≤?_, _<?_, le?}
 use Rattle.base.specs.Ranges.{allb, allb-all, allb-get, anyb, first}
 use Rattle.base.specs.Lists.{tab}
 use Rattle.base.specs.Cases.{allOf, passed, firstOf}
-use Rattle.table.specs.Field.{Field, State, OfHead, OfController, Known, End, OfPlace, OfMessage, Size, SentCount, LiveCount, StableCount, MessageState, messageHead, owner, second, wordOf, same}
+use Rattle.table.specs.Field.{Field, State, OfHead, OfController, Known, End, OfPlace, OfMessage, Size, SentCount, LiveCount, StableCount, MessageState, messageHead, owner, second, wordOf, same, spareFrom}
 use Rattle.table.specs.Layout.{controllers, incarnations, headWords}
 use Rattle.table.specs.Change.{blank, put, putPart, clearPlaces, putStates, put-ind, part-ind, clear-ind, states-ind}
-use Rattle.table.specs.Numbering.{numberOf, recordOf, messageOf}
+use Rattle.table.specs.Numbering.{numberOf, used, lastGiven, recordOf, messageOf, posted}
 use Rattle.rules.specs.Limits.{house}
+use Rattle.rules.specs.Refusal.{STATE}
 use Rattle.rules.specs.Vector.{Vector, pair, noPair, placeVector, messageVector, flat, knownStable, filterPair, filtered, condemnedPair, condemned, maskTo, mask, conflictPair, conflict, mergePair, merged}
 use Rattle.rules.specs.Form.{stateHeld, stateReleased, stateDelivered, stateLost, zeros, pairOk, vectorOk, controllerOk, highest, rowOk, placeOk, messageOk, inForm}
-use Rattle.rules.specs.Shared.{placeRecord, logged, loggedTo, causedFrom, causes, newVector, restarted, dropHeld, startAnew, latestFlagged, replayed}
-use Rattle.rules.specs.Steps.{after, refusing, openHouse, stepOpen, messageRecord, sent, stepSend, letOut, release, stepRelease, begun, deliver, stepDeliver, stepLog, crashed, stepCrash, noted, lowestCondemned, rolledBack, hear, stepHear}
+use Rattle.rules.specs.Shared.{placeRecord, logged, loggedTo, causedIn, causesIn, causes, offeredAgain, newVector, placed, entered, restarted, heldOrDropped, dropHeld, startAnew, latestFlagged, replayed}
+use Rattle.rules.specs.Steps.{after, refusing, openHouse, stepOpen, messageRecord, sent, stepSend, letOut, release, stepRelease, intervalAdded, intervalBegins, deliver, stepDeliver, stepLog, crashed, stepCrash, noted, lowestCondemned, rolledBack, hear, stepHear}
 use Rattle.rules.specs.Step.{perform, stepOn}
 use Rattle.rules.specs.declared.Answer.{Answer}
 use Rattle.rules.specs.declared.Answer.the-variants.{Done, Sent, Released, Held, Delivered, Crashed, Rolled, Refused}
@@ -70,7 +71,7 @@ rightColumn =
     ∷ Delivered 3 0 2
     ∷ Rolled 2 1 1 0
     ∷ Rolled 0 1 1 0
-    ∷ Refused 7
+    ∷ Refused STATE
     ∷ []
 
 -- The listing uses the first three controllers, places and message records only. So that a form check need not compute all
@@ -91,19 +92,19 @@ quiet-put {σ} f v e q = record { rest = put-ind Rest σ f v (λ z. absurd (true
 quiet-part : {σ : State} (f : Field) (k : ℕ) (r : List ℕ) → ((i : ℕ) → near (wordOf f i) ≡ true) → Quiet σ → Quiet (putPart σ f k r)
 quiet-part {σ} f k r e q = record { rest = part-ind Rest σ f k r (λ i h z. absurd (true≢false (sym (e (k + i)) ∙ z))) (λ g _. q .rest g) }
 
-quiet-causes : {σ : State} (c k : ℕ) (s : ℕ → ℕ) → ((r : ℕ) → near (MessageState r) ≡ false → causedFrom σ c k r ≡ false) → Quiet σ → Quiet (causes σ c k s)
-unfolding causes
+quiet-causes : {σ : State} (c k : ℕ) (s : ℕ → ℕ) → ((r : ℕ) → near (MessageState r) ≡ false → causedIn σ c k (σ (LiveCount c) - k) r ≡ false) → Quiet σ → Quiet (causes σ c k s)
+unfolding causes causesIn
 quiet-causes {σ} c k s e q = record { rest = states-ind Rest σ _ (λ r z. rw (e r z) (q .rest (MessageState r) z)) (λ g _. q .rest g) }
 
 quiet-anew : {σ : State} (c k : ℕ) → near (OfPlace c k 0) ≡ true → near (OfController c 0) ≡ true → near (Known c c 0) ≡ true → Quiet σ → Quiet (startAnew σ c k)
-unfolding startAnew dropHeld restarted
+unfolding startAnew dropHeld heldOrDropped restarted placed entered
 quiet-anew {σ} c k e h l q =
     let freed : Quiet (clearPlaces σ c k (σ (LiveCount c))) = record { rest = clear-ind Rest σ c k _ (λ x i l m z. refl) (λ g _. q .rest g) } in
-    let begun = quiet-put _ _ l (quiet-put _ _ h (quiet-put _ _ h (quiet-put _ _ h (quiet-part _ _ _ (λ i. e) freed)))) in
-    record { rest = states-ind Rest _ _ (λ r z. rw (begun .rest (MessageState r) z)) (λ g _. begun .rest g) }
+    let intervalAdded = quiet-put _ _ l (quiet-put _ _ h (quiet-put _ _ h (quiet-put _ _ h (quiet-part _ _ _ (λ i. e) freed)))) in
+    record { rest = states-ind Rest _ _ (λ r z. rw (intervalAdded .rest (MessageState r) z)) (λ g _. intervalAdded .rest g) }
 
 quiet-rolled : {σ : State} (b k : ℕ) → near (OfPlace b k 0) ≡ true → near (OfController b 0) ≡ true → near (Known b b 0) ≡ true →
-    (σ (StableCount b) <? k) ≡ false → ((r : ℕ) → near (MessageState r) ≡ false → causedFrom σ b k r ≡ false) → Quiet σ → Quiet (rolledBack σ b k)
+    (σ (StableCount b) <? k) ≡ false → ((r : ℕ) → near (MessageState r) ≡ false → causedIn σ b k (σ (LiveCount b) - k) r ≡ false) → Quiet σ → Quiet (rolledBack σ b k)
 unfolding rolledBack loggedTo
 quiet-rolled b k e h l s o q = rw s (quiet-anew _ _ e h l (quiet-causes _ _ _ o q))
 
@@ -114,8 +115,8 @@ quiet-opened k = record { rest = rest }
     rest : (g : Field) → Rest g (openHouse 3 k g)
     rest (OfHead i) z = absurd (true≢false z)
     rest (OfController c i) z = rw (rw and-true at z)
-    rest (Known b a t) z = le? 3 b (λ l. rw (le-ltb b 3 l)) (λ l. rw (ne-eqb b a (omega (arith, ltb-false a 3 (rw (lt-ltb b 3 l) at z))), and-false))
-    rest (End b a t) z = refl
+    rest (Known b a i) z = le? 3 b (λ l. rw (le-ltb b 3 l)) (λ l. rw (ne-eqb b a (omega (arith, ltb-false a 3 (rw (lt-ltb b 3 l) at z))), and-false))
+    rest (End b a i) z = refl
     rest (OfPlace c p i) z = le? 3 c (λ l. rw (le-ltb c 3 l)) (λ l. rw (ne-eqb p 0 (omega (arith, ltb-false p 3 (rw (lt-ltb c 3 l) at z))), and-false))
     rest (OfMessage r i) z = refl
 
@@ -124,8 +125,8 @@ quiet-opened k = record { rest = rest }
 abbrev tests : State → List Bool
 tests σ =
     (σ Size == 3)
-    ∷ (σ SentCount ≤? 3)
-    ∷ zeros (headWords - 2) (λ (k : ℕ). σ (OfHead (2 + k)))
+    ∷ (used σ ≤? 3)
+    ∷ zeros (headWords - spareFrom) (λ (k : ℕ). σ (OfHead (spareFrom + k)))
     ∷ allb controllers (controllerOk house 3 σ)
     ∷ allb controllers (λ (c : ℕ). σ (LiveCount c) ≤? cond (c <? 3) 3 0)
     ∷ allb 3 (λ (b : ℕ). allb 3 (rowOk house 3 σ b))
@@ -153,9 +154,9 @@ unfolding inForm allOf rowOk placeOk messageOk zeros
 in-form σ q e =
     let size = eqb-true (σ Size) 3 (passed (tests σ) 0 e) in
     let few = passed (tests σ) 1 e in
-    let fits = le-leb (σ SentCount) (house .messages) (omega (arith, leb-true (σ SentCount) 3 few)) in
+    let fits = le-leb (used σ) (house .messages) (omega (arith, leb-true (used σ) 3 few)) in
     let rows = grid controllers controllers (rowOk house 3 σ) (passed (tests σ) 5 e) (λ b a h z.
-    allb-all _ incarnations (λ t _. rw (q .rest (Known b a t) z, q .rest (End b a t) z, leb·zero))) in
+    allb-all _ incarnations (λ i _. rw (q .rest (Known b a i) z, q .rest (End b a i) z, leb·zero))) in
     let chains = grid controllers (house .places) (placeOk house 3 σ) (passed (tests σ) 6 e) (λ c p h z.
     rw (unused (c <? 3) p _ z (allb-get _ controllers c (passed (tests σ) 4 e) h)) (allb-all _ _ (λ k _. rw (q .rest (OfPlace c p k) z)))) in
     let records = every (house .messages) (messageOk house 3 σ) (passed (tests σ) 7 e) (λ r z.
@@ -176,14 +177,14 @@ run-answers end q = refl
 run-answers (opening {k = k} e r) q = rw e (ap (λ ys. Done ∷ ys) (run-answers r (quiet-opened k)))
 run-answers (next {σ} {y = y} keep f e r) q = rw (in-form σ q f, and-false, e) (ap (λ ys. y ∷ ys) (run-answers r (keep q)))
 
--- the message m is in none of the records further on
-early : (m : ℕ) → (m ≤? 3) ≡ true → (r : ℕ) → near (MessageState r) ≡ false → (m == r + 1) ≡ false
-early m l r z = ne-eqb m (r + 1) (omega (arith, leb-true m 3 l, ltb-false r 3 (rw and-true at z)))
+-- no record further on is in use
+further : (caused : ℕ → Bool) (r : ℕ) → near (MessageState r) ≡ false → ((r <? 3) && caused r) ≡ false
+further caused r z = rw (rw and-true at z)
 
 -- The listing. Each line has the words that its step writes. That its state passes the tests, and that the step gives its
 -- answer and leaves the state with those words, is computed.
 run : Run blank listingA rightColumn
-unfolding onesIn ones allb anyb first tab allOf firstOf same put putPart clearPlaces putStates numberOf recordOf messageOf placeVector messageVector flat knownStable filterPair filtered condemnedPair condemned maskTo mask conflictPair conflict mergePair merged zeros pairOk vectorOk controllerOk highest rowOk placeOk messageOk placeRecord logged loggedTo causedFrom causes newVector restarted dropHeld startAnew latestFlagged replayed refusing openHouse stepOpen messageRecord sent stepSend letOut release stepRelease begun deliver stepDeliver stepLog crashed stepCrash noted lowestCondemned rolledBack hear stepHear perform
+unfolding onesIn ones allb anyb first tab allOf firstOf same put putPart clearPlaces putStates numberOf used lastGiven recordOf messageOf posted placeVector messageVector flat knownStable filterPair filtered condemnedPair condemned maskTo mask conflictPair conflict mergePair merged zeros pairOk vectorOk controllerOk highest rowOk placeOk messageOk placeRecord logged loggedTo causedIn causesIn causes offeredAgain newVector placed entered restarted heldOrDropped dropHeld startAnew latestFlagged replayed refusing openHouse stepOpen messageRecord sent stepSend letOut release stepRelease intervalAdded intervalBegins deliver stepDeliver stepLog crashed stepCrash noted lowestCondemned rolledBack hear stepHear perform
 run =
     let none : Vector = tab controllers (λ (_ : ℕ). noPair) in
     let one : Vector = set none 1 (pair 0 2) in
@@ -199,10 +200,10 @@ run =
     (next (λ q. q) refl refl  -- R 3
     (next (λ q. quiet-put (Known 2 2 0) 2 refl (quiet-put (StableCount 2) 2 refl q)) refl refl  -- L 2 1
     (next (λ q. quiet-put (MessageState 2) stateReleased refl (quiet-part (OfMessage 2 0) messageHead (flat one) (λ _. refl) q)) refl refl  -- R 3
-    (next (λ q. quiet-anew 1 1 refl refl refl (quiet-put (End 1 1 0) 1 refl (quiet-causes 1 1 (λ _. stateLost) (early 1 refl) q))) refl refl  -- X 1
+    (next (λ q. quiet-anew 1 1 refl refl refl (quiet-put (End 1 1 0) 1 refl (quiet-causes 1 1 (λ _. stateLost) (further _) q))) refl refl  -- X 1
     (next (λ q. quiet-put (MessageState 2) stateDelivered refl (quiet-put (LiveCount 0) 2 refl (quiet-part (OfPlace 0 1 0) 0 (placeRecord 0 2 3 0 (set one 0 (pair 0 2))) (λ _. refl) q))) refl refl  -- D 3
-    (next (λ q. quiet-rolled 2 1 refl refl refl refl (early 2 refl) (quiet-put (Known 2 1 0) 1 refl (quiet-put (End 2 1 0) 1 refl q))) refl refl  -- H 2 1 0
-    (next (λ q. quiet-rolled 0 1 refl refl refl refl (early 3 refl) (quiet-put (Known 0 1 0) 1 refl (quiet-put (End 0 1 0) 1 refl q))) refl refl  -- H 0 1 0
+    (next (λ q. quiet-rolled 2 1 refl refl refl refl (further _) (quiet-put (Known 2 1 0) 1 refl (quiet-put (End 2 1 0) 1 refl q))) refl refl  -- H 2 1 0
+    (next (λ q. quiet-rolled 0 1 refl refl refl refl (further _) (quiet-put (Known 0 1 0) 1 refl (quiet-put (End 0 1 0) 1 refl q))) refl refl  -- H 0 1 0
     (next (λ q. q) refl refl  -- D 3
     end)))))))))))))))
 

@@ -1,1 +1,1 @@
--- No definitions of its own: crates/rules/specs/Step.antt has them.
+pub mod Host

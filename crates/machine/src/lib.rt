@@ -4,8 +4,10 @@ ghost use Rattle.table.specs.Words.{state};
 ghost use Rattle.rules.specs.Limits.{house};
 ghost use Rattle.rules.specs.Step.{out, written, looksAtForm, perform, step};
 ghost use Rattle.laws.specs.Answering.{LentFor};
+ghost use Rattle.machine.specs.Host.{Hosted};
 use rules::Answer;
 use rules::Command;
+use rules::refusal;
 
 // Whether a step looks at the form of the table: all but the opening do.
 pub fn looks_at_form(x: Command) -> bool
@@ -33,29 +35,40 @@ pub fn perform(t: &mut [u32], x: Command) -> Answer
     match x {
         Command::Open(n, k) => opening::open(t, n, k),
         Command::SetDegree(c, k) => controller::set_degree(t, c, k),
-        Command::Send(s, r, p) => message::send(t, s, r, p),
-        Command::Release(m) => message::release(t, m),
-        Command::Deliver(m) => message::deliver(t, m),
+        Command::Send(sender, receiver, payload) => message::send(t, sender, receiver, payload),
+        Command::Release(m) => release::release(t, m),
+        Command::Deliver(m) => delivery::deliver(t, m),
         Command::Log(c, q) => controller::log(t, c, q),
         Command::Checkpoint(c) => controller::checkpoint(t, c),
-        Command::Tell(a, b) => controller::tell(t, a, b),
+        Command::Tell(owner, holder) => controller::tell(t, owner, holder),
         Command::Crash(c) => recovery::crash(t, c),
-        Command::Hear(b, a, i) => recovery::hear(t, b, a, i),
+        Command::Hear(hearer, owner, i) => recovery::hear(t, hearer, owner, i),
     }
+}
+
+// The host's refusal of a step on this table, or 0.
+fn host_refusal(t: &[u32], x: Command) -> u32
+    ensures { λ no. ⌜ Hosted (now (t .entry)) x no ⌝ }
+{
+    if t.len() != table::TABLE_WORDS {
+        return refusal::LENGTH;
+    }
+    if !looks_at_form(x) {
+        return 0;
+    }
+    if !form::in_form(t) {
+        return refusal::FORM;
+    }
+    0
 }
 
 // The step function, for every table lent and all numbers.
 pub fn step(t: &mut [u32], x: Command) -> Answer
     ensures { λ a. ⌜ out a (now (t .exit)) ≡ step (now (t .entry)) x ⌝ }
 {
-    if t.len() != table::TABLE_WORDS {
-        return Answer::Refused(1);
-    }
-    if !looks_at_form(x) {
-        return perform(t, x);
-    }
-    if !form::in_form(t) {
-        return Answer::Refused(2);
+    let no = host_refusal(t, x);
+    if no != 0 {
+        return Answer::Refused(no);
     }
     perform(t, x)
 }
@@ -73,10 +86,10 @@ pub fn set_degree(t: &mut [u32], c: u32, k: u32) -> Answer
     step(t, Command::SetDegree(c, k))
 }
 
-pub fn send(t: &mut [u32], s: u32, r: u32, p: u32) -> Answer
-    ensures { λ a. ⌜ out a (now (t .exit)) ≡ step (now (t .entry)) (Command.Send s r p) ⌝ }
+pub fn send(t: &mut [u32], sender: u32, receiver: u32, payload: u32) -> Answer
+    ensures { λ a. ⌜ out a (now (t .exit)) ≡ step (now (t .entry)) (Command.Send sender receiver payload) ⌝ }
 {
-    step(t, Command::Send(s, r, p))
+    step(t, Command::Send(sender, receiver, payload))
 }
 
 pub fn release(t: &mut [u32], m: u32) -> Answer
@@ -103,10 +116,10 @@ pub fn checkpoint(t: &mut [u32], c: u32) -> Answer
     step(t, Command::Checkpoint(c))
 }
 
-pub fn tell(t: &mut [u32], a: u32, b: u32) -> Answer
-    ensures { λ r. ⌜ out r (now (t .exit)) ≡ step (now (t .entry)) (Command.Tell a b) ⌝ }
+pub fn tell(t: &mut [u32], owner: u32, holder: u32) -> Answer
+    ensures { λ a. ⌜ out a (now (t .exit)) ≡ step (now (t .entry)) (Command.Tell owner holder) ⌝ }
 {
-    step(t, Command::Tell(a, b))
+    step(t, Command::Tell(owner, holder))
 }
 
 pub fn crash(t: &mut [u32], c: u32) -> Answer
@@ -115,8 +128,8 @@ pub fn crash(t: &mut [u32], c: u32) -> Answer
     step(t, Command::Crash(c))
 }
 
-pub fn hear(t: &mut [u32], b: u32, a: u32, i: u32) -> Answer
-    ensures { λ r. ⌜ out r (now (t .exit)) ≡ step (now (t .entry)) (Command.Hear b a i) ⌝ }
+pub fn hear(t: &mut [u32], hearer: u32, owner: u32, i: u32) -> Answer
+    ensures { λ a. ⌜ out a (now (t .exit)) ≡ step (now (t .entry)) (Command.Hear hearer owner i) ⌝ }
 {
-    step(t, Command::Hear(b, a, i))
+    step(t, Command::Hear(hearer, owner, i))
 }

@@ -1,3 +1,2 @@
-pub mod Write
 pub mod Ready
-pub mod Leaves
+pub mod Writes

@@ -1,5 +1,5 @@
--- A delivery begins an interval. Its vector tracks it: of another owner's entries the larger covers both, since full ones have one
--- incarnation; and what it rests on of its own controller is stable or live, so below its own entry.
+-- A delivery begins an interval. Its vector tracks it: of another owner's pairs the larger covers both, since full ones have one
+-- incarnation; and what it rests on of its own controller is stable or live, so below its own pair.
 use mathlib.Core.Path.{_≡_, refl, sym, _∙_, ap, fun-ext}
 use mathlib.Core.Bool.{Bool, true, false, _||_, false≢true}
 use mathlib.Core.List.{List, [], _∷_}
@@ -8,23 +8,23 @@ use Prim.Native.Nat.{ℕ, _+_, _≤_, _<_}
 use native.Mathlib.Omega.{arith}
 use borrow.Author.Tests.{eqb-true, eqb-false}
 use Rattle.base.specs.Choice.{_==_, cond-ind, le?}
-use Rattle.history.specs.History.{Interval, interval, History, at, newest, those, joined, leaving, delivering}
-use Rattle.model.specs.Model.{Entry, entry, intervalOf, Vec, Node, full, filtered, larger, mergedFor, beginNode}
-use Rattle.model.specs.Tests.{Is, or-cases, or-first, or-second, at-ind, at-same, at-other}
+use Rattle.history.specs.History.{Interval, interval, History, changedAt, newest, those, joined, leaving, delivering}
+use Rattle.model.specs.Model.{Pair, pair, intervalOf, Vec, Controller, full, filtered, larger, mergedFor, beginController}
+use Rattle.model.specs.Tests.{Is, or-cases, or-first, or-second, changedAt-ind, changedAt-same, changedAt-other}
 use Rattle.model.specs.Chain.{OnChain, newest-chain}
-use Rattle.model.specs.Invariant.{Spoilt, Covers, Tracks, InOrder, NodeOk, Settled, live-or-spoilt, knows-on, spoilt-up}
+use Rattle.model.specs.Invariant.{Spoilt, Covers, Tracks, InOrder, ControllerOk, Settled, live-or-spoilt, knows-on, spoilt-up, some-live}
 use Rattle.model.specs.Vectors.{filtered-tracks, larger-ind, larger-first, larger-second}
 use Rattle.model.specs.Growing.{Grows, grown, grown-ext}
 
 -- nothing leaves the chain
 abbrev pub every : Interval → Bool
-every i = true
+every y = true
 
 -- every interval of a list passes
 those-every : (l : List Interval) → those every l ≡ l
 unfolding those
 those-every [] = refl
-those-every (i ∷ l) = ap (λ q. i ∷ q) (those-every l)
+those-every (y ∷ l) = ap (λ q. y ∷ q) (those-every l)
 
 -- a history in which nothing leaves
 leaving-none : (h : History) (c : ℕ) → leaving h c every ≡ h
@@ -44,17 +44,17 @@ leaving-none h c =
       lost = h .lost;
     }
   where
-    same : at (h .chain) c (those every (h .chain c)) ≡ h .chain
-    same = fun-ext (at-ind (λ b l. l ≡ h .chain b) (h .chain) c (those every (h .chain c)) (those-every (h .chain c)) (λ b ne. refl))
+    same : changedAt (h .chain) c (those every (h .chain c)) ≡ h .chain
+    same = fun-ext (changedAt-ind (λ b l. l ≡ h .chain b) (h .chain) c (those every (h .chain c)) (those-every (h .chain c)) (λ b ne. refl))
 
 -- "an owner other than c has non-empty pairs of different incarnations in the two": none has
 abbrev pub Compatible : ℕ → ℕ → Vec → Vec → Type 0
 Compatible n c v w = (a : ℕ) → a < n → a ≢ c → Is (full (v a)) → Is (full (w a)) → v a .incarnation ≡ w a .incarnation
 
--- a message from interval s with vector w, not condemned and not in conflict, comes to node k of c
-pub record Begins (n : ℕ) (h : History) (c : ℕ) (k : Node) (w : Vec) (s : Interval) : Type 0 where
+-- a message from interval s with vector w, not condemned and not in conflict, comes to controller c, which is k
+pub record Begins (n : ℕ) (h : History) (c : ℕ) (k : Controller) (w : Vec) (s : Interval) : Type 0 where
   pub order : InOrder n h
-  pub ok : NodeOk h c k
+  pub ok : ControllerOk h c k
   pub settled : Settled h c k
   pub below : c < n
   pub from-begun : Is (h .begun s)
@@ -62,7 +62,7 @@ pub record Begins (n : ℕ) (h : History) (c : ℕ) (k : Node) (w : Vec) (s : In
   pub from-clean : Spoilt h c s → ⊥
   pub one : Compatible n c (filtered k (k .vec (k .live))) (filtered k w)
 
-module _ {n : ℕ} {h : History} {c : ℕ} {k : Node} {w : Vec} {s : Interval} (B : Begins n h c k w s) where
+module _ {n : ℕ} {h : History} {c : ℕ} {k : Controller} {w : Vec} {s : Interval} (B : Begins n h c k w s) where
   open Begins B using (order, ok, settled, below, from-begun, from-tracked, from-clean, one)
 
   -- the highest live number
@@ -74,8 +74,8 @@ module _ {n : ℕ} {h : History} {c : ℕ} {k : Node} {w : Vec} {s : Interval} (
   last = interval c (k .begunIn live) live
 
   -- the new interval in its own vector
-  abbrev own : Entry
-  own = entry (k .incarnation) (live + 1)
+  abbrev own : Pair
+  own = pair (k .incarnation) (live + 1)
 
   -- what the new interval rests on, besides itself
   pub restsOn : Interval → Bool
@@ -98,7 +98,7 @@ module _ {n : ℕ} {h : History} {c : ℕ} {k : Node} {w : Vec} {s : Interval} (
 
   -- there is a live interval
   live-pos : 1 ≤ live
-  live-pos = omega (arith, ok .shape .stable-pos, ok .shape .stable-le)
+  live-pos = some-live (ok .shape)
 
   -- the newest interval is begun
   last-begun : Is (h .begun last)
@@ -147,7 +147,7 @@ module _ {n : ℕ} {h : History} {c : ℕ} {k : Node} {w : Vec} {s : Interval} (
   abbrev new : Interval
   new = interval c (k .incarnation) (live + 1)
 
-  -- a full entry of the merged vector is the new interval, or an entry of one of the two
+  -- a full pair of the merged vector is the new interval, or a pair of one of the two
   merged-sound : (a : ℕ) → Is (full (mergedFor c own ours theirs a)) →
       (intervalOf a (mergedFor c own ours theirs a) ≡ new) ⊎ Is (restsOn (intervalOf a (mergedFor c own ours theirs a)))
   unfolding mergedFor
@@ -157,7 +157,7 @@ module _ {n : ℕ} {h : History} {c : ℕ} {k : Node} {w : Vec} {s : Interval} (
       (λ e. larger-ind (λ q. Is (full q) → (intervalOf a q ≡ new) ⊎ Is (restsOn (intervalOf a q))) (ours a) (theirs a)
       (λ f. inr (by-last _ (ours-tracked .sound a f))) (λ f. inr (by-sender _ (theirs-tracked .sound a f))))
 
-  -- what the new interval will rest on is stable or covered: of c by the own entry, of others by the larger one
+  -- what the new interval will rest on is stable or covered: of c by the own pair, of others by the larger one
   merged-cover : (j : Interval) → Is (restsOn j) → Is (h .stable j) ⊎ Covers (mergedFor c own ours theirs (j .owner)) j
   unfolding mergedFor
   merged-cover j r =
@@ -173,14 +173,14 @@ module _ {n : ℕ} {h : History} {c : ℕ} {k : Node} {w : Vec} {s : Interval} (
           ⊎-elim (λ e. ⊎-elim (λ z. inl z) (λ z. inr (larger-first (ours a) (theirs a) j pos same z)) (ours-tracked .cover j e))
           (λ e. ⊎-elim (λ z. inl z) (λ z. inr (larger-second (ours a) (theirs a) j pos same z)) (theirs-tracked .cover j e)) (rests-either j r)
 
-  -- the new interval is covered by its own entry
+  -- the new interval is covered by its own pair
   merged-own : Covers (mergedFor c own ours theirs c) new
   unfolding mergedFor
   merged-own = cond-ind (λ q. Covers q new) (c == c) (λ e. record { same = refl; upto = omega arith }) (λ e. absurd (eqb-false c c e refl))
 
   -- so the chain grows by the new interval, and nothing leaves it
-  pub begins-grows : Grows n h c k (beginNode c k w) live every restsOn false (mergedFor c own ours theirs)
-  unfolding beginNode
+  pub begins-grows : Grows n h c k (beginController c k w) live every restsOn false (mergedFor c own ours theirs)
+  unfolding beginController
   begins-grows =
       let sh = ok .shape in
       record {
@@ -195,9 +195,9 @@ module _ {n : ℕ} {h : History} {c : ℕ} {k : Node} {w : Vec} {s : Interval} (
         live-is = refl;
         degree-is = refl;
         ends-is = refl;
-        begunIn-old = λ x l. at-other _ _ _ _ (λ e. omega arith);
-        begunIn-new = at-same _ _ _;
-        vec-old = λ x l. at-other _ _ _ _ (λ e. omega arith);
+        begunIn-old = λ x l. changedAt-other _ _ _ _ (λ e. omega arith);
+        begunIn-new = changedAt-same _ _ _;
+        vec-old = λ x l. changedAt-other _ _ _ _ (λ e. omega arith);
         newer = omega arith;
         no-end = settled .not-ended;
         current = ok .body .current-live;
@@ -212,16 +212,16 @@ module _ {n : ℕ} {h : History} {c : ℕ} {k : Node} {w : Vec} {s : Interval} (
             ⊎-elim (λ z. by-last q (order .rests-trans last p q last-begun z f)) (λ z. by-sender q (order .rests-trans s p q from-begun z f))
             (rests-either p e);
         r-clean = rests-clean;
-        vec-new = at-same _ _ _;
+        vec-new = changedAt-same _ _ _;
         sound = merged-sound;
         cover = merged-cover;
         own = merged-own;
       }
 
-  -- the node is in order again
-  pub begun-node : NodeOk (joined (leaving h c every) c new restsOn false) c (beginNode c k w)
-  unfolding beginNode
-  begun-node = grown begins-grows (knows-on (grown-ext begins-grows) (ok .knows))
+  -- the controller is in order again
+  pub begun-controller : ControllerOk (joined (leaving h c every) c new restsOn false) c (beginController c k w)
+  unfolding beginController
+  begun-controller = grown begins-grows (knows-on (grown-ext begins-grows) (ok .knows))
 
   -- the history is fed just this
   pub delivering-is : (m : ℕ) → h .receiver m ≡ c → h .sending m ≡ s → delivering h m ≡ joined (leaving h c every) c new restsOn false

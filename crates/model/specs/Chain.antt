@@ -8,54 +8,54 @@ use native.Mathlib.Numerals.{add-one}
 use native.Mathlib.Omega.{arith}
 use lib.ListN.{length, drop}
 use Rattle.history.specs.History.{Interval, interval, sameInterval, member, those, newest, oldest}
-use Rattle.model.specs.Tests.{Is, or-cases, or-first, or-second, eq?, same-true, same-refl}
+use Rattle.model.specs.Tests.{Is, or-cases, or-first, or-second, eq?, sameInterval-true, sameInterval-refl}
 
 -- the chain of c with the numbers 1 to n, number x begun in incarnation `begunIn x`
 unfoldable pub chainOf : ℕ → (ℕ → ℕ) → ℕ → List Interval
 chainOf c begunIn zero = []
 chainOf c begunIn (suc x) = interval c (begunIn (suc x)) (suc x) ∷ chainOf c begunIn x
 
--- i stands in that chain
-pub record OnChain (c : ℕ) (begunIn : ℕ → ℕ) (n : ℕ) (i : Interval) : Type 0 where
-  pub pos : 1 ≤ i .number
-  pub top : i .number ≤ n
-  pub is : i ≡ interval c (begunIn (i .number)) (i .number)
+-- y stands in that chain
+pub record OnChain (c : ℕ) (begunIn : ℕ → ℕ) (n : ℕ) (y : Interval) : Type 0 where
+  pub pos : 1 ≤ y .number
+  pub top : y .number ≤ n
+  pub is : y ≡ interval c (begunIn (y .number)) (y .number)
 
 -- the newest of a chain stands in it
-newest-on : (c : ℕ) (begunIn : ℕ → ℕ) (n : ℕ) (i : Interval) → i ≡ interval c (begunIn (suc n)) (suc n) → OnChain c begunIn (suc n) i
-newest-on c begunIn n i p =
-    let q : i .number ≡ suc n = ap (λ z. z .number) p in
+newest-on : (c : ℕ) (begunIn : ℕ → ℕ) (n : ℕ) (y : Interval) → y ≡ interval c (begunIn (suc n)) (suc n) → OnChain c begunIn (suc n) y
+newest-on c begunIn n y p =
+    let q : y .number ≡ suc n = ap (λ z. z .number) p in
     record { pos = omega arith; top = omega arith; is = p ∙ ap (λ z. interval c (begunIn z) z) (sym q) }
 
 -- an interval of the rest of a chain stands in the chain
-rest-on : (c : ℕ) (begunIn : ℕ → ℕ) (n : ℕ) (i : Interval) → OnChain c begunIn n i → OnChain c begunIn (suc n) i
-rest-on c begunIn n i r = record { pos = r .pos; top = omega (arith, r .top); is = r .is }
+rest-on : (c : ℕ) (begunIn : ℕ → ℕ) (n : ℕ) (y : Interval) → OnChain c begunIn n y → OnChain c begunIn (suc n) y
+rest-on c begunIn n y r = record { pos = r .pos; top = omega (arith, r .top); is = r .is }
 
 -- a member of a longer list is its first or one of the rest
-member-cases : (i j : Interval) (l : List Interval) → Is (member i (j ∷ l)) → (i ≡ j) ⊎ Is (member i l)
+member-cases : (y j : Interval) (l : List Interval) → Is (member y (j ∷ l)) → (y ≡ j) ⊎ Is (member y l)
 unfolding member
-member-cases i j l m = go (or-cases (sameInterval i j) (member i l) m)
+member-cases y j l m = go (or-cases (sameInterval y j) (member y l) m)
   where
-    go : Is (sameInterval i j) ⊎ Is (member i l) → (i ≡ j) ⊎ Is (member i l)
-    go (inl e) = inl (same-true i j e)
+    go : Is (sameInterval y j) ⊎ Is (member y l) → (y ≡ j) ⊎ Is (member y l)
+    go (inl e) = inl (sameInterval-true y j e)
     go (inr e) = inr e
 
 -- the first of a list
-member-head : (i : Interval) (l : List Interval) → Is (member i (i ∷ l))
+member-head : (y : Interval) (l : List Interval) → Is (member y (y ∷ l))
 unfolding member
-member-head i l = or-first (sameInterval i i) (member i l) (same-refl i)
+member-head y l = or-first (sameInterval y y) (member y l) (sameInterval-refl y)
 
 -- one of the rest of a list
-member-tail : (i j : Interval) (l : List Interval) → Is (member i l) → Is (member i (j ∷ l))
+member-tail : (y j : Interval) (l : List Interval) → Is (member y l) → Is (member y (j ∷ l))
 unfolding member
-member-tail i j l = or-second (sameInterval i j) (member i l)
+member-tail y j l = or-second (sameInterval y j) (member y l)
 
 -- a member of a chain stands in it
-pub member-chain : (c : ℕ) (begunIn : ℕ → ℕ) (n : ℕ) (i : Interval) → Is (member i (chainOf c begunIn n)) → OnChain c begunIn n i
+pub member-chain : (c : ℕ) (begunIn : ℕ → ℕ) (n : ℕ) (y : Interval) → Is (member y (chainOf c begunIn n)) → OnChain c begunIn n y
 unfolding member chainOf
-member-chain c begunIn zero i m = absurd (false≢true m)
-member-chain c begunIn (suc n) i m =
-    ⊎-elim (newest-on c begunIn n i) (λ e. rest-on c begunIn n i (member-chain c begunIn n i e)) (member-cases i _ (chainOf c begunIn n) m)
+member-chain c begunIn zero y m = absurd (false≢true m)
+member-chain c begunIn (suc n) y m =
+    ⊎-elim (newest-on c begunIn n y) (λ e. rest-on c begunIn n y (member-chain c begunIn n y e)) (member-cases y _ (chainOf c begunIn n) m)
 
 -- each number of a chain has its member
 pub chain-member : (c : ℕ) (begunIn : ℕ → ℕ) (n x : ℕ) → 1 ≤ x → x ≤ n → Is (member (interval c (begunIn x) x) (chainOf c begunIn n))
@@ -139,12 +139,12 @@ module _ (c : ℕ) (begunIn : ℕ → ℕ) (s : ℕ) where
       rw (length-part d) (subst (λ z. drop (d - q) (part c begunIn s z) ≡ part c begunIn s q) e (drop-part (d - q) q))
 
   -- a member of the part stands in the chain
-  member-part : (d : ℕ) (i : Interval) → Is (member i (part c begunIn s d)) → OnChain c begunIn (s + d) i
+  member-part : (d : ℕ) (y : Interval) → Is (member y (part c begunIn s d)) → OnChain c begunIn (s + d) y
   unfolding member part
-  member-part zero i m = absurd (false≢true m)
-  member-part (suc d) i m =
+  member-part zero y m = absurd (false≢true m)
+  member-part (suc d) y m =
       let e : s + suc d ≡ suc (s + d) = omega arith in
-      rw e (⊎-elim (newest-on c begunIn (s + d) i) (λ f. rest-on c begunIn (s + d) i (member-part d i f)) (member-cases i _ (part c begunIn s d) m))
+      rw e (⊎-elim (newest-on c begunIn (s + d) y) (λ f. rest-on c begunIn (s + d) y (member-part d y f)) (member-cases y _ (part c begunIn s d) m))
 
   -- each of its numbers has its member
   part-member : (d x : ℕ) → s < x → x ≤ s + d → Is (member (interval c (begunIn x) x) (part c begunIn s d))
@@ -164,8 +164,8 @@ module _ (p : Interval → Bool) (c : ℕ) (begunIn : ℕ → ℕ) (s n q : ℕ)
       (ap (oldest q) (those-part p c begunIn s low (n - s) (λ x a b. high x a (omega arith))) ∙ oldest-part c begunIn s (n - s) q (omega arith))
 
   -- one of them stands in the chain up to s + q
-  pub oldest-on : (i : Interval) → Is (member i (oldest q (those p (chainOf c begunIn n)))) → OnChain c begunIn (s + q) i
-  oldest-on i m = member-part c begunIn s q i (rw oldest-is at m)
+  pub oldest-on : (y : Interval) → Is (member y (oldest q (those p (chainOf c begunIn n)))) → OnChain c begunIn (s + q) y
+  oldest-on y m = member-part c begunIn s q y (rw oldest-is at m)
 
   -- and each number from s + 1 to s + q is one of them
   pub on-oldest : (x : ℕ) → s < x → x ≤ s + q → Is (member (interval c (begunIn x) x) (oldest q (those p (chainOf c begunIn n))))

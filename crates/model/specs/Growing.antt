@@ -8,17 +8,17 @@ use Prim.Native.Nat.{ℕ, _+_, _≤_, _<_}
 use native.Mathlib.Omega.{arith}
 use Rattle.history.specs.History.{Interval, interval, History, those, joined, leaving}
 use Rattle.base.specs.Choice.{le?}
-use Rattle.model.specs.Model.{intervalOf, Vec, Node, full}
-use Rattle.model.specs.Tests.{Is, eq?, at-same}
+use Rattle.model.specs.Model.{intervalOf, Vec, Controller, full}
+use Rattle.model.specs.Tests.{Is, eq?, changedAt-same}
 use Rattle.model.specs.Chain.{chainOf, chain-cong, chain-more}
-use Rattle.model.specs.Invariant.{Spoilt, Covers, Tracks, InOrder, Knows, Shape, Body, Ends, NodeOk, Settled, Ext, Frame, tracks-on, spoilt-on, spoilt-by}
+use Rattle.model.specs.Invariant.{Spoilt, Covers, Tracks, InOrder, Knows, Shape, Body, Ends, ControllerOk, Settled, Ext, Frame, tracks-on, spoilt-on, spoilt-by}
 use Rattle.model.specs.Joining.{Joins, fresh, new-begun, begun-cases, new-stable, old-stable, rests-cases, new-self, new-rests, joined-ext, joined-frame, joined-back, joined-order}
 
--- node k of c becomes k′: of its chain the test `kept` leaves the numbers up to j, and number j + 1 joins, which rests on what r
+-- controller c, which is k, becomes k′: of its chain the test `kept` leaves the numbers up to j, and number j + 1 joins, which rests on what r
 -- says, is stable if s says so, and has vector w
-pub record Grows (n : ℕ) (h : History) (c : ℕ) (k k′ : Node) (j : ℕ) (kept r : Interval → Bool) (s : Bool) (w : Vec) : Type 0 where
+pub record Grows (n : ℕ) (h : History) (c : ℕ) (k k′ : Controller) (j : ℕ) (kept r : Interval → Bool) (s : Bool) (w : Vec) : Type 0 where
   pub order : InOrder n h
-  pub ok : NodeOk h c k
+  pub ok : ControllerOk h c k
   pub below : c < n
   -- what is left is not spoilt, and what leaves is
   pub pos : 1 ≤ j
@@ -26,7 +26,7 @@ pub record Grows (n : ℕ) (h : History) (c : ℕ) (k k′ : Node) (j : ℕ) (ke
   pub cut : those kept (h .chain c) ≡ chainOf c (k .begunIn) j
   pub clean : (x : ℕ) → 1 ≤ x → x ≤ j → Spoilt h c (interval c (k .begunIn x) x) → ⊥
   pub gone : (x : ℕ) → j < x → x ≤ k .live → Spoilt h c (interval c (k .begunIn x) x)
-  -- the new node, next to the old one
+  -- the new controller, next to the old one
   pub live-is : k′ .live ≡ j + 1
   pub degree-is : k′ .degree ≡ k .degree
   pub ends-is : k′ .ends ≡ k .ends
@@ -55,22 +55,22 @@ pub record Grows (n : ℕ) (h : History) (c : ℕ) (k k′ : Node) (j : ℕ) (ke
   pub cover : (q : Interval) → Is (r q) → Is (h .stable q) ⊎ Covers (w (q .owner)) q
   pub own : Covers (w c) (interval c (k′ .incarnation) (j + 1))
 
-module _ {n : ℕ} {h : History} {c : ℕ} {k k′ : Node} {j : ℕ} {kept r : Interval → Bool} {s : Bool} {w : Vec} (G : Grows n h c k k′ j kept r s w) where
+module _ {n : ℕ} {h : History} {c : ℕ} {k k′ : Controller} {j : ℕ} {kept r : Interval → Bool} {s : Bool} {w : Vec} (G : Grows n h c k k′ j kept r s w) where
   open Grows G using (order, ok, below, pos, fits, cut, clean, gone)
   open Grows G using (live-is, degree-is, ends-is, begunIn-old, begunIn-new, vec-old, newer, no-end, current)
   open Grows G using (stable-pos, stable-le, current-from, stable-kept, stable-joined)
   open Grows G using (r-last, r-begun, r-trans, r-clean, vec-new, sound, cover, own)
 
   -- the new interval
-  abbrev i : Interval
-  i = interval c (k′ .incarnation) (j + 1)
+  abbrev new : Interval
+  new = interval c (k′ .incarnation) (j + 1)
 
   -- the history after it has joined
   abbrev h′ : History
-  h′ = joined (leaving h c kept) c i r s
+  h′ = joined (leaving h c kept) c new r s
 
   -- it joins: by `current` it is new, with the highest number of its incarnation
-  joins : Joins n h i r
+  joins : Joins n h new r
   joins =
       record {
         order = order;
@@ -98,15 +98,15 @@ module _ {n : ℕ} {h : History} {c : ℕ} {k k′ : Node} {j : ℕ} {kept r : I
   grown-back = joined-back kept s joins
 
   -- what is begun is the new interval or was begun
-  pub grown-cases : (q : Interval) → Is (h′ .begun q) → (q ≡ i) ⊎ Is (h .begun q)
+  pub grown-cases : (q : Interval) → Is (h′ .begun q) → (q ≡ new) ⊎ Is (h .begun q)
   grown-cases = begun-cases kept s joins
 
   -- the new interval is begun
-  pub grown-new : Is (h′ .begun i)
+  pub grown-new : Is (h′ .begun new)
   grown-new = new-begun kept s joins
 
   -- it is stable if s says so
-  pub grown-stable : h′ .stable i ≡ s
+  pub grown-stable : h′ .stable new ≡ s
   grown-stable = new-stable kept s joins
 
   -- what holds of the new number and of the old ones holds of every number of the new chain
@@ -125,10 +125,10 @@ module _ {n : ℕ} {h : History} {c : ℕ} {k k′ : Node} {j : ℕ} {kept r : I
   unfolding joined leaving
   grown-shape =
       record {
-        incarnation-is = at-same _ _ _;
+        incarnation-is = changedAt-same _ _ _;
         degree-is = ok .shape .degree-is ∙ sym degree-is;
         chain-is =
-            at-same _ _ _ ∙ ap (λ l. i ∷ l) (at-same _ _ _ ∙ cut ∙ chain-cong c (k .begunIn) (k′ .begunIn) j (λ x l. sym (begunIn-old x l)))
+            changedAt-same _ _ _ ∙ ap (λ l. new ∷ l) (changedAt-same _ _ _ ∙ cut ∙ chain-cong c (k .begunIn) (k′ .begunIn) j (λ x l. sym (begunIn-old x l)))
             ∙ longer;
         stable-pos = stable-pos;
         stable-le = omega (arith, live-is, stable-le);
@@ -136,11 +136,11 @@ module _ {n : ℕ} {h : History} {c : ℕ} {k k′ : Node} {j : ℕ} {kept r : I
             numbers (λ x v. k′ .stable ≤ x → v ≡ k′ .incarnation) (λ a. refl) (λ x p q a. current-from x a q) x (omega (arith, stable-pos)) b a;
       }
     where
-      longer : i ∷ chainOf c (k′ .begunIn) j ≡ chainOf c (k′ .begunIn) (k′ .live)
+      longer : new ∷ chainOf c (k′ .begunIn) j ≡ chainOf c (k′ .begunIn) (k′ .live)
       longer = rw (live-is, chain-more c (k′ .begunIn) j, begunIn-new)
 
   -- its vector tracks the new interval
-  tracked-new : Tracks h′ w i
+  tracked-new : Tracks h′ w new
   tracked-new =
       record {
         sound = λ a f. ⊎-elim (λ e. rw e (new-self kept s joins)) (new-rests kept s joins _) (sound a f);
@@ -161,13 +161,13 @@ module _ {n : ℕ} {h : History} {c : ℕ} {k k′ : Node} {j : ℕ} {kept r : I
         stable-only =
             numbers (λ x v. Is (h′ .stable (interval c v x)) → x ≤ k′ .stable) (λ z. stable-joined .1 (sym grown-stable ∙ z))
             (λ x a b z. stable-kept x b .1 (bo .stable-only x a (omega (arith, fits)) (sym (old-stable kept s joins _ (below-new x b)) ∙ z)));
-        begun-le = λ t x z.
-            ⊎-elim (λ e. let q : t ≡ k′ .incarnation = ap (λ z. z .incarnation) e in omega arith)
-            (λ b. let q = bo .begun-le t x b in omega (arith, newer)) (grown-cases _ z);
+        begun-le = λ i x z.
+            ⊎-elim (λ e. let q : i ≡ k′ .incarnation = ap (λ z. z .incarnation) e in omega arith)
+            (λ b. let q = bo .begun-le i x b in omega (arith, newer)) (grown-cases _ z);
         current-live = λ x z. current′ x (grown-cases _ z);
         rests-below = λ x y a b d.
             numbers (λ y v. (x : ℕ) → 1 ≤ x → x ≤ y → Is (h′ .rests (interval c v y) (interval c (k′ .begunIn x) x)))
-            (λ x a b. numbers (λ x v. Is (h′ .rests i (interval c v x))) (new-self kept s joins)
+            (λ x a b. numbers (λ x v. Is (h′ .rests new (interval c v x))) (new-self kept s joins)
             (λ x a b. new-rests kept s joins _ (r-last _ (bo .rests-below x j a b fits))) x a (omega (arith, live-is)))
             (λ y a b x d f. rw (begunIn-old x (omega arith))
             (grown-ext .rests-same _ _ (live-old y a b) ∙ bo .rests-below x y d f (omega (arith, fits))))
@@ -182,10 +182,10 @@ module _ {n : ℕ} {h : History} {c : ℕ} {k k′ : Node} {j : ℕ} {kept r : I
             rw (begunIn-old x l, vec-old x l) (tracks-on grown-ext _ _ (live-old x a l) (bo .tracked x a (omega (arith, fits)))));
       }
     where
-      below-new : (x : ℕ) → x ≤ j → interval c (k .begunIn x) x ≢ i
+      below-new : (x : ℕ) → x ≤ j → interval c (k .begunIn x) x ≢ new
       below-new x b e = let q : x ≡ j + 1 = ap (λ z. z .number) e in omega arith
 
-      current′ : (x : ℕ) → (interval c (k′ .incarnation) x ≡ i) ⊎ Is (h .begun (interval c (k′ .incarnation) x)) →
+      current′ : (x : ℕ) → (interval c (k′ .incarnation) x ≡ new) ⊎ Is (h .begun (interval c (k′ .incarnation) x)) →
           (x ≤ k′ .live) × (k′ .begunIn x ≡ k′ .incarnation)
       current′ x (inl e) = let z : x ≡ j + 1 = ap (λ q. q .number) e in (omega (arith, live-is), rw z begunIn-new)
       current′ x (inr e) = let (u, v) = current x e in (omega (arith, live-is), begunIn-old x u ∙ v)
@@ -205,51 +205,51 @@ module _ {n : ℕ} {h : History} {c : ℕ} {k k′ : Node} {j : ℕ} {kept r : I
       record {
         heard-end = d .heard-end;
         end-heard = d .end-heard;
-        lost-above = λ t x u l. let (v, w, y, z) = d .lost-above t x u l in (v, grown-ext .begun-stays _ w, y, z);
-        above-lost = λ t x b e l. d .above-lost t x (before t x (grown-cases _ b) e) e l;
-        end-le = λ t l. let z = d .end-le t l in omega (arith, newer);
-        end-begun = λ t e. grown-ext .begun-stays _ (d .end-begun t e);
-        end-stable = λ t x b e l. grown-ext .stable-stays _ (d .end-stable t x (before t x (grown-cases _ b) e) e l);
-        live-or-spoilt = λ t x b. ⊎-elim (live′ t x) (λ z. old′ t x z (d .live-or-spoilt t x z)) (grown-cases _ b);
+        lost-above = λ i x u l. let (v, w, y, z) = d .lost-above i x u l in (v, grown-ext .begun-stays _ w, y, z);
+        above-lost = λ i x b e l. d .above-lost i x (before i x (grown-cases _ b) e) e l;
+        end-le = λ i l. let z = d .end-le i l in omega (arith, newer);
+        end-begun = λ i e. grown-ext .begun-stays _ (d .end-begun i e);
+        end-stable = λ i x b e l. grown-ext .stable-stays _ (d .end-stable i x (before i x (grown-cases _ b) e) e l);
+        live-or-spoilt = λ i x b. ⊎-elim (live′ i x) (λ z. old′ i x z (d .live-or-spoilt i x z)) (grown-cases _ b);
       })
     where
       -- an interval of an incarnation that has ended is an old one
-      before : (t x : ℕ) → (interval c t x ≡ i) ⊎ Is (h .begun (interval c t x)) → 1 ≤ k .ends c t → Is (h .begun (interval c t x))
-      before t x (inl e) l =
-          let z : t ≡ k′ .incarnation = ap (λ q. q .incarnation) e in
+      before : (i x : ℕ) → (interval c i x ≡ new) ⊎ Is (h .begun (interval c i x)) → 1 ≤ k .ends c i → Is (h .begun (interval c i x))
+      before i x (inl e) l =
+          let z : i ≡ k′ .incarnation = ap (λ q. q .incarnation) e in
           let l′ : 1 ≤ k .ends c (k′ .incarnation) = rw z at l in
           absurd (omega (arith, no-end))
-      before t x (inr b) l = b
+      before i x (inr b) l = b
 
-      live′ : (t x : ℕ) → interval c t x ≡ i → ((x ≤ k′ .live) × (k′ .begunIn x ≡ t)) ⊎ Spoilt h′ c (interval c t x)
-      live′ t x e =
-          let z : t ≡ k′ .incarnation = ap (λ q. q .incarnation) e in
+      live′ : (i x : ℕ) → interval c i x ≡ new → ((x ≤ k′ .live) × (k′ .begunIn x ≡ i)) ⊎ Spoilt h′ c (interval c i x)
+      live′ i x e =
+          let z : i ≡ k′ .incarnation = ap (λ q. q .incarnation) e in
           let y : x ≡ j + 1 = ap (λ q. q .number) e in
           inl (omega (arith, live-is), rw (y, z) begunIn-new)
 
-      old′ : (t x : ℕ) → Is (h .begun (interval c t x)) → ((x ≤ k .live) × (k .begunIn x ≡ t)) ⊎ Spoilt h c (interval c t x) →
-          ((x ≤ k′ .live) × (k′ .begunIn x ≡ t)) ⊎ Spoilt h′ c (interval c t x)
-      old′ t x b (inl u) =
+      old′ : (i x : ℕ) → Is (h .begun (interval c i x)) → ((x ≤ k .live) × (k .begunIn x ≡ i)) ⊎ Spoilt h c (interval c i x) →
+          ((x ≤ k′ .live) × (k′ .begunIn x ≡ i)) ⊎ Spoilt h′ c (interval c i x)
+      old′ i x b (inl u) =
           let u0 = u .0 in
           le? x j (λ l. inl (omega (arith, live-is), begunIn-old x l ∙ u .1)) (λ l. inr (spoilt-on grown-ext b (rw (u .1) at (gone x l u0))))
-      old′ t x b (inr l) = inr (spoilt-on grown-ext b l)
+      old′ i x b (inr l) = inr (spoilt-on grown-ext b l)
 
   -- the new interval is not spoilt: it was not lost, and what it rests on is not spoilt
-  clean-new : Spoilt h′ c i → ⊥
+  clean-new : Spoilt h′ c new → ⊥
   unfolding joined leaving
   clean-new l = ⊎-elim was-lost rests-lost (rests-cases kept s joins _ (l .rests))
     where
       lost-begun : Is (h .begun (l .on))
       lost-begun = order .lost-begun _ _ (l .lost)
 
-      was-lost : l .on ≡ i → ⊥
+      was-lost : l .on ≡ new → ⊥
       was-lost e = fresh kept s joins (subst (λ z. Is (h .begun z)) e lost-begun)
 
       rests-lost : Is (r (l .on)) → ⊥
       rests-lost e = r-clean (l .on) e (spoilt-by l (order .rests-self _ lost-begun) (l .lost) (l .heard))
 
-  -- the node is in order, if its known words are
-  pub grown : Knows h′ (k′ .known) → NodeOk h′ c k′
+  -- the controller is in order, if its known words are
+  pub grown : Knows h′ (k′ .known) → ControllerOk h′ c k′
   grown known = record { shape = grown-shape; body = grown-body; knows = known; ended = grown-ends }
 
   -- and the new incarnation has not ended, nor is any live interval spoilt

@@ -6,111 +6,111 @@ use mathlib.Core.Logic.{_⊎_, inl, inr, ⊎-elim, _≢_}
 use Prim.Native.Nat.{ℕ, _≤_, _<_}
 use native.Mathlib.Omega.{arith}
 use Rattle.history.specs.History.{Interval, interval, History, sameInterval, joined, leaving}
-use Rattle.model.specs.Tests.{Is, or-cases, or-first, or-second, at-other, same-true, same-refl, atInterval-ind, atInterval-same, atInterval-other}
+use Rattle.model.specs.Tests.{Is, or-cases, or-first, or-second, changedAt-other, sameInterval-true, sameInterval-refl, changedAtInterval-ind, changedAtInterval-same, changedAtInterval-other}
 use Rattle.model.specs.Invariant.{InOrder, Ext, Frame, Spoilt, spoilt-by}
 
--- interval i is new, its number the highest of its incarnation; what r says is begun, and closed under resting
-pub record Joins (n : ℕ) (h : History) (i : Interval) (r : Interval → Bool) : Type 0 where
+-- interval y is new, its number the highest of its incarnation; what r says is begun, and closed under resting
+pub record Joins (n : ℕ) (h : History) (y : Interval) (r : Interval → Bool) : Type 0 where
   pub order : InOrder n h
-  pub below : i .owner < n
-  pub pos : 1 ≤ i .number
-  pub above : (y : ℕ) → Is (h .begun (interval (i .owner) (i .incarnation) y)) → y < i .number
+  pub below : y .owner < n
+  pub pos : 1 ≤ y .number
+  pub above : (x : ℕ) → Is (h .begun (interval (y .owner) (y .incarnation) x)) → x < y .number
   pub r-begun : (j : Interval) → Is (r j) → Is (h .begun j)
   pub r-trans : (j k : Interval) → Is (r j) → Is (h .rests j k) → Is (r k)
 
-module _ {n : ℕ} {h : History} {i : Interval} {r : Interval → Bool} (kept : Interval → Bool) (s : Bool) (J : Joins n h i r) where
+module _ {n : ℕ} {h : History} {y : Interval} {r : Interval → Bool} (kept : Interval → Bool) (s : Bool) (J : Joins n h y r) where
   open Joins J using (order, below, pos, above, r-begun, r-trans)
 
-  -- the history in which those that fail `kept` have left and i has joined
+  -- the history in which those that fail `kept` have left and y has joined
   abbrev h′ : History
-  h′ = joined (leaving h (i .owner) kept) (i .owner) i r s
+  h′ = joined (leaving h (y .owner) kept) (y .owner) y r s
 
   -- the new interval was not begun before
-  pub fresh : Is (h .begun i) → ⊥
-  fresh b = let l = above (i .number) b in omega arith
+  pub fresh : Is (h .begun y) → ⊥
+  fresh b = let l = above (y .number) b in omega arith
 
   -- so a begun one is another
-  not-new : (j : Interval) → Is (h .begun j) → j ≢ i
+  not-new : (j : Interval) → Is (h .begun j) → j ≢ y
   not-new j b e = fresh (rw e at b)
 
   -- what is begun, stable, lost: the new interval and the old ones
-  pub new-begun : Is (h′ .begun i)
+  pub new-begun : Is (h′ .begun y)
   unfolding joined leaving
-  new-begun = atInterval-same _ _ _
+  new-begun = changedAtInterval-same _ _ _
 
   -- what is begun is the new one or was begun
-  pub begun-cases : (j : Interval) → Is (h′ .begun j) → (j ≡ i) ⊎ Is (h .begun j)
+  pub begun-cases : (j : Interval) → Is (h′ .begun j) → (j ≡ y) ⊎ Is (h .begun j)
   unfolding joined leaving
-  begun-cases = atInterval-ind (λ j b. Is b → (j ≡ i) ⊎ Is (h .begun j)) (h .begun) i true (λ e. inl refl) (λ j ne b. inr b)
+  begun-cases = changedAtInterval-ind (λ j b. Is b → (j ≡ y) ⊎ Is (h .begun j)) (h .begun) y true (λ e. inl refl) (λ j ne b. inr b)
 
   -- the new one is stable if s says so
-  pub new-stable : h′ .stable i ≡ s
+  pub new-stable : h′ .stable y ≡ s
   unfolding joined leaving
-  new-stable = atInterval-same _ _ _
+  new-stable = changedAtInterval-same _ _ _
 
   -- the others are stable if they were
-  pub old-stable : (j : Interval) → j ≢ i → h′ .stable j ≡ h .stable j
+  pub old-stable : (j : Interval) → j ≢ y → h′ .stable j ≡ h .stable j
   unfolding joined leaving
-  old-stable j ne = atInterval-other (h .stable) i j _ ne
+  old-stable j ne = changedAtInterval-other (h .stable) y j _ ne
 
   -- what is stable is the new one or was stable
-  stable-cases : (j : Interval) → Is (h′ .stable j) → (j ≡ i) ⊎ Is (h .stable j)
+  stable-cases : (j : Interval) → Is (h′ .stable j) → (j ≡ y) ⊎ Is (h .stable j)
   unfolding joined leaving
-  stable-cases = atInterval-ind (λ j b. Is b → (j ≡ i) ⊎ Is (h .stable j)) (h .stable) i s (λ e. inl refl) (λ j ne b. inr b)
+  stable-cases = changedAtInterval-ind (λ j b. Is b → (j ≡ y) ⊎ Is (h .stable j)) (h .stable) y s (λ e. inl refl) (λ j ne b. inr b)
 
   -- what is lost was lost
-  old-lost : (j : Interval) (t : ℕ) → Is (h′ .lost j t) → Is (h .lost j t)
+  old-lost : (j : Interval) (i : ℕ) → Is (h′ .lost j i) → Is (h .lost j i)
   unfolding joined leaving
-  old-lost j t l = l
+  old-lost j i l = l
 
   -- what the new interval rests on, and the old ones
-  new-row : (j : Interval) → h′ .rests i j ≡ (sameInterval j i || r j)
+  new-row : (j : Interval) → h′ .rests y j ≡ (sameInterval j y || r j)
   unfolding joined leaving
-  new-row j = ap (λ f. f j) (atInterval-same (h .rests) i (λ (j : Interval). sameInterval j i || r j))
+  new-row j = ap (λ f. f j) (changedAtInterval-same (h .rests) y (λ (j : Interval). sameInterval j y || r j))
 
   -- the new one rests on itself, and on what r says
-  pub rests-cases : (j : Interval) → Is (h′ .rests i j) → (j ≡ i) ⊎ Is (r j)
-  rests-cases j e = ⊎-elim (λ p. inl (same-true j i p)) (λ p. inr p) (or-cases (sameInterval j i) (r j) (sym (new-row j) ∙ e))
+  pub rests-cases : (j : Interval) → Is (h′ .rests y j) → (j ≡ y) ⊎ Is (r j)
+  rests-cases j e = ⊎-elim (λ p. inl (sameInterval-true j y p)) (λ p. inr p) (or-cases (sameInterval j y) (r j) (sym (new-row j) ∙ e))
 
   -- it rests on itself
-  pub new-self : Is (h′ .rests i i)
-  new-self = new-row i ∙ or-first (sameInterval i i) (r i) (same-refl i)
+  pub new-self : Is (h′ .rests y y)
+  new-self = new-row y ∙ or-first (sameInterval y y) (r y) (sameInterval-refl y)
 
   -- it rests on what r says
-  pub new-rests : (j : Interval) → Is (r j) → Is (h′ .rests i j)
-  new-rests j e = new-row j ∙ or-second (sameInterval j i) (r j) e
+  pub new-rests : (j : Interval) → Is (r j) → Is (h′ .rests y j)
+  new-rests j e = new-row j ∙ or-second (sameInterval j y) (r j) e
 
   -- the others rest on what they did
   old-rests : (j k : Interval) → Is (h .begun j) → h′ .rests j k ≡ h .rests j k
   unfolding joined leaving
-  old-rests j k b = ap (λ f. f k) (atInterval-other (h .rests) i j _ (not-new j b))
+  old-rests j k b = ap (λ f. f k) (changedAtInterval-other (h .rests) y j _ (not-new j b))
 
   -- the history is later
   pub joined-ext : Ext h h′
   unfolding joined leaving
   joined-ext =
       record {
-        begun-stays = λ j b. atInterval-other (h .begun) i j true (not-new j b) ∙ b;
+        begun-stays = λ j b. changedAtInterval-other (h .begun) y j true (not-new j b) ∙ b;
         rests-same = old-rests;
         stable-stays = λ j e. old-stable j (not-new j (order .stable-begun j e)) ∙ e;
-        lost-stays = λ j t l. l;
-        heard-stays = λ b a t e. e;
-        lost-before = λ j t e l. l;
+        lost-stays = λ j i l. l;
+        heard-stays = λ b a i e. e;
+        lost-before = λ j i e l. l;
         new-above = λ j b. ⊎-elim (λ e. inr (rw e (pos, above))) (λ e. inl e) (begun-cases j b);
       }
 
   -- it says no more of other controllers
-  pub joined-frame : (c : ℕ) → c ≢ i .owner → Frame h h′ c
+  pub joined-frame : (c : ℕ) → c ≢ y .owner → Frame h h′ c
   unfolding joined leaving
   joined-frame c ne =
       record {
-        incarnation-same = at-other _ _ _ _ ne;
+        incarnation-same = changedAt-other _ _ _ _ ne;
         degree-same = refl;
-        chain-same = at-other _ _ _ _ ne ∙ at-other _ _ _ _ ne;
-        begun-same = λ t x b. sym (atInterval-other (h .begun) i (interval c t x) true (λ e. ne (ap (λ z. z .owner) e))) ∙ b;
-        stable-same = λ t x b e. sym (old-stable (interval c t x) (not-new _ b)) ∙ e;
-        lost-same = λ t x u l. l;
-        heard-same = λ a t e. e;
+        chain-same = changedAt-other _ _ _ _ ne ∙ changedAt-other _ _ _ _ ne;
+        begun-same = λ i x b. sym (changedAtInterval-other (h .begun) y (interval c i x) true (λ e. ne (ap (λ z. z .owner) e))) ∙ b;
+        stable-same = λ i x b e. sym (old-stable (interval c i x) (not-new _ b)) ∙ e;
+        lost-same = λ i x u l. l;
+        heard-same = λ a i e. e;
       }
 
   -- an old interval is spoilt only if it was
@@ -128,28 +128,28 @@ module _ {n : ℕ} {h : History} {i : Interval} {r : Interval → Bool} (kept : 
         rests-begun = λ j k b e. rests-begun′ j k (begun-cases j b) e;
         rests-trans = λ j k l b e f. rests-trans′ j k l (begun-cases j b) e f;
         stable-begun = λ j e. ⊎-elim (λ q. rw q new-begun) (λ z. joined-ext .begun-stays j (order .stable-begun j z)) (stable-cases j e);
-        lost-begun = λ j t l. joined-ext .begun-stays j (order .lost-begun j t (old-lost j t l));
-        stable-not-lost = λ j t e l. not-both j t (stable-cases j e) (old-lost j t l);
+        lost-begun = λ j i l. joined-ext .begun-stays j (order .lost-begun j i (old-lost j i l));
+        stable-not-lost = λ j i e l. not-both j i (stable-cases j e) (old-lost j i l);
       }
     where
-      into : (k : Interval) → (k ≡ i) ⊎ Is (r k) → Is (h′ .begun k)
+      into : (k : Interval) → (k ≡ y) ⊎ Is (r k) → Is (h′ .begun k)
       into k (inl e) = rw e new-begun
       into k (inr p) = joined-ext .begun-stays k (r-begun k p)
 
-      rests-begun′ : (j k : Interval) → (j ≡ i) ⊎ Is (h .begun j) → Is (h′ .rests j k) → Is (h′ .begun k)
+      rests-begun′ : (j k : Interval) → (j ≡ y) ⊎ Is (h .begun j) → Is (h′ .rests j k) → Is (h′ .begun k)
       rests-begun′ j k (inl e) f = into k (rests-cases k (rw e at f))
       rests-begun′ j k (inr b) f = joined-ext .begun-stays k (order .rests-begun j k b (sym (old-rests j k b) ∙ f))
 
-      on : (k l : Interval) → (k ≡ i) ⊎ Is (r k) → Is (h′ .rests k l) → Is (h′ .rests i l)
+      on : (k l : Interval) → (k ≡ y) ⊎ Is (r k) → Is (h′ .rests k l) → Is (h′ .rests y l)
       on k l (inl e) f = rw e at f
       on k l (inr p) f = new-rests l (r-trans k l p (sym (old-rests k l (r-begun k p)) ∙ f))
 
-      rests-trans′ : (j k l : Interval) → (j ≡ i) ⊎ Is (h .begun j) → Is (h′ .rests j k) → Is (h′ .rests k l) → Is (h′ .rests j l)
+      rests-trans′ : (j k l : Interval) → (j ≡ y) ⊎ Is (h .begun j) → Is (h′ .rests j k) → Is (h′ .rests k l) → Is (h′ .rests j l)
       rests-trans′ j k l (inl e) f g = rw e (on k l (rests-cases k (rw e at f)) g)
       rests-trans′ j k l (inr b) f g =
           let f′ = sym (old-rests j k b) ∙ f in
           old-rests j l b ∙ order .rests-trans j k l b f′ (sym (old-rests k l (order .rests-begun j k b f′)) ∙ g)
 
-      not-both : (j : Interval) (t : ℕ) → (j ≡ i) ⊎ Is (h .stable j) → Is (h .lost j t) → ⊥
-      not-both j t (inl e) l = fresh (rw e at (order .lost-begun j t l))
-      not-both j t (inr z) l = order .stable-not-lost j t z l
+      not-both : (j : Interval) (i : ℕ) → (j ≡ y) ⊎ Is (h .stable j) → Is (h .lost j i) → ⊥
+      not-both j i (inl e) l = fresh (rw e at (order .lost-begun j i l))
+      not-both j i (inr z) l = order .stable-not-lost j i z l

@@ -1,127 +1,127 @@
--- What every accepted step keeps, and how it comes about where one node is put and the others stay.
+-- What every accepted step keeps, and how it comes about where one controller changes and the others stay.
 use mathlib.Core.Path.{_≡_, refl, sym, _∙_, ap}
 use mathlib.Core.Logic.{_≢_}
 use Prim.Native.Nat.{ℕ, _≤_, _<_}
 use native.Mathlib.Omega.{arith}
-use Rattle.history.specs.History.{Interval, History, at}
-use Rattle.model.specs.Model.{Node, Model, at₂, putNode}
-use Rattle.model.specs.Tests.{Is, eq?, at-ind, at-same, at-other, at-id, at₂-ind, at₂-other}
-use Rattle.model.specs.Invariant.{Spoilt, InOrder, NodeOk, Settled, Agree, Inv, Ext, Frame, ext-refl, ext-trans, letter-on, node-on, settled-on}
+use Rattle.history.specs.History.{Interval, History, changedAt}
+use Rattle.model.specs.Model.{Controller, Model, changedAt₂, putController}
+use Rattle.model.specs.Tests.{Is, eq?, changedAt-ind, changedAt-same, changedAt-other, changedAt-id, changedAt₂-ind, changedAt₂-other}
+use Rattle.model.specs.Invariant.{Spoilt, InOrder, ControllerOk, Settled, EndsAgree, Inv, Ext, Frame, ext-refl, ext-trans, message-on, controller-on, settled-on}
 
--- model m with history h becomes m′ with h′
-pub record Keeps (n : ℕ) (m : Model) (h : History) (m′ : Model) (h′ : History) : Type 0 where
-  pub inv : Inv n m′ h′
+-- model μ with history h becomes μ′ with h′
+pub record Keeps (n : ℕ) (μ : Model) (h : History) (μ′ : Model) (h′ : History) : Type 0 where
+  pub inv : Inv n μ′ h′
   pub ext : Ext h h′
-  pub sent-grows : m .sent ≤ m′ .sent
-  pub sending-same : (i : ℕ) → i ≤ m .sent → h′ .sending i ≡ h .sending i
-  pub receiver-same : (i : ℕ) → i ≤ m .sent → h′ .receiver i ≡ h .receiver i
-  pub from-same : (i : ℕ) → i ≤ m .sent → m′ .letter i .from ≡ m .letter i .from
-  pub to-same : (i : ℕ) → i ≤ m .sent → m′ .letter i .to ≡ m .letter i .to
+  pub sent-grows : μ .sent ≤ μ′ .sent
+  pub sending-same : (m : ℕ) → m ≤ μ .sent → h′ .sending m ≡ h .sending m
+  pub receiver-same : (m : ℕ) → m ≤ μ .sent → h′ .receiver m ≡ h .receiver m
+  pub from-same : (m : ℕ) → m ≤ μ .sent → μ′ .message m .from ≡ μ .message m .from
+  pub to-same : (m : ℕ) → m ≤ μ .sent → μ′ .message m .to ≡ μ .message m .to
 
 -- a step that changes nothing that is looked at here: held, waits, dropped, refused
-pub keeps-refl : {n : ℕ} {m : Model} {h : History} → Inv n m h → Keeps n m h m h
+pub keeps-refl : {n : ℕ} {μ : Model} {h : History} → Inv n μ h → Keeps n μ h μ h
 keeps-refl {h = h} v =
     record {
       inv = v;
       ext = ext-refl h;
       sent-grows = omega arith;
-      sending-same = λ i l. refl;
-      receiver-same = λ i l. refl;
-      from-same = λ i l. refl;
-      to-same = λ i l. refl;
+      sending-same = λ m l. refl;
+      receiver-same = λ m l. refl;
+      from-same = λ m l. refl;
+      to-same = λ m l. refl;
     }
 
 -- two steps, one after the other
-pub keeps-trans : {n : ℕ} {m m′ m″ : Model} {h h′ h″ : History} → Keeps n m h m′ h′ → Keeps n m′ h′ m″ h″ → Keeps n m h m″ h″
+pub keeps-trans : {n : ℕ} {μ μ′ μ″ : Model} {h h′ h″ : History} → Keeps n μ h μ′ h′ → Keeps n μ′ h′ μ″ h″ → Keeps n μ h μ″ h″
 keeps-trans p q =
     let g = p .sent-grows in
     record {
       inv = q .inv;
       ext = ext-trans (p .ext) (q .ext);
       sent-grows = omega (arith, q .sent-grows);
-      sending-same = λ i l. q .sending-same i (omega arith) ∙ p .sending-same i l;
-      receiver-same = λ i l. q .receiver-same i (omega arith) ∙ p .receiver-same i l;
-      from-same = λ i l. q .from-same i (omega arith) ∙ p .from-same i l;
-      to-same = λ i l. q .to-same i (omega arith) ∙ p .to-same i l;
+      sending-same = λ m l. q .sending-same m (omega arith) ∙ p .sending-same m l;
+      receiver-same = λ m l. q .receiver-same m (omega arith) ∙ p .receiver-same m l;
+      from-same = λ m l. q .from-same m (omega arith) ∙ p .from-same m l;
+      to-same = λ m l. q .to-same m (omega arith) ∙ p .to-same m l;
     }
 
--- node k is put for controller c, and history h becomes h′
-pub record Puts (n : ℕ) (m : Model) (h h′ : History) (c : ℕ) (k : Node) : Type 0 where
+-- k is put for controller c, and history h becomes h′
+pub record Puts (n : ℕ) (μ : Model) (h h′ : History) (c : ℕ) (k : Controller) : Type 0 where
   pub order : InOrder n h′
   pub ext : Ext h h′
   pub frame : (b : ℕ) → b ≢ c → Frame h h′ b
-  pub back : (b : ℕ) → b ≢ c → b < n → (i : Interval) → Is (h .begun i) → Spoilt h′ b i → Spoilt h b i
-  pub ok : NodeOk h′ c k
+  pub back : (b : ℕ) → b ≢ c → b < n → (y : Interval) → Is (h .begun y) → Spoilt h′ b y → Spoilt h b y
+  pub ok : ControllerOk h′ c k
   pub settled : Settled h′ c k
-  pub agree : Agree (at (m .node) c k)
+  pub agree : EndsAgree (changedAt (μ .controller) c k)
   pub sending-is : h′ .sending ≡ h .sending
   pub receiver-is : h′ .receiver ≡ h .receiver
 
 -- then all is kept: the other controllers and the messages are carried over
-pub put-keeps : {n : ℕ} {m : Model} {h h′ : History} {c : ℕ} {k : Node} → Inv n m h → Puts n m h h′ c k → Keeps n m h (putNode m c k) h′
-unfolding putNode
-put-keeps {n} {m} {h} {h′} {c} {k} v p =
+pub put-keeps : {n : ℕ} {μ : Model} {h h′ : History} {c : ℕ} {k : Controller} → Inv n μ h → Puts n μ h h′ c k → Keeps n μ h (putController μ c k) h′
+unfolding putController
+put-keeps {n} {μ} {h} {h′} {c} {k} v p =
     record {
       inv =
           record {
             history = p .order;
-            nodes = at-ind (λ b k. b < n → NodeOk h′ b k) (m .node) c k (λ l. p .ok) (λ b ne l. node-on (p .ext) (p .frame b ne) (v .nodes b l));
+            controller-ok = changedAt-ind (λ b k. b < n → ControllerOk h′ b k) (μ .controller) c k (λ l. p .ok) (λ b ne l. controller-on (p .ext) (p .frame b ne) (v .controller-ok b l));
             settled =
-                at-ind (λ b k. b < n → Settled h′ b k) (m .node) c k (λ l. p .settled)
-                (λ b ne l. settled-on (p .ext) (v .nodes b l) (p .back b ne l) (v .settled b l));
-            letters = λ i a l. letter-on (p .ext) (sending i) (receiver i) (v .letters i a l);
+                changedAt-ind (λ b k. b < n → Settled h′ b k) (μ .controller) c k (λ l. p .settled)
+                (λ b ne l. settled-on (p .ext) (v .controller-ok b l) (p .back b ne l) (v .settled b l));
+            message-ok = λ m a l. message-on (p .ext) (sending m) (receiver m) (v .message-ok m a l);
             agree = p .agree;
           };
       ext = p .ext;
       sent-grows = omega arith;
-      sending-same = λ i l. sending i;
-      receiver-same = λ i l. receiver i;
-      from-same = λ i l. refl;
-      to-same = λ i l. refl;
+      sending-same = λ m l. sending m;
+      receiver-same = λ m l. receiver m;
+      from-same = λ m l. refl;
+      to-same = λ m l. refl;
     }
   where
-    sending : (i : ℕ) → h′ .sending i ≡ h .sending i
-    sending i = ap (λ f. f i) (p .sending-is)
+    sending : (m : ℕ) → h′ .sending m ≡ h .sending m
+    sending m = ap (λ f. f m) (p .sending-is)
 
-    receiver : (i : ℕ) → h′ .receiver i ≡ h .receiver i
-    receiver i = ap (λ f. f i) (p .receiver-is)
+    receiver : (m : ℕ) → h′ .receiver m ≡ h .receiver m
+    receiver m = ap (λ f. f m) (p .receiver-is)
 
--- a node put where it stands
-pub putNode-id : (m : Model) (c : ℕ) → putNode m c (m .node c) ≡ m
-unfolding putNode
-putNode-id m c = λ d. record { node = at-id (m .node) c d; sent = m .sent; letter = m .letter }
+-- a controller put where it stands
+pub putController-id : (μ : Model) (c : ℕ) → putController μ c (μ .controller c) ≡ μ
+unfolding putController
+putController-id μ c = λ d. record { controller = changedAt-id (μ .controller) c d; sent = μ .sent; message = μ .message }
 
--- The end words of all controllers agree again after a step of c that leaves node k.
-module _ (node : ℕ → Node) (c : ℕ) (k : Node) (ag : Agree node) where
+-- The end words of all controllers agree again after a step that leaves controller c as k.
+module _ (controller : ℕ → Controller) (c : ℕ) (k : Controller) (ag : EndsAgree controller) where
   -- the end words stay
-  pub agree-same : k .ends ≡ node c .ends → Agree (at node c k)
-  agree-same e b d t = rw (row b, row d) (ag b d t)
+  pub agree-same : k .ends ≡ controller c .ends → EndsAgree (changedAt controller c k)
+  agree-same e b d i = rw (row b, row d) (ag b d i)
     where
-      row : (b : ℕ) → at node c k b .ends ≡ node b .ends
-      row = at-ind (λ b k. k .ends ≡ node b .ends) node c k e (λ b ne. refl)
+      row : (b : ℕ) → changedAt controller c k b .ends ≡ controller b .ends
+      row = changedAt-ind (λ b k. k .ends ≡ controller b .ends) controller c k e (λ b ne. refl)
 
   -- c copies the end word of another's crash
-  pub agree-heard : (a t : ℕ) → k .ends ≡ at₂ (node c .ends) a t (node a .ends a t) → c ≢ a → Agree (at node c k)
-  agree-heard a t is ne =
+  pub agree-heard : (a i : ℕ) → k .ends ≡ changedAt₂ (controller c .ends) a i (controller a .ends a i) → c ≢ a → EndsAgree (changedAt controller c k)
+  agree-heard a i is ne =
       λ b d s.
-      rw (own d s) (at-ind (λ b k. 1 ≤ k .ends d s → k .ends d s ≡ node d .ends d s) node c k
-      (rw is (at₂-ind (λ d s w. 1 ≤ w → w ≡ node d .ends d s) (node c .ends) a t (node a .ends a t) (λ l. refl) (λ d s other l. ag c d s l) d s))
+      rw (own d s) (changedAt-ind (λ b k. 1 ≤ k .ends d s → k .ends d s ≡ controller d .ends d s) controller c k
+      (rw is (changedAt₂-ind (λ d s w. 1 ≤ w → w ≡ controller d .ends d s) (controller c .ends) a i (controller a .ends a i) (λ l. refl) (λ d s other l. ag c d s l) d s))
       (λ b other. ag b d s) b)
     where
-      own : (d s : ℕ) → at node c k d .ends d s ≡ node d .ends d s
-      own d s = at-ind (λ d k. k .ends d s ≡ node d .ends d s) node c k (rw is (at₂-other (node c .ends) a t _ c s (λ p q. ne p))) (λ d other. refl) d
+      own : (d s : ℕ) → changedAt controller c k d .ends d s ≡ controller d .ends d s
+      own d s = changedAt-ind (λ d k. k .ends d s ≡ controller d .ends d s) controller c k (rw is (changedAt₂-other (controller c .ends) a i _ c s (λ p q. ne p))) (λ d other. refl) d
 
   -- c writes the end word of its own crash, of which nobody has heard
-  pub agree-crashed : (t e : ℕ) → k .ends ≡ at₂ (node c .ends) c t e → node c .ends c t ≡ 0 → Agree (at node c k)
-  agree-crashed t e is zero b d s =
+  pub agree-crashed : (i e : ℕ) → k .ends ≡ changedAt₂ (controller c .ends) c i e → controller c .ends c i ≡ 0 → EndsAgree (changedAt controller c k)
+  agree-crashed i e is zero b d s =
       eq? d c
       (λ dc. rw dc (eq? b c (λ bc. rw bc (λ l. refl)) (λ nb. rw (other b nb, mine) (λ l. let q = ag b c s l in
-      let ns : s ≢ t = λ st. let w : node c .ends c s ≡ 0 = rw st zero in omega arith in
-      q ∙ sym (at₂-other (node c .ends) c t e c s (λ p r. ns r))))))
-      (λ nd. rw (other d nd) (eq? b c (λ bc. rw (bc, mine, at₂-other (node c .ends) c t e d s (λ p r. nd p)) (ag c d s)) (λ nb. rw (other b nb) (ag b d s))))
+      let ns : s ≢ i = λ st. let w : controller c .ends c s ≡ 0 = rw st zero in omega arith in
+      q ∙ sym (changedAt₂-other (controller c .ends) c i e c s (λ p r. ns r))))))
+      (λ nd. rw (other d nd) (eq? b c (λ bc. rw (bc, mine, changedAt₂-other (controller c .ends) c i e d s (λ p r. nd p)) (ag c d s)) (λ nb. rw (other b nb) (ag b d s))))
     where
-      mine : at node c k c .ends ≡ at₂ (node c .ends) c t e
-      mine = ap (λ q. q .ends) (at-same node c k) ∙ is
+      mine : changedAt controller c k c .ends ≡ changedAt₂ (controller c .ends) c i e
+      mine = ap (λ q. q .ends) (changedAt-same controller c k) ∙ is
 
-      other : (b : ℕ) → b ≢ c → at node c k b ≡ node b
-      other b ne = at-other node c b k ne
+      other : (b : ℕ) → b ≢ c → changedAt controller c k b ≡ controller b
+      other b ne = changedAt-other controller c b k ne

@@ -7,31 +7,31 @@ use native.Mathlib.Omega.{arith}
 use borrow.Author.Tests.{ltb-true, ltb-false}
 use Rattle.base.specs.Choice.{_<?_, cond-ind, le?}
 use Rattle.history.specs.History.{Interval, interval, History, member, stabilized}
-use Rattle.model.specs.Model.{Node, logNode, loggedNode}
+use Rattle.model.specs.Model.{Controller, logController, loggedController}
 use Rattle.model.specs.Tests.{Is, or-cases, or-first, or-second}
 use Rattle.model.specs.Chain.{OnChain}
-use Rattle.model.specs.Invariant.{Spoilt, InOrder, NodeOk, Settled, Ext, Frame, tracks-on, knows-on, body-on, ends-on, spoilt-by, shape-on}
+use Rattle.model.specs.Invariant.{Spoilt, InOrder, ControllerOk, Settled, Ext, Frame, tracks-on, knows-on, body-on, ends-on, spoilt-by, shape-on, some-live}
 use Rattle.model.specs.Knowing.{knows-set}
 
 -- the list l has those of c's live intervals up to number j that are not stable, and none above; none of them is spoilt
-pub record Logs (n : ℕ) (h : History) (c : ℕ) (k : Node) (j : ℕ) (l : List Interval) : Type 0 where
+pub record Logs (n : ℕ) (h : History) (c : ℕ) (k : Controller) (j : ℕ) (l : List Interval) : Type 0 where
   pub order : InOrder n h
-  pub ok : NodeOk h c k
+  pub ok : ControllerOk h c k
   pub fits : j ≤ k .live
-  pub on : (i : Interval) → Is (member i l) → OnChain c (k .begunIn) j i
+  pub on : (y : Interval) → Is (member y l) → OnChain c (k .begunIn) j y
   pub has : (x : ℕ) → k .stable < x → x ≤ j → Is (member (interval c (k .begunIn x) x) l)
   pub clean : (x : ℕ) → 1 ≤ x → x ≤ j → Spoilt h c (interval c (k .begunIn x) x) → ⊥
 
--- what logging leaves of node k: node k′
-pub record Logged (h h′ : History) (c : ℕ) (k : Node) (j : ℕ) (k′ : Node) : Type 0 where
-  pub ok : NodeOk h′ c k′
+-- what logging leaves of controller k: it is k′ then
+pub record Logged (h h′ : History) (c : ℕ) (k : Controller) (j : ℕ) (k′ : Controller) : Type 0 where
+  pub ok : ControllerOk h′ c k′
   pub upto : j ≤ k′ .stable
   pub incarnation-is : k′ .incarnation ≡ k .incarnation
   pub live-is : k′ .live ≡ k .live
   pub begunIn-is : k′ .begunIn ≡ k .begunIn
   pub ends-is : k′ .ends ≡ k .ends
 
-module _ {n : ℕ} {h : History} {c : ℕ} {k : Node} {j : ℕ} {l : List Interval} (L : Logs n h c k j l) where
+module _ {n : ℕ} {h : History} {c : ℕ} {k : Controller} {j : ℕ} {l : List Interval} (L : Logs n h c k j l) where
   open Logs L using (order, ok, fits, on, has, clean)
 
   -- the history in which the listed ones are stable
@@ -39,32 +39,32 @@ module _ {n : ℕ} {h : History} {c : ℕ} {k : Node} {j : ℕ} {l : List Interv
   h′ = stabilized h l
 
   -- what is stable was, or is listed
-  stable-cases : (i : Interval) → Is (h′ .stable i) → Is (h .stable i) ⊎ Is (member i l)
+  stable-cases : (y : Interval) → Is (h′ .stable y) → Is (h .stable y) ⊎ Is (member y l)
   unfolding stabilized
-  stable-cases i = or-cases (h .stable i) (member i l)
+  stable-cases y = or-cases (h .stable y) (member y l)
 
   -- what is listed is stable
-  stable-listed : (i : Interval) → Is (member i l) → Is (h′ .stable i)
+  stable-listed : (y : Interval) → Is (member y l) → Is (h′ .stable y)
   unfolding stabilized
-  stable-listed i = or-second (h .stable i) (member i l)
+  stable-listed y = or-second (h .stable y) (member y l)
 
   -- what is listed is begun
-  listed-begun : (i : Interval) → Is (member i l) → Is (h .begun i)
-  listed-begun i e = let o = on i e in rw (o .is) (ok .body .live-begun (i .number) (o .pos) (omega (arith, fits, o .top)))
+  listed-begun : (y : Interval) → Is (member y l) → Is (h .begun y)
+  listed-begun y e = let o = on y e in rw (o .is) (ok .body .live-begun (y .number) (o .pos) (omega (arith, fits, o .top)))
 
   -- one of them that was lost would be spoilt by itself
-  listed-not-lost : (i : Interval) (t : ℕ) → Is (member i l) → Is (h .lost i t) → ⊥
-  listed-not-lost i t e z =
-      let o = on i e in
-      let z′ : Is (h .lost (interval c (k .begunIn (i .number)) (i .number)) t) = subst (λ q. Is (h .lost q t)) (o .is) z in
-      let (u, b, y, _) = ok .ended .lost-above _ _ t z′ in
-      clean (i .number) (o .pos) (o .top)
+  listed-not-lost : (y : Interval) (i : ℕ) → Is (member y l) → Is (h .lost y i) → ⊥
+  listed-not-lost y i e z =
+      let o = on y e in
+      let z′ : Is (h .lost (interval c (k .begunIn (y .number)) (y .number)) i) = subst (λ q. Is (h .lost q i)) (o .is) z in
+      let (u, b, g, _) = ok .ended .lost-above _ _ i z′ in
+      clean (y .number) (o .pos) (o .top)
       (record {
-        on = interval c (k .begunIn (i .number)) (i .number);
-        crash = t;
+        on = interval c (k .begunIn (y .number)) (y .number);
+        crash = i;
         rests = order .rests-self _ b;
         lost = z′;
-        heard = ok .ended .end-heard c t (rw u y);
+        heard = ok .ended .end-heard c i (rw u g);
       })
 
   -- the history is later
@@ -72,13 +72,13 @@ module _ {n : ℕ} {h : History} {c : ℕ} {k : Node} {j : ℕ} {l : List Interv
   unfolding stabilized
   logged-ext =
       record {
-        begun-stays = λ i b. b;
-        rests-same = λ i j b. refl;
-        stable-stays = λ i s. or-first (h .stable i) (member i l) s;
-        lost-stays = λ i t e. e;
-        heard-stays = λ b a t e. e;
-        lost-before = λ i t e z. z;
-        new-above = λ i b. inl b;
+        begun-stays = λ y b. b;
+        rests-same = λ y j b. refl;
+        stable-stays = λ y s. or-first (h .stable y) (member y l) s;
+        lost-stays = λ y i e. e;
+        heard-stays = λ b a i e. e;
+        lost-before = λ y i e z. z;
+        new-above = λ y b. inl b;
       }
 
   -- it is in order: what is listed is begun and not lost
@@ -91,9 +91,9 @@ module _ {n : ℕ} {h : History} {c : ℕ} {k : Node} {j : ℕ} {l : List Interv
         rests-self = order .rests-self;
         rests-begun = order .rests-begun;
         rests-trans = order .rests-trans;
-        stable-begun = λ i s. ⊎-elim (order .stable-begun i) (listed-begun i) (stable-cases i s);
+        stable-begun = λ y s. ⊎-elim (order .stable-begun y) (listed-begun y) (stable-cases y s);
         lost-begun = order .lost-begun;
-        stable-not-lost = λ i t s z. ⊎-elim (λ e. order .stable-not-lost i t e z) (λ e. listed-not-lost i t e z) (stable-cases i s);
+        stable-not-lost = λ y i s z. ⊎-elim (λ e. order .stable-not-lost y i e z) (λ e. listed-not-lost y i e z) (stable-cases y s);
       }
 
   -- it says no more of other controllers
@@ -104,37 +104,37 @@ module _ {n : ℕ} {h : History} {c : ℕ} {k : Node} {j : ℕ} {l : List Interv
         incarnation-same = refl;
         degree-same = refl;
         chain-same = refl;
-        begun-same = λ t x b. b;
-        stable-same = λ t x z s. ⊎-elim (λ e. e) (λ e. absurd (ne (ap (λ q. q .owner) (on _ e .is)))) (stable-cases (interval b t x) s);
-        lost-same = λ t x u e. e;
-        heard-same = λ a t e. e;
+        begun-same = λ i x b. b;
+        stable-same = λ i x z s. ⊎-elim (λ e. e) (λ e. absurd (ne (ap (λ q. q .owner) (on _ e .is)))) (stable-cases (interval b i x) s);
+        lost-same = λ i x u e. e;
+        heard-same = λ a i e. e;
       }
 
   -- nothing is spoilt that was not
-  pub logged-back : (b : ℕ) (i : Interval) → Spoilt h′ b i → Spoilt h b i
+  pub logged-back : (b : ℕ) (y : Interval) → Spoilt h′ b y → Spoilt h b y
   unfolding stabilized
-  logged-back b i z = spoilt-by z (z .rests) (z .lost) (z .heard)
+  logged-back b y z = spoilt-by z (z .rests) (z .lost) (z .heard)
 
   -- all of them were stable
-  same-node : j ≤ k .stable → NodeOk h′ c k
+  same-controller : j ≤ k .stable → ControllerOk h′ c k
   unfolding stabilized
-  same-node js =
+  same-controller js =
       let s = ok .shape in
       record {
         shape = shape-on logged-ext refl refl refl s;
         body =
-            body-on logged-ext (omega (arith, s .stable-pos, s .stable-le)) (λ t x z. z)
-            (λ t x b z. ⊎-elim (λ e. e) (λ e. let o = on _ e in rw (o .is) (ok .body .stable-upto x (o .pos) (omega (arith, o .top))))
-            (stable-cases (interval c t x) z))
+            body-on logged-ext (some-live s) (λ i x z. z)
+            (λ i x b z. ⊎-elim (λ e. e) (λ e. let o = on _ e in rw (o .is) (ok .body .stable-upto x (o .pos) (omega (arith, o .top))))
+            (stable-cases (interval c i x) z))
             (ok .body);
         knows = knows-on logged-ext (ok .knows);
-        ended = ends-on logged-ext (λ t x z. z) (λ t x u z. z) (λ a t z. z) (ok .ended);
+        ended = ends-on logged-ext (λ i x z. z) (λ i x u z. z) (λ a i z. z) (ok .ended);
       }
 
   -- the stable count becomes j
-  log-node : k .stable ≤ j → NodeOk h′ c (logNode c k j)
-  unfolding stabilized logNode
-  log-node sj =
+  log-controller : k .stable ≤ j → ControllerOk h′ c (logController c k j)
+  unfolding stabilized logController
+  log-controller sj =
       let s = ok .shape in
       let b = ok .body in
       record {
@@ -165,26 +165,26 @@ module _ {n : ℕ} {h : History} {c : ℕ} {k : Node} {j : ℕ} {l : List Interv
               begun = λ p. rw (← (s .current-from j sj fits)) (b .live-begun j p fits);
               stable = λ x z q. let (u, v) = b .current-live x z in rw (← v) (all x (order .number-pos _ z) q);
             });
-        ended = ends-on logged-ext (λ t x z. z) (λ t x u z. z) (λ a t z. z) (ok .ended);
+        ended = ends-on logged-ext (λ i x z. z) (λ i x u z. z) (λ a i z. z) (ok .ended);
       }
     where
       all : (x : ℕ) → 1 ≤ x → x ≤ j → Is (h′ .stable (interval c (k .begunIn x) x))
       all x p q = le? x (k .stable) (λ m. logged-ext .stable-stays _ (ok .body .stable-upto x p m)) (λ m. stable-listed _ (has x m q))
 
   -- logging up to a number that is not below the stable count
-  pub log-logged : k .stable ≤ j → Logged h h′ c k j (logNode c k j)
-  unfolding logNode
-  log-logged sj = record { ok = log-node sj; upto = omega arith; incarnation-is = refl; live-is = refl; begunIn-is = refl; ends-is = refl }
+  pub log-logged : k .stable ≤ j → Logged h h′ c k j (logController c k j)
+  unfolding logController
+  log-logged sj = record { ok = log-controller sj; upto = omega arith; incarnation-is = refl; live-is = refl; begunIn-is = refl; ends-is = refl }
 
   -- logging "if any" are not yet stable
-  pub loggedNode-logged : Logged h h′ c k j (loggedNode c k j)
-  loggedNode-logged =
+  pub loggedController-logged : Logged h h′ c k j (loggedController c k j)
+  loggedController-logged =
       cond-ind (Logged h h′ c k j) (k .stable <? j) (λ e. log-logged (omega (arith, ltb-true (k .stable) j e)))
       (λ e. let js = ltb-false (k .stable) j e in
-      record { ok = same-node js; upto = js; incarnation-is = refl; live-is = refl; begunIn-is = refl; ends-is = refl })
+      record { ok = same-controller js; upto = js; incarnation-is = refl; live-is = refl; begunIn-is = refl; ends-is = refl })
 
-  -- a settled node stays so
-  pub logged-settled : {k′ : Node} → Logged h h′ c k j k′ → Settled h c k → Settled h′ c k′
+  -- a settled controller stays so
+  pub logged-settled : {k′ : Controller} → Logged h h′ c k j k′ → Settled h c k → Settled h′ c k′
   logged-settled o s =
       record {
         not-ended = rw (o .ends-is, o .incarnation-is) (s .not-ended);

@@ -3,27 +3,27 @@
 use mathlib.Core.Bool.{Bool, not, cond}
 use Prim.Native.Nat.{ℕ, _+_, max}
 use Rattle.base.specs.Choice.{_==_, _≤?_, _<?_}
-use Rattle.history.specs.History.{Interval, interval, at}
+use Rattle.history.specs.History.{Interval, interval, changedAt}
 
 -- a pair of a vector; it is empty where its number is 0
-pub record Entry : Type 0 where
+pub record Pair : Type 0 where
   pub incarnation : ℕ
   pub number : ℕ
 
--- an entry by its parts
-abbrev pub entry : ℕ → ℕ → Entry
-entry t x = record { incarnation = t; number = x }
+-- a pair by its parts
+abbrev pub pair : ℕ → ℕ → Pair
+pair i x = record { incarnation = i; number = x }
 
--- the interval that an entry of owner a names
-abbrev pub intervalOf : ℕ → Entry → Interval
+-- the interval that a pair of owner a names
+abbrev pub intervalOf : ℕ → Pair → Interval
 intervalOf a p = interval a (p .incarnation) (p .number)
 
--- a vector: the entry of each owner
+-- a vector: the pair of each owner
 abbrev pub Vec : Type 0
-Vec = ℕ → Entry
+Vec = ℕ → Pair
 
 -- a controller; its live intervals have the numbers 1 to live
-pub record Node : Type 0 where
+pub record Controller : Type 0 where
   pub degree : ℕ
   pub incarnation : ℕ
   pub live : ℕ
@@ -36,49 +36,49 @@ pub record Node : Type 0 where
   pub vec : ℕ → Vec
 
 -- a message, without its state: no accepted step's effect on the invariant looks at it
-pub record Letter : Type 0 where
+pub record Message : Type 0 where
   pub to : ℕ
   pub from : Interval
   pub vec : Vec
 
 -- the house
 pub record Model : Type 0 where
-  pub node : ℕ → Node
+  pub controller : ℕ → Controller
   pub sent : ℕ
   -- by message number, from 1
-  pub letter : ℕ → Letter
+  pub message : ℕ → Message
 
--- a table of numbers changed at row a and column t
-unfoldable pub at₂ : (ℕ → ℕ → ℕ) → ℕ → ℕ → ℕ → ℕ → ℕ → ℕ
-at₂ f a t v = at f a (at (f a) t v)
+-- a table of numbers changed at row a and column i
+unfoldable pub changedAt₂ : (ℕ → ℕ → ℕ) → ℕ → ℕ → ℕ → ℕ → ℕ → ℕ
+changedAt₂ f a i v = changedAt f a (changedAt (f a) i v)
 
--- an entry that is not empty
-unfoldable pub full : Entry → Bool
+-- a pair that is not empty
+unfoldable pub full : Pair → Bool
 full p = not (p .number == 0)
 
--- the vector w filtered for a node
-unfoldable pub filtered : Node → Vec → Vec
-filtered k w a = cond (w a .number ≤? k .known a (w a .incarnation)) (entry 0 0) (w a)
+-- the vector w filtered for a controller
+unfoldable pub filtered : Controller → Vec → Vec
+filtered k w a = cond (w a .number ≤? k .known a (w a .incarnation)) (pair 0 0) (w a)
 
--- the entry with the larger number
-unfoldable pub larger : Entry → Entry → Entry
+-- the pair with the larger number
+unfoldable pub larger : Pair → Pair → Pair
 larger p q = cond (p .number <? q .number) q p
 
--- two vectors merged, with c's own entry
-unfoldable pub mergedFor : ℕ → Entry → Vec → Vec → Vec
+-- two vectors merged, with c's own pair
+unfoldable pub mergedFor : ℕ → Pair → Vec → Vec → Vec
 mergedFor c own v w a = cond (a == c) own (larger (v a) (w a))
 
--- a node is put for controller c
-unfoldable pub putNode : Model → ℕ → Node → Model
-putNode m c k = record { node = at (m .node) c k; sent = m .sent; letter = m .letter }
+-- k is put for controller c
+unfoldable pub putController : Model → ℕ → Controller → Model
+putController μ c k = record { controller = changedAt (μ .controller) c k; sent = μ .sent; message = μ .message }
 
--- a message is put at number i
-unfoldable pub putLetter : Model → ℕ → Letter → Model
-putLetter m i g = record { node = m .node; sent = m .sent; letter = at (m .letter) i g }
+-- a message is put at number m
+unfoldable pub putMessage : Model → ℕ → Message → Model
+putMessage μ m g = record { controller = μ .controller; sent = μ .sent; message = changedAt (μ .message) m g }
 
 -- K
-unfoldable pub degreeNode : Node → ℕ → Node
-degreeNode k d =
+unfoldable pub degreeController : Controller → ℕ → Controller
+degreeController k d =
     record {
       degree = d;
       incarnation = k .incarnation;
@@ -91,68 +91,68 @@ degreeNode k d =
     }
 
 -- L, C and the logging of kept intervals: stable up to number j
-unfoldable pub logNode : ℕ → Node → ℕ → Node
-logNode c k j =
+unfoldable pub logController : ℕ → Controller → ℕ → Controller
+logController c k j =
     record {
       degree = k .degree;
       incarnation = k .incarnation;
       live = k .live;
       stable = j;
-      known = at₂ (k .known) c (k .incarnation) j;
+      known = changedAt₂ (k .known) c (k .incarnation) j;
       ends = k .ends;
       begunIn = k .begunIn;
       vec = k .vec;
     }
 
 -- the same "if any" of them are not yet stable
-abbrev pub loggedNode : ℕ → Node → ℕ → Node
-loggedNode c k j = cond (k .stable <? j) (logNode c k j) k
+abbrev pub loggedController : ℕ → Controller → ℕ → Controller
+loggedController c k j = cond (k .stable <? j) (logController c k j) k
 
 -- T: a tells; w are its own known words
-unfoldable pub tellNode : ℕ → Node → (ℕ → ℕ) → Node
-tellNode a k w =
+unfoldable pub tellController : ℕ → Controller → (ℕ → ℕ) → Controller
+tellController a k w =
     record {
       degree = k .degree;
       incarnation = k .incarnation;
       live = k .live;
       stable = k .stable;
-      known = at (k .known) a (λ (t : ℕ). max (k .known a t) (w t));
+      known = changedAt (k .known) a (λ (i : ℕ). max (k .known a i) (w i));
       ends = k .ends;
       begunIn = k .begunIn;
       vec = k .vec;
     }
 
 -- X, first part: the end word of c's own incarnation
-unfoldable pub endNode : ℕ → Node → Node
-endNode c k =
+unfoldable pub endController : ℕ → Controller → Controller
+endController c k =
     record {
       degree = k .degree;
       incarnation = k .incarnation;
       live = k .live;
       stable = k .stable;
       known = k .known;
-      ends = at₂ (k .ends) c (k .incarnation) (k .stable);
+      ends = changedAt₂ (k .ends) c (k .incarnation) (k .stable);
       begunIn = k .begunIn;
       vec = k .vec;
     }
 
--- H, first part: the end word e of a's incarnation t, and the known word raised to it
-unfoldable pub noteNode : Node → ℕ → ℕ → ℕ → Node
-noteNode k a t e =
+-- H, first part: the end word e of a's incarnation i, and the known word raised to it
+unfoldable pub noteController : Controller → ℕ → ℕ → ℕ → Controller
+noteController k a i e =
     record {
       degree = k .degree;
       incarnation = k .incarnation;
       live = k .live;
       stable = k .stable;
-      known = at₂ (k .known) a t (max (k .known a t) e);
-      ends = at₂ (k .ends) a t e;
+      known = changedAt₂ (k .known) a i (max (k .known a i) e);
+      ends = changedAt₂ (k .ends) a i e;
       begunIn = k .begunIn;
       vec = k .vec;
     }
 
 -- D: an interval begins from a message with vector w
-unfoldable pub beginNode : ℕ → Node → Vec → Node
-beginNode c k w =
+unfoldable pub beginController : ℕ → Controller → Vec → Controller
+beginController c k w =
     record {
       degree = k .degree;
       incarnation = k .incarnation;
@@ -160,8 +160,8 @@ beginNode c k w =
       stable = k .stable;
       known = k .known;
       ends = k .ends;
-      begunIn = at (k .begunIn) (k .live + 1) (k .incarnation);
-      vec = at (k .vec) (k .live + 1) (mergedFor c (entry (k .incarnation) (k .live + 1)) (filtered k (k .vec (k .live))) (filtered k w));
+      begunIn = changedAt (k .begunIn) (k .live + 1) (k .incarnation);
+      vec = changedAt (k .vec) (k .live + 1) (mergedFor c (pair (k .incarnation) (k .live + 1)) (filtered k (k .vec (k .live))) (filtered k w));
     }
 
 -- starting anew after kept number j: what was given to the numbers up to j stays, the new interval has number j + 1, and
@@ -169,75 +169,75 @@ beginNode c k w =
 unfoldable pub renewed : {A : Type 0} → ℕ → A → A → (ℕ → A) → ℕ → A
 renewed j new none f x = cond (x ≤? j) (f x) (cond (x == j + 1) new none)
 
--- the kept vector, filtered, with the own entry of the new interval
-unfoldable pub newVec : ℕ → Node → ℕ → Vec
-newVec c k j a = cond (a == c) (entry (k .incarnation + 1) (j + 1)) (filtered k (k .vec j) a)
+-- the kept vector, filtered, with the own pair of the new interval
+unfoldable pub newVec : ℕ → Controller → ℕ → Vec
+newVec c k j a = cond (a == c) (pair (k .incarnation + 1) (j + 1)) (filtered k (k .vec j) a)
 
--- the node that starts anew after number j
-unfoldable pub anewNode : ℕ → Node → ℕ → Node
-anewNode c k j =
+-- the controller that starts anew after number j
+unfoldable pub anewController : ℕ → Controller → ℕ → Controller
+anewController c k j =
     record {
       degree = k .degree;
       incarnation = k .incarnation + 1;
       live = j + 1;
       stable = j + 1;
-      known = at₂ (k .known) c (k .incarnation + 1) (j + 1);
+      known = changedAt₂ (k .known) c (k .incarnation + 1) (j + 1);
       ends = k .ends;
       begunIn = renewed j (k .incarnation + 1) 0 (k .begunIn);
-      vec = renewed j (newVec c k j) (λ (a : ℕ). entry 0 0) (k .vec);
+      vec = renewed j (newVec c k j) (λ (a : ℕ). pair 0 0) (k .vec);
     }
 
 -- S: message m goes from c's newest interval to r
-unfoldable pub sendLetter : Model → ℕ → ℕ → ℕ → Model
-sendLetter m i c r =
-    let k = m .node c in
+unfoldable pub sendMessage : Model → ℕ → ℕ → ℕ → Model
+sendMessage μ m c r =
+    let k = μ .controller c in
     record {
-      node = m .node;
-      sent = i;
-      letter = at (m .letter) i (record { to = r; from = interval c (k .begunIn (k .live)) (k .live); vec = filtered k (k .vec (k .live)) });
+      controller = μ .controller;
+      sent = m;
+      message = changedAt (μ .message) m (record { to = r; from = interval c (k .begunIn (k .live)) (k .live); vec = filtered k (k .vec (k .live)) });
     }
 
--- R: message i's vector is filtered for its sender
+-- R: message m's vector is filtered for its sender
 unfoldable pub releasedVec : Model → ℕ → Vec
-releasedVec m i = filtered (m .node (m .letter i .from .owner)) (m .letter i .vec)
+releasedVec μ m = filtered (μ .controller (μ .message m .from .owner)) (μ .message m .vec)
 
--- message i with that vector
-unfoldable pub releaseLetter : Model → ℕ → Model
-releaseLetter m i = putLetter m i (record { to = m .letter i .to; from = m .letter i .from; vec = releasedVec m i })
+-- message m with that vector
+unfoldable pub releaseMessage : Model → ℕ → Model
+releaseMessage μ m = putMessage μ m (record { to = μ .message m .to; from = μ .message m .from; vec = releasedVec μ m })
 
 -- O: "each has (0,1), .. stable, known to its owner, own pair (0,1) in its vector; all else 0."
-unfoldable pub openNode : ℕ → ℕ → Node
-openNode k c =
+unfoldable pub openController : ℕ → ℕ → Controller
+openController k c =
     record {
       degree = k;
       incarnation = 0;
       live = 1;
       stable = 1;
-      known = at₂ (λ (a t : ℕ). 0) c 0 1;
-      ends = λ (a t : ℕ). 0;
+      known = changedAt₂ (λ (a i : ℕ). 0) c 0 1;
+      ends = λ (a i : ℕ). 0;
       begunIn = λ (x : ℕ). 0;
-      vec = at (λ (x a : ℕ). entry 0 0) 1 (at (λ (a : ℕ). entry 0 0) c (entry 0 1));
+      vec = changedAt (λ (x a : ℕ). pair 0 0) 1 (changedAt (λ (a : ℕ). pair 0 0) c (pair 0 1));
     }
 
 -- for controllers from n on
-unfoldable pub noNode : Node
-noNode =
+unfoldable pub absentController : Controller
+absentController =
     record {
       degree = 0;
       incarnation = 0;
       live = 0;
       stable = 0;
-      known = λ (a t : ℕ). 0;
-      ends = λ (a t : ℕ). 0;
+      known = λ (a i : ℕ). 0;
+      ends = λ (a i : ℕ). 0;
       begunIn = λ (x : ℕ). 0;
-      vec = λ (x a : ℕ). entry 0 0;
+      vec = λ (x a : ℕ). pair 0 0;
     }
 
 -- the house just opened
 unfoldable pub openModel : ℕ → ℕ → Model
 openModel n k =
     record {
-      node = λ (c : ℕ). cond (c <? n) (openNode k c) noNode;
+      controller = λ (c : ℕ). cond (c <? n) (openController k c) absentController;
       sent = 0;
-      letter = λ (i : ℕ). record { to = 0; from = interval 0 0 0; vec = λ (a : ℕ). entry 0 0 };
+      message = λ (m : ℕ). record { to = 0; from = interval 0 0 0; vec = λ (a : ℕ). pair 0 0 };
     }

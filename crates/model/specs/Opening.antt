@@ -6,11 +6,11 @@ use Prim.Native.Nat.{ℕ, _<_}
 use native.Mathlib.Omega.{arith}
 use borrow.Author.Tests.{eqb-true, eq-eqb, ltb-true, lt-ltb}
 use Rattle.base.specs.Choice.{_==_, _<?_, and-left, and-right, cond-ind}
-use Rattle.history.specs.History.{Interval, interval, History, at, sameInterval, opening}
-use Rattle.model.specs.Model.{entry, intervalOf, Vec, Node, full, openNode, noNode, openModel}
-use Rattle.model.specs.Tests.{Is, and-both, at-ind, at-same, same-true, same-refl}
+use Rattle.history.specs.History.{Interval, interval, History, changedAt, sameInterval, opening}
+use Rattle.model.specs.Model.{pair, intervalOf, Vec, Controller, full, openController, absentController, openModel}
+use Rattle.model.specs.Tests.{Is, and-both, changedAt-ind, changedAt-same, sameInterval-true, sameInterval-refl}
 use Rattle.model.specs.Chain.{chainOf}
-use Rattle.model.specs.Invariant.{Tracks, InOrder, NodeOk, Inv}
+use Rattle.model.specs.Invariant.{Tracks, InOrder, ControllerOk, Inv}
 use Rattle.model.specs.Vectors.{full-pos}
 use Rattle.model.specs.Knowing.{knows-set}
 
@@ -20,51 +20,51 @@ module _ (n k : ℕ) where
   h = opening n k
 
   -- interval (0,1) of each controller is begun, and no other
-  first-only : (i : Interval) → Is (h .begun i) → (i .owner < n) × (i .incarnation ≡ 0) × (i .number ≡ 1)
+  first-only : (y : Interval) → Is (h .begun y) → (y .owner < n) × (y .incarnation ≡ 0) × (y .number ≡ 1)
   unfolding opening
-  first-only i e =
-      let rest = and-right (i .owner <? n) ((i .incarnation == 0) && (i .number == 1)) e in (
-        ltb-true (i .owner) n (and-left _ ((i .incarnation == 0) && (i .number == 1)) e),
-        eqb-true (i .incarnation) 0 (and-left _ (i .number == 1) rest),
-        eqb-true (i .number) 1 (and-right (i .incarnation == 0) _ rest),
+  first-only y e =
+      let rest = and-right (y .owner <? n) ((y .incarnation == 0) && (y .number == 1)) e in (
+        ltb-true (y .owner) n (and-left _ ((y .incarnation == 0) && (y .number == 1)) e),
+        eqb-true (y .incarnation) 0 (and-left _ (y .number == 1) rest),
+        eqb-true (y .number) 1 (and-right (y .incarnation == 0) _ rest),
       )
 
   -- and each of them is
-  first-begun : (c t x : ℕ) → c < n → t ≡ 0 → x ≡ 1 → Is (h .begun (interval c t x))
+  first-begun : (c i x : ℕ) → c < n → i ≡ 0 → x ≡ 1 → Is (h .begun (interval c i x))
   unfolding opening
-  first-begun c t x l p q =
-      and-both (c <? n) ((t == 0) && (x == 1)) (lt-ltb c n l) (and-both (t == 0) (x == 1) (eq-eqb t 0 p) (eq-eqb x 1 q))
+  first-begun c i x l p q =
+      and-both (c <? n) ((i == 0) && (x == 1)) (lt-ltb c n l) (and-both (i == 0) (x == 1) (eq-eqb i 0 p) (eq-eqb x 1 q))
 
   -- it is in order
   opening-order : InOrder n h
   unfolding opening
   opening-order =
       record {
-        owner-below = λ i b. first-only i b .0;
-        number-pos = λ i b. let z = first-only i b in omega arith;
-        rests-self = λ i b. same-refl i;
-        rests-begun = λ i j b e. rw (same-true j i e) b;
-        rests-trans = λ i j l b e f. rw (same-true l j f) e;
-        stable-begun = λ i s. s;
-        lost-begun = λ i t l. absurd (false≢true l);
-        stable-not-lost = λ i t s l. absurd (false≢true l);
+        owner-below = λ y b. first-only y b .0;
+        number-pos = λ y b. let z = first-only y b in omega arith;
+        rests-self = λ y b. sameInterval-refl y;
+        rests-begun = λ y j b e. rw (sameInterval-true j y e) b;
+        rests-trans = λ y j l b e f. rw (sameInterval-true l j f) e;
+        stable-begun = λ y s. s;
+        lost-begun = λ y i l. absurd (false≢true l);
+        stable-not-lost = λ y i s l. absurd (false≢true l);
       }
 
-  -- the own entry (0,1) tracks the first interval, which is stable
-  first-tracked : (c : ℕ) → c < n → Tracks h (at (λ (a : ℕ). entry 0 0) c (entry 0 1)) (interval c 0 1)
+  -- the own pair (0,1) tracks the first interval, which is stable
+  first-tracked : (c : ℕ) → c < n → Tracks h (changedAt (λ (a : ℕ). pair 0 0) c (pair 0 1)) (interval c 0 1)
   unfolding opening
   first-tracked c l =
       record {
         sound =
-            at-ind (λ a q. Is (full q) → Is (sameInterval (intervalOf a q) (interval c 0 1))) (λ (a : ℕ). entry 0 0) c (entry 0 1)
-            (λ f. same-refl (interval c 0 1)) (λ a ne f. absurd (let z = full-pos (entry 0 0) f in omega arith));
-        cover = λ j r. inl (rw (same-true j (interval c 0 1) r) (first-begun c 0 1 l refl refl));
+            changedAt-ind (λ a q. Is (full q) → Is (sameInterval (intervalOf a q) (interval c 0 1))) (λ (a : ℕ). pair 0 0) c (pair 0 1)
+            (λ f. sameInterval-refl (interval c 0 1)) (λ a ne f. absurd (let z = full-pos (pair 0 0) f in omega arith));
+        cover = λ j r. inl (rw (sameInterval-true j (interval c 0 1) r) (first-begun c 0 1 l refl refl));
       }
 
   -- each controller of the house is in order
-  node-opened : (c : ℕ) → c < n → NodeOk h c (openNode k c)
-  unfolding opening openNode chainOf
-  node-opened c l =
+  controller-opened : (c : ℕ) → c < n → ControllerOk h c (openController k c)
+  unfolding opening openController chainOf
+  controller-opened c l =
       record {
         shape =
             record {
@@ -80,46 +80,46 @@ module _ (n k : ℕ) where
               live-begun = λ x p q. first-begun c 0 x l refl (omega arith);
               stable-upto = λ x p q. first-begun c 0 x l refl (omega arith);
               stable-only = λ x p q z. q;
-              begun-le = λ t x b. let z = first-only (interval c t x) b in omega arith;
+              begun-le = λ i x b. let z = first-only (interval c i x) b in omega arith;
               current-live = λ x b. let z = first-only (interval c 0 x) b in (omega arith, refl);
-              rests-below = λ x y p q r. let e : x ≡ y = omega arith in rw e (same-refl _);
-              rests-order = λ x y p q r s z. omega arith;
-              first-alone = λ j z. same-true j (interval c 0 1) z;
-              tracked = λ x p q. let e : x ≡ 1 = omega arith in rw (e, at-same {A = Vec} (λ (x a : ℕ). entry 0 0)) (first-tracked c l);
+              rests-below = λ x x′ p q r. let e : x ≡ x′ = omega arith in rw e (sameInterval-refl _);
+              rests-order = λ x x′ p q r s z. omega arith;
+              first-alone = λ j z. sameInterval-true j (interval c 0 1) z;
+              tracked = λ x p q. let e : x ≡ 1 = omega arith in rw (e, changedAt-same {A = Vec} (λ (x a : ℕ). pair 0 0)) (first-tracked c l);
             };
         knows =
             knows-set c 0 1
             (record {
-              known-begun = λ a t p. absurd (omega arith);
-              known-stable = λ a t x b p. absurd (let z = first-only (interval a t x) b in omega arith);
+              known-begun = λ a i p. absurd (omega arith);
+              known-stable = λ a i x b p. absurd (let z = first-only (interval a i x) b in omega arith);
             })
             (record { begun = λ p. first-begun c 0 1 l refl refl; stable = λ x b p. b });
         ended =
             record {
-              heard-end = λ a t z. absurd (false≢true z);
-              end-heard = λ a t p. absurd (omega arith);
-              lost-above = λ t x u z. absurd (false≢true z);
-              above-lost = λ t x b p q. absurd (omega arith);
-              end-le = λ t p. absurd (omega arith);
-              end-begun = λ t p. absurd (omega arith);
-              end-stable = λ t x b p q. absurd (omega arith);
-              live-or-spoilt = λ t x b. let z = first-only (interval c t x) b in inl (omega arith, sym (z .1));
+              heard-end = λ a i z. absurd (false≢true z);
+              end-heard = λ a i p. absurd (omega arith);
+              lost-above = λ i x u z. absurd (false≢true z);
+              above-lost = λ i x b p q. absurd (omega arith);
+              end-le = λ i p. absurd (omega arith);
+              end-begun = λ i p. absurd (omega arith);
+              end-stable = λ i x b p q. absurd (omega arith);
+              live-or-spoilt = λ i x b. let z = first-only (interval c i x) b in inl (omega arith, sym (z .1));
             };
       }
 
   -- there are no end words
-  no-ends : (c a t : ℕ) → openModel n k .node c .ends a t ≡ 0
-  unfolding openModel openNode noNode
-  no-ends c a t = cond-ind (λ (q : Node). q .ends a t ≡ 0) (c <? n) (λ e. refl) (λ e. refl)
+  no-ends : (c a i : ℕ) → openModel n k .controller c .ends a i ≡ 0
+  unfolding openModel openController absentController
+  no-ends c a i = cond-ind (λ (q : Controller). q .ends a i ≡ 0) (c <? n) (λ e. refl) (λ e. refl)
 
   -- so the invariant holds
   pub inv-opened : Inv n (openModel n k) (opening n k)
-  unfolding openModel opening openNode
+  unfolding openModel opening openController
   inv-opened =
       record {
         history = opening-order;
-        nodes = λ c l. rw (lt-ltb c n l) (node-opened c l);
+        controller-ok = λ c l. rw (lt-ltb c n l) (controller-opened c l);
         settled = λ c l. record { not-ended = no-ends c c _; live-clean = λ x p q r. absurd (false≢true (r .lost)) };
-        letters = λ i p l. absurd (omega arith);
-        agree = λ b a t l. no-ends b a t ∙ sym (no-ends a a t);
+        message-ok = λ m p l. absurd (omega arith);
+        agree = λ b a i l. no-ends b a i ∙ sym (no-ends a a i);
       }

@@ -7,28 +7,28 @@ use Prim.Native.Nat.{ℕ, _+_, _≤_, _<_}
 use native.Mathlib.Omega.{arith}
 use borrow.Author.Tests.{le-leb, lt-leb}
 use Rattle.base.specs.Choice.{_≤?_}
-use Rattle.history.specs.History.{Interval, interval, History, at, those, joined, leaving, stabilized, hearing, losing, crashing, rollingBack}
-use Rattle.model.specs.Model.{Node, Model, at₂, putNode, noteNode, endNode, loggedNode, anewNode}
-use Rattle.model.specs.Tests.{Is, fails, eq?, at-ind, at-same, at₂-other}
+use Rattle.history.specs.History.{Interval, interval, History, changedAt, those, joined, leaving, stabilized, hearing, losing, crashing, rollingBack}
+use Rattle.model.specs.Model.{Controller, Model, changedAt₂, putController, noteController, endController, loggedController, anewController}
+use Rattle.model.specs.Tests.{Is, fails, eq?, changedAt-ind, changedAt-same, changedAt₂-other}
 use Rattle.model.specs.Chain.{chainOf, member-chain, chain-member, those-chain}
-use Rattle.model.specs.Invariant.{Spoilt, NodeOk, Agree, Inv, Ext, ext-trans, frame-trans, node-on, spoilt-on, spoilt-up}
+use Rattle.model.specs.Invariant.{Spoilt, ControllerOk, EndsAgree, Inv, Ext, ext-trans, frame-trans, controller-on, spoilt-on, spoilt-up}
 use Rattle.model.specs.Vectors.{Condemned, condemned-spoilt, spoilt-condemned}
 use Rattle.model.specs.Growing.{grown-ext, grown-order, grown-frame, grown-back, grown-settled}
-use Rattle.model.specs.Renewing.{Renews, renews-grows, renewed-node, restarting-is}
-use Rattle.model.specs.Logging.{Logs, Logged, logged-ext, logged-order, logged-frame, logged-back, loggedNode-logged}
-use Rattle.model.specs.Hearing.{Hears, heard-ext, heard-order, heard-frame, heard-back, heard-node}
-use Rattle.model.specs.Crashing.{Crashes, crashed-ext, crashed-order, crashed-frame, crashed-node, crashed-clean, crashed-gone, crashed-back}
+use Rattle.model.specs.Renewing.{Renews, renews-grows, renewed-controller, restarting-is}
+use Rattle.model.specs.Logging.{Logs, Logged, logged-ext, logged-order, logged-frame, logged-back, loggedController-logged}
+use Rattle.model.specs.Hearing.{Hears, heard-ext, heard-order, heard-frame, heard-back, heard-controller}
+use Rattle.model.specs.Crashing.{Crashes, crashed-ext, crashed-order, crashed-frame, crashed-controller, crashed-clean, crashed-gone, crashed-back}
 use Rattle.model.specs.Keeping.{Keeps, put-keeps, agree-heard, agree-crashed}
 
 -- X: the marks of the crash, and a new start after the stable intervals
-module _ {n : ℕ} {m : Model} {h : History} (v : Inv n m h) (c : ℕ) (below : c < n) where
-  -- the node that crashes
-  abbrev failed : Node
-  failed = m .node c
+module _ {n : ℕ} {μ : Model} {h : History} (v : Inv n μ h) (c : ℕ) (below : c < n) where
+  -- the controller that crashes
+  abbrev failed : Controller
+  failed = μ .controller c
 
   -- it is in order
-  failed-ok : NodeOk h c failed
-  failed-ok = v .nodes c below
+  failed-ok : ControllerOk h c failed
+  failed-ok = v .controller-ok c below
 
   -- what its marks are
   crash : Crashes n h c failed
@@ -39,19 +39,19 @@ module _ {n : ℕ} {m : Model} {h : History} (v : Inv n m h) (c : ℕ) (below : 
   marked = hearing (losing h c) c c (h .incarnation c)
 
   -- the stable ones are kept, and it starts anew
-  restart : Renews n marked c (endNode c failed) (failed .stable) (h .stable)
-  unfolding hearing losing endNode
+  restart : Renews n marked c (endController c failed) (failed .stable) (h .stable)
+  unfolding hearing losing endController
   restart =
       record {
         order = crashed-order crash;
-        ok = crashed-node crash;
+        ok = crashed-controller crash;
         below = below;
         pos = failed-ok .shape .stable-pos;
         stable = omega arith;
         cut =
             ap (those (h .stable)) (failed-ok .shape .chain-is)
             ∙ those-chain (h .stable) c (failed .begunIn) (failed .stable) (failed .live) (failed-ok .shape .stable-le) (failed-ok .body .stable-upto)
-            (λ x p q. fails _ (λ z. let y = failed-ok .body .stable-only x (omega arith) q z in omega arith));
+            (λ x p q. fails _ (λ z. let g = failed-ok .body .stable-only x (omega arith) q z in omega arith));
         clean = crashed-clean crash;
         gone = crashed-gone crash;
       }
@@ -59,96 +59,96 @@ module _ {n : ℕ} {m : Model} {h : History} (v : Inv n m h) (c : ℕ) (below : 
   -- nobody has heard of a crash that is only now
   unheard-yet : (b : ℕ) → b < n → Is (h .heard b c (failed .incarnation)) → ⊥
   unheard-yet b l z =
-      let u = v .nodes b l .ended .heard-end c (failed .incarnation) z in
+      let u = v .controller-ok b l .ended .heard-end c (failed .incarnation) z in
       let w = v .agree b c (failed .incarnation) u in
       omega (arith, v .settled c below .not-ended)
 
   -- nobody else has heard of the crash, so nothing else is spoilt
-  pub keeps-crash : Keeps n m h (putNode m c (anewNode c (endNode c (m .node c)) (m .node c .stable))) (crashing h c)
-  unfolding crashing hearing losing leaving joined endNode anewNode
+  pub keeps-crash : Keeps n μ h (putController μ c (anewController c (endController c (μ .controller c)) (μ .controller c .stable))) (crashing h c)
+  unfolding crashing hearing losing leaving joined endController anewController
   keeps-crash =
-      subst (Keeps n m h (putNode m c (anewNode c (endNode c failed) (failed .stable)))) (sym (restarting-is restart))
+      subst (Keeps n μ h (putController μ c (anewController c (endController c failed) (failed .stable)))) (sym (restarting-is restart))
       (put-keeps v (record {
         order = grown-order (renews-grows restart);
         ext = ext-trans (crashed-ext crash) (grown-ext (renews-grows restart));
         frame = λ b ne. frame-trans (crashed-ext crash) (crashed-frame crash b ne) (grown-frame (renews-grows restart) b ne);
-        back = λ b ne l i bi r.
-            crashed-back crash b ne (unheard-yet b l) i (grown-back (renews-grows restart) b i (crashed-ext crash .begun-stays i bi) r);
-        ok = renewed-node restart;
+        back = λ b ne l y bi r.
+            crashed-back crash b ne (unheard-yet b l) y (grown-back (renews-grows restart) b y (crashed-ext crash .begun-stays y bi) r);
+        ok = renewed-controller restart;
         settled = grown-settled (renews-grows restart);
-        agree = agree-crashed (m .node) c _ (v .agree) (failed .incarnation) (failed .stable) refl (v .settled c below .not-ended);
+        agree = agree-crashed (μ .controller) c _ (v .agree) (failed .incarnation) (failed .stable) refl (v .settled c below .not-ended);
         sending-is = refl;
         receiver-is = refl;
       }))
 
--- H: b can hear of the crash that ended a's incarnation t
-pub record HearsOf (n : ℕ) (m : Model) (b a t : ℕ) : Type 0 where
-  pub hearer-below : b < n
-  pub owner-below : a < n
-  pub ended : 1 ≤ m .node a .ends a t
-  pub unheard : m .node b .ends a t ≡ 0
+-- H: the hearer can hear of the crash that ended incarnation i of the crashed controller
+pub record HearsOf (n : ℕ) (μ : Model) (hearer crashed i : ℕ) : Type 0 where
+  pub hearer-below : hearer < n
+  pub crashed-below : crashed < n
+  pub ended : 1 ≤ μ .controller crashed .ends crashed i
+  pub unheard : μ .controller hearer .ends crashed i ≡ 0
 
--- the node of b with a's end word noted
-abbrev pub notedNode : Model → ℕ → ℕ → ℕ → Node
-notedNode m b a t = noteNode (m .node b) a t (m .node a .ends a t)
+-- the hearer with the end word of that crash noted
+abbrev pub notedController : Model → ℕ → ℕ → ℕ → Controller
+notedController μ hearer crashed i = noteController (μ .controller hearer) crashed i (μ .controller crashed .ends crashed i)
 
 -- no live interval above number 1 has a condemned vector
-pub record NoneCondemned (n : ℕ) (k : Node) : Type 0 where
+pub record NoneCondemned (n : ℕ) (k : Controller) : Type 0 where
   pub none : (x : ℕ) → 2 ≤ x → x ≤ k .live → Condemned n k (k .vec x) → ⊥
 
 -- number j + 1 is the lowest above 1 that has one
-pub record LowestCondemned (n : ℕ) (k : Node) (j : ℕ) : Type 0 where
+pub record LowestCondemned (n : ℕ) (k : Controller) (j : ℕ) : Type 0 where
   pub pos : 1 ≤ j
   pub below : j < k .live
   pub condemned : Condemned n k (k .vec (j + 1))
   pub lowest : (x : ℕ) → 2 ≤ x → x ≤ j → Condemned n k (k .vec x) → ⊥
 
-module _ {n : ℕ} {m : Model} {h : History} (v : Inv n m h) {b a t : ℕ} (O : HearsOf n m b a t) where
-  open HearsOf O using (hearer-below, owner-below, ended, unheard)
+module _ {n : ℕ} {μ : Model} {h : History} (v : Inv n μ h) {b a i : ℕ} (O : HearsOf n μ b a i) where
+  open HearsOf O using (hearer-below, crashed-below, ended, unheard)
 
-  -- the node with the end word noted
-  abbrev noted : Node
-  noted = notedNode m b a t
+  -- the controller with the end word noted
+  abbrev noted : Controller
+  noted = notedController μ b a i
 
   -- the history in which b has heard the crash
   abbrev heard : History
-  heard = hearing h b a t
+  heard = hearing h b a i
 
   -- b is not the controller that crashed, which has heard its own crash
   other : b ≢ a
-  other e = let w : m .node b .ends a t ≡ m .node a .ends a t = rw e in omega (arith, ended, unheard)
+  other e = let w : μ .controller b .ends a i ≡ μ .controller a .ends a i = rw e in omega (arith, ended, unheard)
 
   -- what is marked
-  marks : Hears n h b (m .node b) a t (m .node a .ends a t)
+  marks : Hears n h b (μ .controller b) a i (μ .controller a .ends a i)
   marks =
       record {
         order = v .history;
-        ok = v .nodes b hearer-below;
+        ok = v .controller-ok b hearer-below;
         other = other;
         pos = ended;
         kept =
-            let d = v .nodes a owner-below .ended in
-            record { begun = λ l. d .end-begun t ended; stable = λ x z l. d .end-stable t x z ended l };
+            let d = v .controller-ok a crashed-below .ended in
+            record { begun = λ l. d .end-begun i ended; stable = λ x z l. d .end-stable i x z ended l };
       }
 
-  -- the noted node is in order
-  ok-noted : NodeOk heard b noted
-  ok-noted = heard-node marks
+  -- the noted controller is in order
+  ok-noted : ControllerOk heard b noted
+  ok-noted = heard-controller marks
 
-  -- all nodes with it
-  abbrev nodes : ℕ → Node
-  nodes = at (m .node) b noted
+  -- all controllers with it
+  abbrev controllers : ℕ → Controller
+  controllers = changedAt (μ .controller) b noted
 
   -- they are in order
-  nodes-ok : (c : ℕ) → c < n → NodeOk heard c (nodes c)
-  nodes-ok =
-      at-ind (λ c k. c < n → NodeOk heard c k) (m .node) b noted (λ l. ok-noted)
-      (λ c ne l. node-on (heard-ext marks) (heard-frame marks c ne) (v .nodes c l))
+  controllers-ok : (c : ℕ) → c < n → ControllerOk heard c (controllers c)
+  controllers-ok =
+      changedAt-ind (λ c k. c < n → ControllerOk heard c k) (μ .controller) b noted (λ l. ok-noted)
+      (λ c ne l. controller-on (heard-ext marks) (heard-frame marks c ne) (v .controller-ok c l))
 
   -- and their end words agree
-  nodes-agree : Agree nodes
-  unfolding noteNode
-  nodes-agree = agree-heard (m .node) b noted (v .agree) a t refl other
+  controllers-agree : EndsAgree controllers
+  unfolding noteController
+  controllers-agree = agree-heard (μ .controller) b noted (v .agree) a i refl other
 
   -- the live interval with number x
   abbrev live : ℕ → Interval
@@ -157,16 +157,16 @@ module _ {n : ℕ} {m : Model} {h : History} (v : Inv n m h) {b a t : ℕ} (O : 
   -- a live interval's vector is condemned exactly where the interval is spoilt by now
   spoilt-live : (x : ℕ) → 1 ≤ x → x ≤ noted .live → Spoilt heard b (live x) → Condemned n noted (noted .vec x)
   spoilt-live x p q l =
-      subst (λ k. Condemned n k (noted .vec x)) (at-same (m .node) b noted)
-      (spoilt-condemned {node = nodes} (heard-order marks) nodes-ok nodes-agree hearer-below (noted .vec x) (live x)
+      subst (λ k. Condemned n k (noted .vec x)) (changedAt-same (μ .controller) b noted)
+      (spoilt-condemned {controller = controllers} (heard-order marks) controllers-ok controllers-agree hearer-below (noted .vec x) (live x)
       (ok-noted .body .live-begun x p q) (ok-noted .body .tracked x p q) l)
 
   -- and the other way round
   condemned-live : (x : ℕ) → 1 ≤ x → x ≤ noted .live → Condemned n noted (noted .vec x) → Spoilt heard b (live x)
   condemned-live x p q z =
-      condemned-spoilt {node = nodes} (heard-order marks) nodes-ok nodes-agree hearer-below (noted .vec x) (live x)
+      condemned-spoilt {controller = controllers} (heard-order marks) controllers-ok controllers-agree hearer-below (noted .vec x) (live x)
       (ok-noted .body .live-begun x p q) (ok-noted .body .tracked x p q)
-      (subst (λ k. Condemned n k (noted .vec x)) (sym (at-same (m .node) b noted)) z)
+      (subst (λ k. Condemned n k (noted .vec x)) (sym (changedAt-same (μ .controller) b noted)) z)
 
   -- number 1 rests on itself alone and is stable, so it is never spoilt
   first-clean : Spoilt heard b (live 1) → ⊥
@@ -183,30 +183,30 @@ module _ {n : ℕ} {m : Model} {h : History} (v : Inv n m h) {b a t : ℕ} (O : 
 
   -- the hearer's own incarnation has not ended
   not-ended : noted .ends b (noted .incarnation) ≡ 0
-  unfolding noteNode
-  not-ended = at₂-other (m .node b .ends) a t _ b _ (λ p q. other p) ∙ v .settled b hearer-below .not-ended
+  unfolding noteController
+  not-ended = changedAt₂-other (μ .controller b .ends) a i _ b _ (λ p q. other p) ∙ v .settled b hearer-below .not-ended
 
   -- heard: nothing must be undone
-  pub keeps-heard : NoneCondemned n (notedNode m b a t) → Keeps n m h (putNode m b (notedNode m b a t)) (hearing h b a t)
+  pub keeps-heard : NoneCondemned n (notedController μ b a i) → Keeps n μ h (putController μ b (notedController μ b a i)) (hearing h b a i)
   unfolding hearing
   keeps-heard N =
       put-keeps v (record {
         order = heard-order marks;
         ext = heard-ext marks;
         frame = heard-frame marks;
-        back = λ c ne l i bi r. heard-back marks c ne i r;
+        back = λ c ne l y bi r. heard-back marks c ne y r;
         ok = ok-noted;
         settled = record { not-ended = not-ended; live-clean = kept-clean (noted .live) (omega arith) (N .none) };
-        agree = nodes-agree;
+        agree = controllers-agree;
         sending-is = refl;
         receiver-is = refl;
       })
 
   -- rolled: the numbers above j are undone
-  module _ {j : ℕ} (W : LowestCondemned n (notedNode m b a t) j) where
+  module _ {j : ℕ} (W : LowestCondemned n (notedController μ b a i) j) where
     -- the intervals with numbers up to j are kept
     abbrev kept : Interval → Bool
-    kept i = i .number ≤? j
+    kept y = y .number ≤? j
 
     -- they are the chain up to j
     cut : those kept (heard .chain b) ≡ chainOf b (noted .begunIn) j
@@ -231,7 +231,7 @@ module _ {n : ℕ} {m : Model} {h : History} (v : Inv n m h) {b a t : ℕ} (O : 
           order = heard-order marks;
           ok = ok-noted;
           fits = omega (arith, W .below);
-          on = λ i z. member-chain b (noted .begunIn) j i (rw cut at z);
+          on = λ y z. member-chain b (noted .begunIn) j y (rw cut at z);
           has = λ x p q. rw cut (chain-member b (noted .begunIn) j x (omega arith) q);
           clean = clean;
         }
@@ -240,13 +240,13 @@ module _ {n : ℕ} {m : Model} {h : History} (v : Inv n m h) {b a t : ℕ} (O : 
     abbrev logged : History
     logged = stabilized heard (those kept (heard .chain b))
 
-    -- the node in which they are
-    abbrev keeping : Node
-    keeping = loggedNode b noted j
+    -- the controller in which they are
+    abbrev keeping : Controller
+    keeping = loggedController b noted j
 
     -- and what it still has of the noted one
     logs-kept : Logged heard logged b noted j keeping
-    logs-kept = loggedNode-logged logs
+    logs-kept = loggedController-logged logs
 
     -- the others are gone, and b starts anew
     restart-after : Renews n logged b keeping j kept
@@ -266,33 +266,33 @@ module _ {n : ℕ} {m : Model} {h : History} (v : Inv n m h) {b a t : ℕ} (O : 
         }
 
     -- the end words that are left
-    ends-is : anewNode b keeping j .ends ≡ at₂ (m .node b .ends) a t (m .node a .ends a t)
-    unfolding anewNode noteNode
+    ends-is : anewController b keeping j .ends ≡ changedAt₂ (μ .controller b .ends) a i (μ .controller a .ends a i)
+    unfolding anewController noteController
     ends-is = logs-kept .ends-is
 
     -- the history is later, over the three parts of the step
     ext : Ext h (joined (leaving logged b kept) b (interval b (keeping .incarnation + 1) (j + 1))
         (logged .rests (interval b (keeping .begunIn j) j)) true)
-    unfolding anewNode
+    unfolding anewController
     ext = ext-trans (heard-ext marks) (ext-trans (logged-ext logs) (grown-ext (renews-grows restart-after)))
 
     -- what is kept is logged and clean, and what is spoilt is gone
-    pub keeps-rolled : Keeps n m h (putNode m b (anewNode b (loggedNode b (notedNode m b a t) j) j)) (rollingBack (hearing h b a t) b j)
-    unfolding rollingBack joined leaving stabilized hearing anewNode
+    pub keeps-rolled : Keeps n μ h (putController μ b (anewController b (loggedController b (notedController μ b a i) j) j)) (rollingBack (hearing h b a i) b j)
+    unfolding rollingBack joined leaving stabilized hearing anewController
     keeps-rolled =
-        subst (Keeps n m h (putNode m b (anewNode b keeping j))) (sym (restarting-is restart-after))
+        subst (Keeps n μ h (putController μ b (anewController b keeping j))) (sym (restarting-is restart-after))
         (put-keeps v (record {
           order = grown-order (renews-grows restart-after);
           ext = ext;
           frame = λ c ne.
               frame-trans (heard-ext marks) (heard-frame marks c ne)
               (frame-trans (logged-ext logs) (logged-frame logs c ne) (grown-frame (renews-grows restart-after) c ne));
-          back = λ c ne l i bi r.
-              let begun = logged-ext logs .begun-stays i (heard-ext marks .begun-stays i bi) in
-              heard-back marks c ne i (logged-back logs c i (grown-back (renews-grows restart-after) c i begun r));
-          ok = renewed-node restart-after;
+          back = λ c ne l y bi r.
+              let begun = logged-ext logs .begun-stays y (heard-ext marks .begun-stays y bi) in
+              heard-back marks c ne y (logged-back logs c y (grown-back (renews-grows restart-after) c y begun r));
+          ok = renewed-controller restart-after;
           settled = grown-settled (renews-grows restart-after);
-          agree = agree-heard (m .node) b _ (v .agree) a t ends-is other;
+          agree = agree-heard (μ .controller) b _ (v .agree) a i ends-is other;
           sending-is = refl;
           receiver-is = refl;
         }))

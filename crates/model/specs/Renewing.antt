@@ -8,10 +8,10 @@ use native.Mathlib.Omega.{arith}
 use borrow.Author.Tests.{eqb-true, eqb-false, eq-eqb, le-leb, lt-leb}
 use Rattle.base.specs.Choice.{_==_, cond-ind, le?}
 use Rattle.history.specs.History.{Interval, interval, History, newest, those, joined, leaving, restarting}
-use Rattle.model.specs.Model.{intervalOf, Node, full, filtered, renewed, newVec, anewNode}
-use Rattle.model.specs.Tests.{Is, at-same}
+use Rattle.model.specs.Model.{intervalOf, Controller, full, filtered, renewed, newVec, anewController}
+use Rattle.model.specs.Tests.{Is, changedAt-same}
 use Rattle.model.specs.Chain.{chainOf, OnChain, newest-chain}
-use Rattle.model.specs.Invariant.{Spoilt, Covers, Tracks, InOrder, NodeOk, live-or-spoilt, knows-on, spoilt-up}
+use Rattle.model.specs.Invariant.{Spoilt, Covers, Tracks, InOrder, ControllerOk, live-or-spoilt, knows-on, spoilt-up}
 use Rattle.model.specs.Vectors.{filtered-tracks}
 use Rattle.model.specs.Knowing.{knows-set}
 use Rattle.model.specs.Growing.{Grows, grown, grown-ext, grown-cases, grown-new, grown-stable}
@@ -26,10 +26,10 @@ renewed-new : {A : Type 0} (j : ℕ) (new none : A) (f : ℕ → A) → renewed 
 unfolding renewed
 renewed-new j new none f = rw (lt-leb (j + 1) j (omega arith), eq-eqb (j + 1) (j + 1) refl)
 
--- node k of c starts anew after number j, the test `kept` leaves the numbers up to j
-pub record Renews (n : ℕ) (h : History) (c : ℕ) (k : Node) (j : ℕ) (kept : Interval → Bool) : Type 0 where
+-- controller c, which is k, starts anew after number j, the test `kept` leaves the numbers up to j
+pub record Renews (n : ℕ) (h : History) (c : ℕ) (k : Controller) (j : ℕ) (kept : Interval → Bool) : Type 0 where
   pub order : InOrder n h
-  pub ok : NodeOk h c k
+  pub ok : ControllerOk h c k
   pub below : c < n
   pub pos : 1 ≤ j
   pub stable : j ≤ k .stable
@@ -37,7 +37,7 @@ pub record Renews (n : ℕ) (h : History) (c : ℕ) (k : Node) (j : ℕ) (kept :
   pub clean : (x : ℕ) → 1 ≤ x → x ≤ j → Spoilt h c (interval c (k .begunIn x) x) → ⊥
   pub gone : (x : ℕ) → j < x → x ≤ k .live → Spoilt h c (interval c (k .begunIn x) x)
 
-module _ {n : ℕ} {h : History} {c : ℕ} {k : Node} {j : ℕ} {kept : Interval → Bool} (R : Renews n h c k j kept) where
+module _ {n : ℕ} {h : History} {c : ℕ} {k : Controller} {j : ℕ} {kept : Interval → Bool} (R : Renews n h c k j kept) where
   open Renews R using (order, ok, below, pos, stable, cut, clean, gone)
 
   -- the newest that is kept
@@ -77,7 +77,7 @@ module _ {n : ℕ} {h : History} {c : ℕ} {k : Node} {j : ℕ} {kept : Interval
   kept-tracked : Tracks h (filtered k (k .vec j)) last
   kept-tracked = filtered-tracks k (k .vec j) last order (ok .knows) last-begun (ok .body .tracked j pos fits)
 
-  -- a full entry of the new vector is the new interval, or an entry of the kept one
+  -- a full pair of the new vector is the new interval, or a pair of the kept one
   new-sound : (a : ℕ) → Is (full (newVec c k j a)) →
       (intervalOf a (newVec c k j a) ≡ new) ⊎ Is (h .rests last (intervalOf a (newVec c k j a)))
   unfolding newVec
@@ -92,14 +92,14 @@ module _ {n : ℕ} {h : History} {c : ℕ} {k : Node} {j : ℕ} {kept : Interval
       cond-ind (λ p. Is (h .stable q) ⊎ Covers p q) (q .owner == c) (λ e. inl (own-stable q (eqb-true (q .owner) c e) r))
       (λ e. kept-tracked .cover q r)
 
-  -- the new interval is covered by its own entry
+  -- the new interval is covered by its own pair
   new-own : Covers (newVec c k j c) new
   unfolding newVec
   new-own = cond-ind (λ q. Covers q new) (c == c) (λ e. record { same = refl; upto = omega arith }) (λ e. absurd (eqb-false c c e refl))
 
   -- so the chain grows by the new interval after the cut
-  pub renews-grows : Grows n h c k (anewNode c k j) j kept (h .rests last) true (newVec c k j)
-  unfolding anewNode
+  pub renews-grows : Grows n h c k (anewController c k j) j kept (h .rests last) true (newVec c k j)
+  unfolding anewController
   renews-grows =
       record {
         order = order;
@@ -134,10 +134,10 @@ module _ {n : ℕ} {h : History} {c : ℕ} {k : Node} {j : ℕ} {kept : Interval
         own = new-own;
       }
 
-  -- the node is in order again
-  pub renewed-node : NodeOk (joined (leaving h c kept) c new (h .rests last) true) c (anewNode c k j)
-  unfolding anewNode
-  renewed-node =
+  -- the controller is in order again
+  pub renewed-controller : ControllerOk (joined (leaving h c kept) c new (h .rests last) true) c (anewController c k j)
+  unfolding anewController
+  renewed-controller =
       grown renews-grows (knows-set c (k .incarnation + 1) (j + 1) (knows-on (grown-ext renews-grows) (ok .knows))
       (record {
         begun = λ l. grown-new renews-grows;
@@ -148,5 +148,5 @@ module _ {n : ℕ} {h : History} {c : ℕ} {k : Node} {j : ℕ} {kept : Interval
   pub restarting-is : restarting (leaving h c kept) c ≡ joined (leaving h c kept) c new (h .rests last) true
   unfolding restarting leaving
   restarting-is =
-      let last-is : newest (leaving h c kept .chain c) ≡ last = ap newest (at-same (h .chain) c _ ∙ cut) ∙ newest-chain c (k .begunIn) j pos in
+      let last-is : newest (leaving h c kept .chain c) ≡ last = ap newest (changedAt-same (h .chain) c _ ∙ cut) ∙ newest-chain c (k .begunIn) j pos in
       rw (ok .shape .incarnation-is, last-is)

@@ -8,8 +8,8 @@ use native.Mathlib.Decide.{ℕ-discrete}
 use native.Mathlib.Omega.{arith}
 use borrow.Author.Tests.{eqb-true, eqb-false, eq-eqb, ne-eqb}
 use Rattle.base.specs.Choice.{_==_, and-left, and-right, cond-ind, le?}
-use Rattle.history.specs.History.{Interval, sameInterval, at, atInterval}
-use Rattle.model.specs.Model.{at₂}
+use Rattle.history.specs.History.{Interval, sameInterval, changedAt, changedAtInterval}
+use Rattle.model.specs.Model.{changedAt₂}
 
 -- the test b passes
 abbrev pub Is : Bool → Type 0
@@ -62,73 +62,73 @@ max-ind P m n f g =
     le? m n (λ l. let e : max m n ≡ n = omega arith in rw e (f l)) (λ l. let e : max m n ≡ m = omega arith in rw e (g l))
 
 -- a function changed at one number: what holds of the new value there and of the old ones elsewhere holds everywhere
-pub at-ind : {A : Type 0} (P : ℕ → A → Type 0) (f : ℕ → A) (i : ℕ) (a : A) → P i a → ((j : ℕ) → j ≢ i → P j (f j)) → (j : ℕ) → P j (at f i a j)
-unfolding at
-at-ind P f i a p q j =
-    cond-ind (P j) (j == i) (λ e. subst (λ k. P k a) (sym (eqb-true j i e)) p) (λ e. q j (eqb-false j i e))
+pub changedAt-ind : {A : Type 0} (P : ℕ → A → Type 0) (f : ℕ → A) (n : ℕ) (a : A) → P n a → ((k : ℕ) → k ≢ n → P k (f k)) → (k : ℕ) → P k (changedAt f n a k)
+unfolding changedAt
+changedAt-ind P f n a p q k =
+    cond-ind (P k) (k == n) (λ e. subst (λ z. P z a) (sym (eqb-true k n e)) p) (λ e. q k (eqb-false k n e))
 
 -- the new value
-pub at-same : {A : Type 0} (f : ℕ → A) (i : ℕ) (a : A) → at f i a i ≡ a
-unfolding at
-at-same f i a = rw (eq-eqb i i refl)
+pub changedAt-same : {A : Type 0} (f : ℕ → A) (n : ℕ) (a : A) → changedAt f n a n ≡ a
+unfolding changedAt
+changedAt-same f n a = rw (eq-eqb n n refl)
 
 -- the old values
-pub at-other : {A : Type 0} (f : ℕ → A) (i j : ℕ) (a : A) → j ≢ i → at f i a j ≡ f j
-unfolding at
-at-other f i j a ne = rw (ne-eqb j i ne)
+pub changedAt-other : {A : Type 0} (f : ℕ → A) (n k : ℕ) (a : A) → k ≢ n → changedAt f n a k ≡ f k
+unfolding changedAt
+changedAt-other f n k a ne = rw (ne-eqb k n ne)
 
 -- a function changed to what it had
-pub at-id : {A : Type 0} (f : ℕ → A) (i : ℕ) → at f i (f i) ≡ f
-at-id f i = fun-ext (at-ind (λ j a. a ≡ f j) f i (f i) refl (λ j ne. refl))
+pub changedAt-id : {A : Type 0} (f : ℕ → A) (n : ℕ) → changedAt f n (f n) ≡ f
+changedAt-id f n = fun-ext (changedAt-ind (λ k a. a ≡ f k) f n (f n) refl (λ k ne. refl))
 
 -- a table of numbers changed at one row and column
-pub at₂-ind : (P : ℕ → ℕ → ℕ → Type 0) (f : ℕ → ℕ → ℕ) (a t v : ℕ) → P a t v →
-    ((b s : ℕ) → (b ≡ a → s ≡ t → ⊥) → P b s (f b s)) → (b s : ℕ) → P b s (at₂ f a t v b s)
-unfolding at₂
-at₂-ind P f a t v p q b =
-    at-ind (λ b g. (s : ℕ) → P b s (g s)) f a (at (f a) t v) (at-ind (P a) (f a) t v p (λ s ne. q a s (λ e g. ne g))) (λ b ne s. q b s (λ e g. ne e)) b
+pub changedAt₂-ind : (P : ℕ → ℕ → ℕ → Type 0) (f : ℕ → ℕ → ℕ) (a i v : ℕ) → P a i v →
+    ((b s : ℕ) → (b ≡ a → s ≡ i → ⊥) → P b s (f b s)) → (b s : ℕ) → P b s (changedAt₂ f a i v b s)
+unfolding changedAt₂
+changedAt₂-ind P f a i v p q b =
+    changedAt-ind (λ b g. (s : ℕ) → P b s (g s)) f a (changedAt (f a) i v) (changedAt-ind (P a) (f a) i v p (λ s ne. q a s (λ e g. ne g))) (λ b ne s. q b s (λ e g. ne e)) b
 
 -- the new number
-pub at₂-same : (f : ℕ → ℕ → ℕ) (a t v : ℕ) → at₂ f a t v a t ≡ v
-at₂-same f a t v = at₂-ind (λ b s w. b ≡ a → s ≡ t → w ≡ v) f a t v (λ e g. refl) (λ b s ne e g. absurd (ne e g)) a t refl refl
+pub changedAt₂-same : (f : ℕ → ℕ → ℕ) (a i v : ℕ) → changedAt₂ f a i v a i ≡ v
+changedAt₂-same f a i v = changedAt₂-ind (λ b s w. b ≡ a → s ≡ i → w ≡ v) f a i v (λ e g. refl) (λ b s ne e g. absurd (ne e g)) a i refl refl
 
 -- the old numbers
-pub at₂-other : (f : ℕ → ℕ → ℕ) (a t v b s : ℕ) → (b ≡ a → s ≡ t → ⊥) → at₂ f a t v b s ≡ f b s
-at₂-other f a t v b s = at₂-ind (λ b s w. (b ≡ a → s ≡ t → ⊥) → w ≡ f b s) f a t v (λ ne. absurd (ne refl refl)) (λ b s ne z. refl) b s
+pub changedAt₂-other : (f : ℕ → ℕ → ℕ) (a i v b s : ℕ) → (b ≡ a → s ≡ i → ⊥) → changedAt₂ f a i v b s ≡ f b s
+changedAt₂-other f a i v b s = changedAt₂-ind (λ b s w. (b ≡ a → s ≡ i → ⊥) → w ≡ f b s) f a i v (λ ne. absurd (ne refl refl)) (λ b s ne z. refl) b s
 
 -- equal intervals
-pub interval-path : {i j : Interval} → i .owner ≡ j .owner → i .incarnation ≡ j .incarnation → i .number ≡ j .number → i ≡ j
+pub interval-path : {y j : Interval} → y .owner ≡ j .owner → y .incarnation ≡ j .incarnation → y .number ≡ j .number → y ≡ j
 interval-path p q r = λ d. record { owner = p d; incarnation = q d; number = r d }
 
 -- the test of two intervals says that they are equal
-pub same-true : (i j : Interval) → Is (sameInterval i j) → i ≡ j
+pub sameInterval-true : (y j : Interval) → Is (sameInterval y j) → y ≡ j
 unfolding sameInterval
-same-true i j e =
-    let rest = and-right (i .owner == j .owner) ((i .incarnation == j .incarnation) && (i .number == j .number)) e in
-    interval-path (eqb-true _ _ (and-left _ ((i .incarnation == j .incarnation) && (i .number == j .number)) e))
-    (eqb-true _ _ (and-left _ (i .number == j .number) rest))
-    (eqb-true _ _ (and-right (i .incarnation == j .incarnation) _ rest))
+sameInterval-true y j e =
+    let rest = and-right (y .owner == j .owner) ((y .incarnation == j .incarnation) && (y .number == j .number)) e in
+    interval-path (eqb-true _ _ (and-left _ ((y .incarnation == j .incarnation) && (y .number == j .number)) e))
+    (eqb-true _ _ (and-left _ (y .number == j .number) rest))
+    (eqb-true _ _ (and-right (y .incarnation == j .incarnation) _ rest))
 
 -- and an interval passes it with itself
-pub same-refl : (i : Interval) → Is (sameInterval i i)
+pub sameInterval-refl : (y : Interval) → Is (sameInterval y y)
 unfolding sameInterval
-same-refl i =
-    and-both (i .owner == i .owner) _ (eq-eqb (i .owner) _ refl)
-    (and-both (i .incarnation == i .incarnation) (i .number == i .number) (eq-eqb (i .incarnation) _ refl) (eq-eqb (i .number) _ refl))
+sameInterval-refl y =
+    and-both (y .owner == y .owner) _ (eq-eqb (y .owner) _ refl)
+    (and-both (y .incarnation == y .incarnation) (y .number == y .number) (eq-eqb (y .incarnation) _ refl) (eq-eqb (y .number) _ refl))
 
 -- a function changed at one interval
-pub atInterval-ind : {A : Type 0} (P : Interval → A → Type 0) (f : Interval → A) (i : Interval) (a : A) → P i a →
-    ((j : Interval) → j ≢ i → P j (f j)) → (j : Interval) → P j (atInterval f i a j)
-unfolding atInterval
-atInterval-ind P f i a p q j =
-    cond-ind (P j) (sameInterval j i) (λ e. subst (λ k. P k a) (sym (same-true j i e)) p) (λ e. q j (λ z. contrary (rw z (same-refl i)) e))
+pub changedAtInterval-ind : {A : Type 0} (P : Interval → A → Type 0) (f : Interval → A) (y : Interval) (a : A) → P y a →
+    ((j : Interval) → j ≢ y → P j (f j)) → (j : Interval) → P j (changedAtInterval f y a j)
+unfolding changedAtInterval
+changedAtInterval-ind P f y a p q j =
+    cond-ind (P j) (sameInterval j y) (λ e. subst (λ k. P k a) (sym (sameInterval-true j y e)) p) (λ e. q j (λ z. contrary (rw z (sameInterval-refl y)) e))
 
 -- the new value
-pub atInterval-same : {A : Type 0} (f : Interval → A) (i : Interval) (a : A) → atInterval f i a i ≡ a
-unfolding atInterval
-atInterval-same f i a = rw (same-refl i)
+pub changedAtInterval-same : {A : Type 0} (f : Interval → A) (y : Interval) (a : A) → changedAtInterval f y a y ≡ a
+unfolding changedAtInterval
+changedAtInterval-same f y a = rw (sameInterval-refl y)
 
 -- the old values
-pub atInterval-other : {A : Type 0} (f : Interval → A) (i j : Interval) (a : A) → j ≢ i → atInterval f i a j ≡ f j
-unfolding atInterval
-atInterval-other f i j a ne = cond-ind (λ z. z ≡ f j) (sameInterval j i) (λ e. absurd (ne (same-true j i e))) (λ e. refl)
+pub changedAtInterval-other : {A : Type 0} (f : Interval → A) (y j : Interval) (a : A) → j ≢ y → changedAtInterval f y a j ≡ f j
+unfolding changedAtInterval
+changedAtInterval-other f y j a ne = cond-ind (λ z. z ≡ f j) (sameInterval j y) (λ e. absurd (ne (sameInterval-true j y e))) (λ e. refl)

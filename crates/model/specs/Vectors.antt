@@ -7,53 +7,53 @@ use native.Mathlib.Omega.{arith}
 use borrow.Author.Tests.{eqb-false, ne-eqb, leb-true, leb-false, ltb-true, ltb-false, not-true}
 use Rattle.base.specs.Choice.{_==_, _≤?_, _<?_, cond-ind, le?}
 use Rattle.history.specs.History.{Interval, interval, History}
-use Rattle.model.specs.Model.{Entry, entry, intervalOf, Vec, Node, full, filtered, larger}
+use Rattle.model.specs.Model.{Pair, pair, intervalOf, Vec, Controller, full, filtered, larger}
 use Rattle.model.specs.Tests.{Is, not-passes}
-use Rattle.model.specs.Invariant.{Spoilt, Covers, Tracks, InOrder, Knows, NodeOk, Agree}
+use Rattle.model.specs.Invariant.{Spoilt, Covers, Tracks, InOrder, Knows, ControllerOk, EndsAgree}
 
--- an entry is full where its number is not 0
-pub full-pos : (p : Entry) → Is (full p) → 1 ≤ p .number
+-- a pair is full where its number is not 0
+pub full-pos : (p : Pair) → Is (full p) → 1 ≤ p .number
 unfolding full
 full-pos p e = let f = eqb-false (p .number) 0 (not-true (p .number == 0) e) in le? 1 (p .number) (λ l. l) (λ l. absurd (f (omega arith)))
 
 -- and the other way round
-pub pos-full : (p : Entry) → 1 ≤ p .number → Is (full p)
+pub pos-full : (p : Pair) → 1 ≤ p .number → Is (full p)
 unfolding full
 pos-full p l = not-passes (p .number == 0) (ne-eqb (p .number) 0 (λ e. omega arith))
 
--- a fact of a filtered entry: it is emptied where the holder knows it to be stable
-pub filtered-ind : (P : Entry → Type 0) (k : Node) (v : Vec) (a : ℕ) → (v a .number ≤ k .known a (v a .incarnation) → P (entry 0 0)) →
+-- a fact of a filtered pair: it is emptied where the holder knows it to be stable
+pub filtered-ind : (P : Pair → Type 0) (k : Controller) (v : Vec) (a : ℕ) → (v a .number ≤ k .known a (v a .incarnation) → P (pair 0 0)) →
     (k .known a (v a .incarnation) < v a .number → P (v a)) → P (filtered k v a)
 unfolding filtered
 filtered-ind P k v a f g =
     let x = v a .number in
-    let y = k .known a (v a .incarnation) in
-    cond-ind P (x ≤? y) (λ e. f (leb-true x y e)) (λ e. g (leb-false x y e))
+    let x′ = k .known a (v a .incarnation) in
+    cond-ind P (x ≤? x′) (λ e. f (leb-true x x′ e)) (λ e. g (leb-false x x′ e))
 
--- Filtering keeps what is not stable: a covered interval whose entry is known stable is stable.
-pub filtered-tracks : {n : ℕ} {h : History} (k : Node) (v : Vec) (i : Interval) → InOrder n h → Knows h (k .known) → Is (h .begun i) → Tracks h v i →
-    Tracks h (filtered k v) i
-filtered-tracks {n} {h} k v i ho ko b o =
+-- Filtering keeps what is not stable: a covered interval whose pair is known stable is stable.
+pub filtered-tracks : {n : ℕ} {h : History} (k : Controller) (v : Vec) (y : Interval) → InOrder n h → Knows h (k .known) → Is (h .begun y) → Tracks h v y →
+    Tracks h (filtered k v) y
+filtered-tracks {n} {h} k v y ho ko b o =
     record {
       sound = λ a.
-          filtered-ind (λ q. Is (full q) → Is (h .rests i (intervalOf a q))) k v a
-          (λ l f. absurd (let z = full-pos (entry 0 0) f in omega arith)) (λ l f. o .sound a f);
+          filtered-ind (λ q. Is (full q) → Is (h .rests y (intervalOf a q))) k v a
+          (λ l f. absurd (let z = full-pos (pair 0 0) f in omega arith)) (λ l f. o .sound a f);
       cover = λ j r. ⊎-elim (λ s. inl s) (covered j r) (o .cover j r);
     }
   where
-    covered : (j : Interval) → Is (h .rests i j) → Covers (v (j .owner)) j → Is (h .stable j) ⊎ Covers (filtered k v (j .owner)) j
+    covered : (j : Interval) → Is (h .rests y j) → Covers (v (j .owner)) j → Is (h .stable j) ⊎ Covers (filtered k v (j .owner)) j
     covered j r c =
         filtered-ind (λ q. Is (h .stable j) ⊎ Covers q j) k v (j .owner)
         (λ l. let m : v (j .owner) .number ≤ k .known (j .owner) (j .incarnation) = rw (c .same) at l in
-        inl (ko .known-stable (j .owner) (j .incarnation) (j .number) (ho .rests-begun i j b r) (omega (arith, c .upto))))
+        inl (ko .known-stable (j .owner) (j .incarnation) (j .number) (ho .rests-begun y j b r) (omega (arith, c .upto))))
         (λ l. inr c)
 
--- the larger of two entries is one of them, and covers what either covers if full ones have one incarnation
-pub larger-ind : (P : Entry → Type 0) (p q : Entry) → P p → P q → P (larger p q)
+-- the larger of two pairs is one of them, and covers what either covers if full ones have one incarnation
+pub larger-ind : (P : Pair → Type 0) (p q : Pair) → P p → P q → P (larger p q)
 unfolding larger
 larger-ind P p q a b = cond-ind P (p .number <? q .number) (λ e. b) (λ e. a)
 
-module _ (p q : Entry) (j : Interval) (pos : 1 ≤ j .number) (one : Is (full p) → Is (full q) → p .incarnation ≡ q .incarnation) where
+module _ (p q : Pair) (j : Interval) (pos : 1 ≤ j .number) (one : Is (full p) → Is (full q) → p .incarnation ≡ q .incarnation) where
   -- what the first covers
   pub larger-first : Covers p j → Covers (larger p q) j
   unfolding larger
@@ -70,18 +70,18 @@ module _ (p q : Entry) (j : Interval) (pos : 1 ≤ j .number) (one : Is (full p)
       (λ e. let l = ltb-false (p .number) (q .number) e in let u = c .upto in
       record { same = one (pos-full p (omega arith)) (pos-full q (omega arith)) ∙ c .same; upto = omega arith })
 
--- Vector v is condemned to a node: an entry of an owner below n exceeds the node's end word, which is not 0.
-pub record Condemned (n : ℕ) (k : Node) (v : Vec) : Type 0 where
+-- Vector v is condemned to a controller: a pair of an owner below n exceeds the controller's end word, which is not 0.
+pub record Condemned (n : ℕ) (k : Controller) (v : Vec) : Type 0 where
   pub owner : ℕ
   pub below : owner < n
   pub ended : 1 ≤ k .ends owner (v owner .incarnation)
   pub above : k .ends owner (v owner .incarnation) < v owner .number
 
 -- a vector that tracks an interval is condemned to c exactly where the interval rests on one lost in a crash that c has heard
-module _ {n : ℕ} {h : History} {c : ℕ} {node : ℕ → Node} (ho : InOrder n h) (nodes : (c : ℕ) → c < n → NodeOk h c (node c)) (agree : Agree node)
-    (below : c < n) (v : Vec) (i : Interval) (b : Is (h .begun i)) (o : Tracks h v i) where
-  -- a condemned entry is an interval that i rests on, above the end of a crash that was heard
-  pub condemned-spoilt : Condemned n (node c) v → Spoilt h c i
+module _ {n : ℕ} {h : History} {c : ℕ} {controller : ℕ → Controller} (ho : InOrder n h) (controller-ok : (c : ℕ) → c < n → ControllerOk h c (controller c)) (agree : EndsAgree controller)
+    (below : c < n) (v : Vec) (y : Interval) (b : Is (h .begun y)) (o : Tracks h v y) where
+  -- a condemned pair is an interval that y rests on, above the end of a crash that was heard
+  pub condemned-spoilt : Condemned n (controller c) v → Spoilt h c y
   condemned-spoilt e =
       let a = e .owner in
       let p = v a in
@@ -93,22 +93,22 @@ module _ {n : ℕ} {h : History} {c : ℕ} {node : ℕ → Node} (ho : InOrder n
         on = interval a (p .incarnation) (p .number);
         crash = p .incarnation;
         rests = r;
-        lost = nodes a (e .below) .ended .above-lost (p .incarnation) (p .number) (ho .rests-begun i _ b r) (omega arith) (omega arith);
-        heard = nodes c below .ended .end-heard a (p .incarnation) l;
+        lost = controller-ok a (e .below) .ended .above-lost (p .incarnation) (p .number) (ho .rests-begun y _ b r) (omega arith) (omega arith);
+        heard = controller-ok c below .ended .end-heard a (p .incarnation) l;
       }
 
-  -- what is lost is not stable, so its entry covers it, and it lies above the end of its crash
-  pub spoilt-condemned : Spoilt h c i → Condemned n (node c) v
+  -- what is lost is not stable, so its pair covers it, and it lies above the end of its crash
+  pub spoilt-condemned : Spoilt h c y → Condemned n (controller c) v
   spoilt-condemned r = ⊎-elim (λ s. absurd (ho .stable-not-lost _ _ s (r .lost))) covered (o .cover (r .on) (r .rests))
     where
-      covered : Covers (v (r .on .owner)) (r .on) → Condemned n (node c) v
+      covered : Covers (v (r .on .owner)) (r .on) → Condemned n (controller c) v
       covered g =
           let a = r .on .owner in
-          let al = ho .owner-below _ (ho .rests-begun i _ b (r .rests)) in
-          let (te, _, l, u) = nodes a al .ended .lost-above (r .on .incarnation) (r .on .number) (r .crash) (r .lost) in
-          let hd = nodes c below .ended .heard-end a (r .crash) (r .heard) in
+          let al = ho .owner-below _ (ho .rests-begun y _ b (r .rests)) in
+          let (te, _, l, u) = controller-ok a al .ended .lost-above (r .on .incarnation) (r .on .number) (r .crash) (r .lost) in
+          let hd = controller-ok c below .ended .heard-end a (r .crash) (r .heard) in
           let q = agree c a (r .crash) hd in
-          let t : v a .incarnation ≡ r .crash = g .same ∙ sym te in
-          let w : node a .ends a (r .crash) < r .on .number = rw te u in
+          let is : v a .incarnation ≡ r .crash = g .same ∙ sym te in
+          let w : controller a .ends a (r .crash) < r .on .number = rw te u in
           let z = g .upto in
-          record { owner = a; below = al; ended = rw t hd; above = rw t (omega arith) }
+          record { owner = a; below = al; ended = rw is hd; above = rw is (omega arith) }

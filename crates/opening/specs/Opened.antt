@@ -3,83 +3,80 @@ use mathlib.Core.Path.{_≡_, refl, sym, ap, _∙_}
 use mathlib.Core.Bool.{Bool, true, false, cond, _&&_, and-false}
 use mathlib.Core.Logic.{_≢_}
 use mathlib.Core.List.{List, [], _∷_, _++_}
-use Prim.Native.Nat.{ℕ, _+_, _-_, _*_, _≤_, _<_, zero-le}
+use Prim.Native.Nat.{ℕ, _+_, _-_, _≤_, _<_, zero-le}
 use native.Mathlib.Nat.{zero-add}
 use native.Mathlib.Omega.{arith}
 use lib.ListN.{length, getD, set, take, drop, replicate, length-set, getD-replicate, drop-of-length-le}
-use lib.Seq.{getD-set-same, getD-set-other, sets-eq}
+use lib.Seq.{getD-set-same, getD-set-other, sets, sets-eq}
 use borrow.Author.Tests.{eqb-true, eqb-false, eq-eqb, lt-ltb, le-ltb}
 use Rattle.base.specs.Choice.{_==_, _<?_, and-left, and-right, cond-ind, le?}
-use Rattle.base.specs.Lists.{tab, tab-of}
-use Rattle.table.specs.Field.{Field, State, OfHead, OfController, Known, End, OfPlace, OfMessage, Size, same}
+use Rattle.base.specs.Lists.{tab-of}
+use Rattle.table.specs.Field.{Field, State, OfHead, OfController, Known, End, OfPlace, OfMessage, Size, word, same}
 use Rattle.table.specs.Change.{put, put-ind, putPart, part-ind}
-use Rattle.table.specs.Layout.{controllers, controllerWords, placeWords, incarnations, rowsWords, knownFrom, tableWords, Valid, position}
-use Rattle.table.specs.Words.{state, words, words-of, words-state, word-at, wrote, words-same, Agree, agree-put, agree-part, lent-part, fits-controller}
-use Rattle.rules.specs.Vector.{Vector, pair, noPair}
+use Rattle.table.specs.Layout.{controllers, controllerWords, placeWords, tableWords, Valid, position}
+use Rattle.table.specs.Words.{state, words, words-of, words-state, words-same, Agree, agree-words, agree-put, agree-part, lent-part, fits-controller, called, then-put, then-part}
+use Rattle.rules.specs.Vector.{Pair, Vector, pair, noPair}
 use Rattle.rules.specs.Shared.{placeRecord}
-use Rattle.rules.specs.Steps.{openHouse}
-use Rattle.laws.specs.Agree.{called}
-use Rattle.interval.specs.Chain.{zeroWords, length-interval, zero-at, length-zero}
+use Rattle.rules.specs.Steps.{firstVector, openHouse}
+use Rattle.laws.specs.Records.{length-place-record}
+use Rattle.interval.specs.Walks.{zeroWords, zero-at, length-zero}
 
 -- degree k, incarnation 0, one live interval, which is stable
 unfoldable pub controllerRecord : ℕ → List ℕ
 controllerRecord k = k ∷ 0 ∷ 1 ∷ 1 ∷ []
 
--- c's own pair (0,1) alone
-unfoldable pub firstVector : ℕ → Vector
-firstVector c = tab controllers (λ (a : ℕ). cond (a == c) (pair 0 1) (pair 0 0))
+-- interval (0,1), which no message caused, flagged
+abbrev firstPlace : Vector → List ℕ
+firstPlace v = placeRecord 0 1 0 1 v
 
 -- σ with controller c begun
 unfoldable pub beginsAt : State → ℕ → ℕ → State
-beginsAt σ c k = putPart (put (putPart σ (OfController c 0) 0 (controllerRecord k)) (Known c c 0) 1) (OfPlace c 0 0) 0 (placeRecord 0 1 0 1 (firstVector c))
+beginsAt σ c k =
+    let counted = putPart σ (OfController c 0) 0 (controllerRecord k) in
+    putPart (put counted (Known c c 0) 1) (OfPlace c 0 0) 0 (firstPlace (firstVector c))
 
--- O n k with only the first i controllers begun
+-- O n k with only the controllers below c begun
 unfoldable pub openedTo : ℕ → ℕ → ℕ → State
-openedTo n k i = put (openHouse i k) Size n
+openedTo n k c = put (openHouse c k) Size n
 
--- four words stored one by one are a controller's record
-pub controller-stored : (d : List ℕ) (k : ℕ) → length d ≡ controllerWords → set (set (set (set d 0 k) 1 0) 2 1) 3 1 ≡ controllerRecord k
+-- the words stored one by one are a controller's record
+pub controller-stored : (d : List ℕ) (k : ℕ) → length d ≡ controllerWords → sets d 0 (k ∷ 0 ∷ 1 ∷ 1 ∷ []) ≡ controllerRecord k
 unfolding controllerRecord
 controller-stored d k l =
     let h : List ℕ = k ∷ 0 ∷ 1 ∷ 1 ∷ [] in
-    sets-eq h d 0 (omega arith) ∙ ap (λ (r : List ℕ). h ++ r) (drop-of-length-le d {i = 4} (omega arith))
+    sets-eq h d 0 (omega arith) ∙ ap (λ (r : List ℕ). h ++ r) (drop-of-length-le d {i = controllerWords} (omega arith))
 
 -- one pair stored in an empty vector
 pub own-stored : (c : ℕ) → c < controllers → set (replicate controllers noPair) c (pair 0 1) ≡ firstVector c
-unfolding firstVector
 own-stored c h = tab-of noPair controllers _ (set none c own) (length-set none c own) stored
   where
     none : Vector
     none = replicate controllers noPair
 
-    own : List ℕ
+    own : Pair
     own = pair 0 1
 
-    stored : (a : ℕ) → a < controllers → getD (set none c own) a noPair ≡ cond (a == c) own noPair
-    stored a l =
-        cond-ind (λ p. getD (set none c own) a noPair ≡ p) (a == c)
-        (λ e. ap (λ i. getD (set none c own) i noPair) (eqb-true a c e) ∙ getD-set-same none c own noPair h)
-        (λ e. getD-set-other none c a own noPair (eqb-false a c e) ∙ getD-replicate controllers a noPair noPair l)
+    stored : (owner : ℕ) → owner < controllers → getD (set none c own) owner noPair ≡ cond (owner == c) own noPair
+    stored owner l =
+        cond-ind (λ p. getD (set none c own) owner noPair ≡ p) (owner == c)
+        (λ e. ap (λ i. getD (set none c own) i noPair) (eqb-true owner c e) ∙ getD-set-same none c own noPair h)
+        (λ e. getD-set-other none c owner own noPair (eqb-false owner c e) ∙ getD-replicate controllers owner noPair noPair l)
 
--- c's own known word was stored
-known-stored : (σ : State) (c : ℕ) {t : List ℕ} → t ≡ words σ → c < controllers → set t (knownFrom + c * rowsWords + c * incarnations) 1 ≡ words (put σ (Known c c 0) 1)
-known-stored σ c {t} e cl =
-    let position : knownFrom + c * rowsWords + c * incarnations ≡ position (Known c c 0) = omega arith in
-    ap (λ i. set t i 1) position ∙ wrote σ (Known c c 0) 1 e (cl, cl, omega arith)
+-- the part of the table with c's own words was lent and came back as ys
+pub controller-lent : (t ys : List ℕ) (c k from to : ℕ) → length t ≡ tableWords → c < controllers → ys ≡ controllerRecord k → from ≡ position (OfController c 0) →
+    to ≡ from + controllerWords → take from t ++ (ys ++ drop (to - from) (drop from t)) ≡ words (putPart (state t) (OfController c 0) 0 (controllerRecord k))
+unfolding controllerRecord
+controller-lent t ys c k from to l cl e f q =
+    ap (λ from. take from t ++ (ys ++ drop (to - from) (drop from t))) f
+    ∙ lent-part (state t) (OfController c 0) 0 to t ys (controllerRecord k) (words-state t l) e (omega arith) (fits-controller c (controllerRecord k) cl (omega arith))
 
--- The part of the table with c's four words was lent and came back as ys, c's own known word was stored, and place 0 was
--- written.
-pub begun-at : (t ys u : List ℕ) (c k b : ℕ) (v : Vector) → length t ≡ tableWords → c < controllers → ys ≡ controllerRecord k →
-    b ≡ position (OfController c 0) + controllerWords → v ≡ firstVector c →
-    u ≡ words (putPart (state (set (take (position (OfController c 0)) t ++ (ys ++ drop (b - position (OfController c 0)) (drop (position (OfController c 0)) t)))
-    (knownFrom + c * rowsWords + c * incarnations) 1)) (OfPlace c 0 0) 0 (placeRecord 0 1 0 1 v)) → u ≡ words (beginsAt (state t) c k)
-unfolding beginsAt controllerRecord
-begun-at t ys u c k b v l cl e q f h =
-    let σ : State = putPart (state t) (OfController c 0) 0 (controllerRecord k) in
-    let part = lent-part (state t) (OfController c 0) 0 b t ys (controllerRecord k) (words-state t l) e q (fits-controller c (controllerRecord k) cl (omega arith)) in
-    let τ : State = put σ (Known c c 0) 1 in
-    called (λ σ. putPart σ (OfPlace c 0 0) 0 (placeRecord 0 1 0 1 v)) τ (known-stored σ c part cl) h (agree-part _ _ (OfPlace c 0 0) 0 _ (word-at τ))
-    ∙ ap (λ v. words (putPart τ (OfPlace c 0 0) 0 (placeRecord 0 1 0 1 v))) f
+-- then c's own known word was stored, and its place 0 was written
+pub begun-at : (t t₁ t₂ t₃ : List ℕ) (c k : ℕ) (v : Vector) → t₁ ≡ words (putPart (state t) (OfController c 0) 0 (controllerRecord k)) → t₂ ≡ words (put (state t₁) (Known c c 0) 1) →
+    v ≡ firstVector c → t₃ ≡ words (putPart (state t₂) (OfPlace c 0 0) 0 (firstPlace v)) → t₃ ≡ words (beginsAt (state t) c k)
+unfolding beginsAt
+begun-at t t₁ t₂ t₃ c k v e q f h =
+    then-part _ (OfPlace c 0 0) 0 (firstPlace (firstVector c)) (then-put _ (Known c c 0) 1 e q)
+    (h ∙ ap (λ v. words (putPart (state t₂) (OfPlace c 0 0) 0 (firstPlace v))) f)
 
 -- beginning a controller looks only at words of the table
 agree-begins : (σ τ : State) (c k : ℕ) → Agree σ τ → Agree (beginsAt σ c k) (beginsAt τ c k)
@@ -94,19 +91,19 @@ cond-zero false = refl
 -- where no controller is begun and the size is 0, every word is 0
 none-begun : (k : ℕ) (f : Field) → 0 ≡ openHouse 0 k f
 unfolding openHouse
-none-begun k (OfHead i) = cond-zero (i == 0)
-none-begun k (OfController c i) = simp (le-ltb c 0 zero-le)
-none-begun k (Known b a t) = simp (le-ltb b 0 zero-le)
-none-begun k (End b a t) = refl
-none-begun k (OfPlace c p i) = simp (le-ltb c 0 zero-le)
-none-begun k (OfMessage r i) = refl
+none-begun k (OfHead w) = cond-zero (w == word Size)
+none-begun k (OfController c w) = simp (le-ltb c 0 zero-le)
+none-begun k (Known holder owner i) = simp (le-ltb holder 0 zero-le)
+none-begun k (End holder owner i) = refl
+none-begun k (OfPlace c p w) = simp (le-ltb c 0 zero-le)
+none-begun k (OfMessage r w) = refl
 
--- the cleared table, with the number of controllers stored
-pub opened-none : (t : List ℕ) (n k : ℕ) → t ≡ zeroWords tableWords → set t 0 n ≡ words (openedTo n k 0)
+-- the table was cleared, and the number of controllers stored
+pub opened-none : (t u : List ℕ) (n k : ℕ) → t ≡ zeroWords tableWords → u ≡ words (put (state t) Size n) → u ≡ words (openedTo n k 0)
 unfolding openedTo
-opened-none t n k e =
-    wrote (openHouse 0 k) Size n
-    (e ∙ words-of (openHouse 0 k) (zeroWords tableWords) (length-zero tableWords) (λ f v. zero-at tableWords (position f) ∙ none-begun k f)) (omega arith)
+opened-none t u n k e q =
+    then-put (openHouse 0 k) Size n
+    (e ∙ words-of (openHouse 0 k) (zeroWords tableWords) (length-zero tableWords) (λ f v. zero-at tableWords (position f) ∙ none-begun k f)) q
 
 -- the size that was put hides the one below it
 cond-twice : (b : Bool) (n m : ℕ) → cond (b && true) n (cond b m 0) ≡ cond b n 0
@@ -114,9 +111,9 @@ cond-twice true n m = refl
 cond-twice false n m = refl
 
 -- the head does not depend on how many controllers are begun
-head-put : (n k c i : ℕ) → openedTo n k c (OfHead i) ≡ openHouse n k (OfHead i)
+head-put : (n k c w : ℕ) → openedTo n k c (OfHead w) ≡ openHouse n k (OfHead w)
 unfolding openedTo openHouse put same
-head-put n k c i = cond-twice (i == 0) n c
+head-put n k c w = cond-twice (w == word Size) n c
 
 -- a controller other than c is begun before c's turn just if it is begun after it
 begun-other : (d c : ℕ) → d ≢ c → (d <? c) ≡ (d <? c + 1)
@@ -130,26 +127,28 @@ and-where x y true h = ap (λ z. z && true) (h refl)
 and-where x y false h = and-false x ∙ sym (and-false y)
 
 -- c's turn leaves the other words as they are
-turn-other : (n k c : ℕ) (g : Field) → Valid g → ((i : ℕ) → i < placeWords → g ≢ OfPlace c 0 i) → g ≢ Known c c 0 → ((i : ℕ) → i < controllerWords → g ≢ OfController c i) →
+turn-other : (n k c : ℕ) (g : Field) → Valid g → ((w : ℕ) → w < placeWords → g ≢ OfPlace c 0 w) → g ≢ Known c c 0 → ((w : ℕ) → w < controllerWords → g ≢ OfController c w) →
     openedTo n k c g ≡ openedTo n k (c + 1) g
-unfolding openedTo openHouse put same firstVector
-turn-other n k c (OfHead i) v place known own = head-put n k c i ∙ sym (head-put n k (c + 1) i)
-turn-other n k c (OfController d i) v place known own =
-    ap (λ b. cond b (getD (k ∷ 0 ∷ 1 ∷ 1 ∷ []) i 0) 0) (begun-other d c (λ e. own i (v .1) (ap (λ x. OfController x i) e)))
-turn-other n k c (Known b a t) v place known own =
+unfolding openedTo openHouse put same controllerRecord
+turn-other n k c (OfHead w) v place known own = head-put n k c w ∙ sym (head-put n k (c + 1) w)
+turn-other n k c (OfController d w) v place known own =
+    ap (λ b. cond b (getD (controllerRecord k) w 0) 0) (begun-other d c (λ e. own w (v .1) (ap (λ x. OfController x w) e)))
+turn-other n k c (Known holder owner i) v place known own =
     ap (λ b. cond b 1 0)
-    (and-where (b <? c) (b <? c + 1) ((b == a) && (t == 0))
-    (λ e. begun-other b c (λ q. known (λ d. Known (q d) ((sym (eqb-true b a (and-left (b == a) _ e)) ∙ q) d) (eqb-true t 0 (and-right (b == a) _ e) d)))))
-turn-other n k c (End b a t) v place known own = refl
-turn-other n k c (OfPlace d p i) v place known own =
-    ap (λ b. cond b (getD (placeRecord 0 1 0 1 (firstVector d)) i 0) 0)
-    (and-where (d <? c) (d <? c + 1) (p == 0) (λ e. begun-other d c (λ q. place i (v .2) (λ x. OfPlace (q x) (eqb-true p 0 e x) i))))
-turn-other n k c (OfMessage r i) v place known own = refl
+    (and-where (holder <? c) (holder <? c + 1) ((holder == owner) && (i == 0))
+    (λ e. let same = eqb-true holder owner (and-left (holder == owner) _ e) in
+    let first = eqb-true i 0 (and-right (holder == owner) _ e) in
+    begun-other holder c (λ q. known (λ d. Known (q d) ((sym same ∙ q) d) (first d)))))
+turn-other n k c (End holder owner i) v place known own = refl
+turn-other n k c (OfPlace d p w) v place known own =
+    ap (λ b. cond b (getD (firstPlace (firstVector d)) w 0) 0)
+    (and-where (d <? c) (d <? c + 1) (p == 0) (λ e. begun-other d c (λ q. place w (v .2) (λ x. OfPlace (q x) (eqb-true p 0 e x) w))))
+turn-other n k c (OfMessage r w) v place known own = refl
 
 -- the opened state has the words that c's turn writes: the controller's words
-turn-controller : (n k c i : ℕ) → getD (controllerRecord k) i 0 ≡ openedTo n k (c + 1) (OfController c (0 + i))
+turn-controller : (n k c w : ℕ) → getD (controllerRecord k) w 0 ≡ openedTo n k (c + 1) (OfController c (0 + w))
 unfolding openedTo openHouse put same controllerRecord
-turn-controller n k c i = simp (lt-ltb c (c + 1) (omega arith), zero-add)
+turn-controller n k c w = simp (lt-ltb c (c + 1) (omega arith), zero-add)
 
 -- its own known word
 turn-known : (n k c : ℕ) → 1 ≡ openedTo n k (c + 1) (Known c c 0)
@@ -157,43 +156,42 @@ unfolding openedTo openHouse put same
 turn-known n k c = simp (lt-ltb c (c + 1) (omega arith), eq-eqb c c refl)
 
 -- the words of its place 0
-turn-place : (n k c i : ℕ) → getD (placeRecord 0 1 0 1 (firstVector c)) i 0 ≡ openedTo n k (c + 1) (OfPlace c 0 (0 + i))
-unfolding openedTo openHouse put same firstVector
-turn-place n k c i = simp (lt-ltb c (c + 1) (omega arith), zero-add)
+turn-place : (n k c w : ℕ) → getD (firstPlace (firstVector c)) w 0 ≡ openedTo n k (c + 1) (OfPlace c 0 (0 + w))
+unfolding openedTo openHouse put same
+turn-place n k c w = simp (lt-ltb c (c + 1) (omega arith), zero-add)
 
 -- c's turn takes the state with the controllers below c begun to the next one
 begins-next : (n k c : ℕ) → Agree (beginsAt (openedTo n k c) c k) (openedTo n k (c + 1))
 unfolding beginsAt controllerRecord
 begins-next n k c =
-    part-ind (λ g y. Valid g → y ≡ openedTo n k (c + 1) g) _ (OfPlace c 0 0) 0 place (λ i h v. turn-place n k c i)
+    part-ind (λ g y. Valid g → y ≡ openedTo n k (c + 1) g) _ (OfPlace c 0 0) 0 place (λ w h v. turn-place n k c w)
     (λ g ne v. put-ind (λ g y. Valid g → NoPlace g → y ≡ openedTo n k (c + 1) g) _ (Known c c 0) 1 (λ v ne. turn-known n k c)
     (λ g nk v ne. part-ind (λ g y. Valid g → NoPlace g → g ≢ Known c c 0 → y ≡ openedTo n k (c + 1) g) (openedTo n k c) (OfController c 0) 0 (controllerRecord k)
-    (λ i h v ne nk. turn-controller n k c i)
-    (λ g no v ne nk. turn-other n k c g v (λ i l e. ne i (omega (arith, length-interval 0 1 0 1 (firstVector c))) (e ∙ ap (OfPlace c 0) (sym (zero-add i)))) nk
-    (λ i l e. no i l (e ∙ ap (OfController c) (sym (zero-add i))))) g v ne nk) g v ne)
+    (λ w h v ne nk. turn-controller n k c w)
+    (λ g no v ne nk. turn-other n k c g v (λ w l e. ne w (omega (arith, length-place-record 0 1 0 1 (firstVector c))) (e ∙ ap (OfPlace c 0) (sym (zero-add w)))) nk
+    (λ w l e. no w l (e ∙ ap (OfController c) (sym (zero-add w))))) g v ne nk) g v ne)
   where
     place : List ℕ
-    place = placeRecord 0 1 0 1 (firstVector c)
+    place = firstPlace (firstVector c)
 
     NoPlace : Field → Type 0
-    NoPlace g = (i : ℕ) → i < length place → g ≢ OfPlace c 0 (0 + i)
+    NoPlace g = (w : ℕ) → w < length place → g ≢ OfPlace c 0 (0 + w)
 
 -- a call has begun the next controller
 pub opened-next : (n k c : ℕ) (t u : List ℕ) → t ≡ words (openedTo n k c) → u ≡ words (beginsAt (state t) c k) → u ≡ words (openedTo n k (c + 1))
 opened-next n k c t u e q =
-    called (λ σ. beginsAt σ c k) (openedTo n k c) e q (agree-begins _ _ c k (word-at (openedTo n k c)))
-    ∙ words-same _ _ (begins-next n k c)
+    called (λ σ. beginsAt σ c k) (openedTo n k c) e q (agree-begins _ _ c k (agree-words (openedTo n k c) e)) ∙ words-same _ _ (begins-next n k c)
 
 -- with all n controllers begun it is the opened state
 all-begun : (n k : ℕ) → Agree (openedTo n k n) (openHouse n k)
 unfolding openedTo openHouse put same
-all-begun n k (OfHead i) v = head-put n k n i
-all-begun n k (OfController d i) v = refl
-all-begun n k (Known b a t) v = refl
-all-begun n k (End b a t) v = refl
-all-begun n k (OfPlace d p i) v = refl
-all-begun n k (OfMessage r i) v = refl
+all-begun n k (OfHead w) v = head-put n k n w
+all-begun n k (OfController d w) v = refl
+all-begun n k (Known holder owner i) v = refl
+all-begun n k (End holder owner i) v = refl
+all-begun n k (OfPlace d p w) v = refl
+all-begun n k (OfMessage r w) v = refl
 
 -- the loop has come to its end, with all controllers begun
 pub opened-all : (n k c : ℕ) (t : List ℕ) → t ≡ words (openedTo n k c) → c ≤ n → n ≤ c → t ≡ words (openHouse n k)
-opened-all n k c t e l m = e ∙ ap (λ i. words (openedTo n k i)) (omega arith) ∙ words-same _ _ (all-begun n k)
+opened-all n k c t e l m = e ∙ ap (λ c. words (openedTo n k c)) (omega arith) ∙ words-same _ _ (all-begun n k)

@@ -5,37 +5,40 @@ ghost use lib.ListN.{length};
 ghost use Rattle.base.specs.Cases.{firstOf};
 ghost use Rattle.table.specs.Layout.{controllers, controllerWords, tableWords};
 ghost use Rattle.table.specs.Words.{state, words};
-ghost use Rattle.rules.specs.Steps.{openRefusals, stepOpen};
+ghost use Rattle.rules.specs.Steps.{firstVector, openHouse, openRefusals, stepOpen};
 ghost use Rattle.rules.specs.Step.{out, written};
-ghost use Rattle.opening.specs.Opened.{controllerRecord, firstVector, beginsAt};
+ghost use Rattle.laws.specs.Allowed.{OpenAllowed};
+ghost use Rattle.opening.specs.Opened.{controllerRecord, beginsAt};
 use rules::Answer;
+use rules::refusal;
+use vector::Vector;
 
 pub fn open_refusal(n: u32, k: u32) -> u32
     ensures { λ no. ⌜ no ≡ firstOf (openRefusals n k) ⌝ }
 {
     if (n == 0) | ((table::CONTROLLERS as u32) < n) | (n < k) {
-        return 5;
+        return refusal::DEGREE;
     }
     0
 }
 
-// A controller's four words: degree k, incarnation 0, one live interval, which is stable.
+// A controller's record: degree k, incarnation 0, one live interval, which is stable.
 pub fn write_controller(d: &mut [u32], k: u32)
     requires { ⌜ length (now d) ≡ controllerWords ⌝ }
     ensures { λ _. ⌜ now (d .exit) ≡ controllerRecord k ⌝ }
 {
-    d[0] = k;
-    d[1] = 0;
-    d[2] = 1;
-    d[3] = 1;
+    d[table::DEGREE_WORD] = k;
+    d[table::INCARNATION_WORD] = 0;
+    d[table::LIVE_COUNT_WORD] = 1;
+    d[table::STABLE_COUNT_WORD] = 1;
 }
 
 // The vector of c's first interval: its own pair (0,1) alone.
-pub fn first_vector(c: usize) -> [[u32; 2]; 8]
+pub fn first_vector(c: usize) -> Vector
     requires { ⌜ c < controllers ⌝ }
     ensures { λ v. ⌜ v ≡ firstVector c ⌝ }
 {
-    let mut v = [[0u32; 2]; 8];
+    let mut v = [[0u32; 2]; table::CONTROLLERS];
     let own = [0, 1];
     v[c] = own;
     v
@@ -46,12 +49,26 @@ pub fn open_controller(t: &mut [u32], c: usize, k: u32)
     requires { ⌜ (length (now t) ≡ tableWords) × (c < controllers) ⌝ }
     ensures { λ _. ⌜ now (t .exit) ≡ words (beginsAt (state (now (t .entry))) c k) ⌝ }
 {
-    let from = table::CONTROLLERS_FROM + c * table::CONTROLLER_WORDS;
+    let from = table::controller_at(c);
     let to = from + table::CONTROLLER_WORDS;
     write_controller(&mut t[from..to], k);
-    t[table::KNOWN + c * table::ROWS_WORDS + c * table::INCARNATIONS] = 1;
+    table::set_known(t, c, c, 0, 1);
     let v = first_vector(c);
     interval::write_place(t, c, 0, 0, 1, 0, 1, v);
+}
+
+// Every word becomes 0, the head gets n, and each of the n controllers begins.
+pub fn open_house(t: &mut [u32], n: u32, k: u32)
+    requires { ⌜ (length (now t) ≡ tableWords) × OpenAllowed n k ⌝ }
+    ensures { λ _. ⌜ now (t .exit) ≡ words (openHouse n k) ⌝ }
+{
+    interval::clear(t);
+    table::set_size(t, n);
+    let mut c = 0;
+    while c < n as usize {
+        open_controller(t, c, k);
+        c += 1;
+    }
 }
 
 // O n k, on a table of the right length.
@@ -63,12 +80,6 @@ pub fn open(t: &mut [u32], n: u32, k: u32) -> Answer
     if no != 0 {
         return Answer::Refused(no);
     }
-    interval::clear(t);
-    t[table::SIZE] = n;
-    let mut c = 0;
-    while c < n as usize {
-        open_controller(t, c, k);
-        c += 1;
-    }
+    open_house(t, n, k);
     Answer::Done
 }

@@ -1,83 +1,104 @@
--- What X leaves, on variables.
-use mathlib.Core.Path.{_≡_, sym, ap, _∙_}
-use mathlib.Core.Bool.{true}
+-- What X counts on, and what it leaves.
+use mathlib.Core.Path.{_≡_, refl, sym, ap, _∙_, subst}
+use mathlib.Core.Bool.{false}
 use mathlib.Core.List.{List}
-use Prim.Native.Nat.{ℕ, _-_, _≤_}
+use Prim.Native.Nat.{ℕ, _-_, _≤_, _<_}
 use native.Mathlib.Omega.{arith}
-use lib.ListN.{length, set}
-use Rattle.base.specs.Cases.{firstOf}
-use Rattle.table.specs.Field.{State, End, Incarnation, LiveCount, StableCount, same}
+use lib.ListN.{length}
+use borrow.Author.Tests.{le-leb, lt-leb}
+use Rattle.base.specs.Choice.{_≤?_}
+use Rattle.base.specs.Cases.{Case, firstOf, none, hit, skip}
+use Rattle.table.specs.Field.{State, End, Size, Incarnation, LiveCount, StableCount}
 use Rattle.table.specs.Change.{put}
-use Rattle.table.specs.Layout.{tableWords, position}
-use Rattle.table.specs.Words.{state, words, wrote}
+use Rattle.table.specs.Layout.{controllers, places, tableWords}
+use Rattle.table.specs.Words.{state, words, then-put}
 use Rattle.table.specs.Numbering.{numberOf}
-use Rattle.rules.specs.Limits.{house}
-use Rattle.rules.specs.Vector.{placeVector}
+use Rattle.rules.specs.Limits.{house, lastIncarnation}
+use Rattle.rules.specs.Refusal.{CONTROLLER, PLACES-USED-UP, INCARNATIONS-USED-UP}
+use Rattle.rules.specs.Form.{stateLost}
 use Rattle.rules.specs.Shared.{causes, startAnew, replayed}
-use Rattle.rules.specs.Steps.{crashRefusals, crashed, stepCrash}
+use Rattle.rules.specs.Steps.{noController, crashRefusals, crashed, stepCrash}
 use Rattle.rules.specs.Step.{out, written}
 use Rattle.rules.specs.declared.Answer.the-variants.{Crashed}
-use Rattle.laws.specs.Facts.{form, controllerForm}
+use Rattle.laws.specs.Facts.{form, below-8, controllerForm}
 use Rattle.laws.specs.Allowed.{crashAllowed}
 use Rattle.laws.specs.Answering.{Lent, granted}
-use Rattle.recovery.specs.Removal.{fate, Starts, Chained}
-use Rattle.recovery.specs.Ready.{Ready, chained-of, ready-of, ready-starts, starts-leave, causes-ready}
+use Rattle.laws.specs.Chain.{chain-of, Starts, starts-put, starts-words, starts-causes}
+use Rattle.recovery.specs.Kept.{then-start}
 
--- a crash that is not refused
+-- The code has read n, how many controllers there are, k, the stable count, and i, the incarnation: which refusal applies.
+module _ (t : List ℕ) (c n : ℕ) (en : n ≡ state t Size) where
+  abbrev cases : List Case
+  cases = crashRefusals house (state t) c
+
+  pub crash-unknown : n ≤ c → CONTROLLER ≡ firstOf cases
+  crash-unknown l = hit _ _ _ (le-leb (state t Size) c (omega arith))
+
+  module _ (l : c < n) where
+    known : noController (state t) c ≡ false
+    known = lt-leb (state t Size) c (omega arith)
+
+    pub crash-named : Lent t → c < controllers
+    crash-named w = below-8 (form (state t) (w .good)) c (omega arith)
+
+    module _ (k : ℕ) (ek : k ≡ state t (StableCount c)) where
+      pub crash-full : places ≤ k → PLACES-USED-UP ≡ firstOf cases
+      crash-full m = skip _ _ _ _ known (hit _ _ _ (le-leb places (state t (StableCount c)) (omega arith)))
+
+      module _ (m : k < places) (i : ℕ) (ei : i ≡ state t (Incarnation c)) where
+        room : (places ≤? state t (StableCount c)) ≡ false
+        room = lt-leb places (state t (StableCount c)) (omega arith)
+
+        pub crash-late : lastIncarnation ≤ i → INCARNATIONS-USED-UP ≡ firstOf cases
+        crash-late h = skip _ _ _ _ known (skip _ _ _ _ room (hit _ _ _ (le-leb lastIncarnation (state t (Incarnation c)) (omega arith))))
+
+        pub crash-free : i < lastIncarnation → 0 ≡ firstOf cases
+        crash-free h = skip _ _ _ _ known (skip _ _ _ _ room (skip _ _ _ _ (lt-leb lastIncarnation (state t (Incarnation c)) (omega arith)) none))
+
+-- a crash that none of its refusals stops
 pub record Crashes (t : List ℕ) (c : ℕ) : Type 0 where
   pub free : 0 ≡ firstOf (crashRefusals house (state t) c)
   pub long : length t ≡ tableWords
-  pub chained : Chained (state t) c
-  pub stable-le : state t (StableCount c) ≤ state t (LiveCount c)
-  pub ready : Ready (state t) c (state t (StableCount c))
+  pub starts : Starts (state t) c (state t (StableCount c))
 
--- a table in form with no refusal gives it
-pub may-crash : (t : List ℕ) (c x : ℕ) → Lent t → x ≡ firstOf (crashRefusals house (state t) c) → x ≡ 0 → Crashes t c
-may-crash t c x l e z =
+pub crashes : (t : List ℕ) (c n : ℕ) → Lent t → n ≡ firstOf (crashRefusals house (state t) c) → n ≡ 0 → Crashes t c
+crashes t c n l e z =
     let a = crashAllowed (state t) c (sym z ∙ e) in
     let k = controllerForm (form (state t) (l .good)) c (a .controller-lt) in
-    let w = chained-of t c l (a .controller-lt) in
     record {
       free = sym z ∙ e;
       long = l .long;
-      chained = w;
-      stable-le = k .stable-le;
-      ready = ready-of (state t) c _ w (k .stable-pos) (a .room) (k .stable-le) (a .incarnation-lt);
+      starts = record { chain = chain-of t c l (a .controller-lt); kept = k .stable-pos; room = a .room; below = k .stable-le; left = a .incarnation-lt };
     }
 
--- the state before the start: the causes got theirs, and the end word is put
-abbrev ending : State → ℕ → ℕ → State
-ending σ c x = put (causes σ c (σ (StableCount c)) (fate σ c true)) (End c c (σ (Incarnation c))) x
+-- The code has read k, the stable count, i, the incarnation, and x, the kept number. t₁ has the causes' states, t₂ also the end word.
+module _ (t t₁ t₂ : List ℕ) (c k i x : ℕ) (s : Starts (state t) c (state t (StableCount c))) (ek : k ≡ state t (StableCount c))
+    (e₁ : t₁ ≡ words (causes (state t) c k (λ (r : ℕ). stateLost))) (e₂ : t₂ ≡ words (put (state t₁) (End c c i) x)) where
+  abbrev ended : State
+  ended = put (causes (state t) c k (λ (r : ℕ). stateLost)) (End c c i) x
 
--- a start is ready on it
-ending-ready : (σ : State) (c k x : ℕ) → Ready σ c k → Ready (ending σ c x) c k
-unfolding put same placeVector
-ending-ready σ c k x r =
-    let q = causes-ready σ c k (σ (StableCount c)) (fate σ c true) r in
-    record { named = q .named; kept = q .kept; room = q .room; below = q .below; live-le = q .live-le; left = q .left; near = q .near }
+  ended-words : t₂ ≡ words ended
+  ended-words = then-put _ (End c c i) x e₁ e₂
 
--- the code's table has its words
-ending-words : (t t₁ : List ℕ) (c x : ℕ) → Crashes t c → t₁ ≡ words (causes (state t) c (state t (StableCount c)) (fate (state t) c true)) →
-    set t₁ (position (End c c (state t (Incarnation c)))) x ≡ words (ending (state t) c x)
-ending-words t t₁ c x w e = wrote _ (End c c (state t (Incarnation c))) x e (w .ready .named, w .ready .named, omega (arith, w .ready .left))
+  ended-starts : Starts ended c k
+  ended-starts = starts-put _ c k (End c c i) x refl (starts-causes (state t) c k k _ (subst (Starts (state t) c) (sym ek) s))
 
--- the start may be called
-pub crash-starts : (t t₁ : List ℕ) (c x : ℕ) → Crashes t c → t₁ ≡ words (causes (state t) c (state t (StableCount c)) (fate (state t) c true)) →
-    Starts (set t₁ (position (End c c (state t (Incarnation c)))) x) c (state t (StableCount c))
-crash-starts t t₁ c x w e = ready-starts (ending (state t) c x) c _ (ending-ready (state t) c _ x (w .ready)) (ending-words t t₁ c x w e)
+  pub lost-starts : Starts (state t₂) c k
+  lost-starts = starts-words ended c k ended-words ended-starts
 
--- the start on it is the rule's crash
-ending-crashed : (σ : State) (c x : ℕ) → x ≡ numberOf σ c (σ (StableCount c)) → startAnew (ending σ c x) c (σ (StableCount c)) ≡ crashed σ c
-unfolding crashed fate
-ending-crashed σ c x n = ap (λ x. startAnew (ending σ c x) c (σ (StableCount c))) n
+  pub lost-words : (t₃ : List ℕ) → i ≡ state t (Incarnation c) → x ≡ numberOf (state t) c k → t₃ ≡ words (startAnew (state t₂) c k) → t₃ ≡ words (crashed (state t) c)
+  unfolding crashed
+  lost-words t₃ ei ex e₃ =
+      let n = ex ∙ ap (numberOf (state t) c) ek in
+      then-start ended c k ended-starts ended-words e₃
+      ∙ (λ d. words (startAnew (put (causes (state t) c (ek d) (λ (r : ℕ). stateLost)) (End c c (ei d)) (n d)) c (ek d)))
 
--- answer and words after the start are those of the step
-pub crash-done : (t t₁ t₂ : List ℕ) (c x again : ℕ) → Crashes t c → x ≡ numberOf (state t) c (state t (StableCount c)) → again ≡ replayed (state t) c (state t (StableCount c)) →
-    t₁ ≡ words (causes (state t) c (state t (StableCount c)) (fate (state t) c true)) →
-    t₂ ≡ words (startAnew (state (set t₁ (position (End c c (state t (Incarnation c)))) x)) c (state t (StableCount c))) →
-    out (Crashed c (state t (Incarnation c)) x (state t (LiveCount c) - state t (StableCount c)) again) t₂ ≡ written (stepCrash house (state t) c)
+-- answer and words are those of the step
+pub crash-done : (t u : List ℕ) (c i live k x again : ℕ) → Crashes t c → i ≡ state t (Incarnation c) → live ≡ state t (LiveCount c) → k ≡ state t (StableCount c) →
+    x ≡ numberOf (state t) c k → again ≡ replayed (state t) c k → u ≡ words (crashed (state t) c) →
+    out (Crashed c i x (live - k) again) u ≡ written (stepCrash house (state t) c)
 unfolding stepCrash
-crash-done t t₁ t₂ c x again w n a e₁ e₂ =
-    let q : t₂ ≡ words (crashed (state t) c) =
-    starts-leave (ending (state t) c x) c _ (ending-ready (state t) c _ x (w .ready)) (ending-words t t₁ c x w e₁) e₂ ∙ ap words (ending-crashed (state t) c x n) in
-    granted _ _ _ _ _ (w .free) (λ d. out (Crashed c (state t (Incarnation c)) (n d) (state t (LiveCount c) - state t (StableCount c)) (a d)) (q d))
+crash-done t u c i live k x again w ei el ek ex ea e =
+    let n = ex ∙ ap (numberOf (state t) c) ek in
+    let a = ea ∙ ap (replayed (state t) c) ek in
+    granted _ _ _ _ _ (w .free) (λ d. out (Crashed c (ei d) (n d) (el d - ek d) (a d)) (e d))

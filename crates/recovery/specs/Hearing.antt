@@ -1,71 +1,53 @@
--- The tests of H's refusals as the code finds them, and what H leaves, on variables.
+-- What H counts on, and what it leaves.
 use mathlib.Core.Path.{_≡_, refl, sym, ap, _∙_}
-use mathlib.Core.Bool.{true, false, cond, _||_, or-true}
+use mathlib.Core.Bool.{Bool, true, false, not, cond, _||_, or-true}
 use mathlib.Core.List.{List}
 use mathlib.Core.Logic.{_≢_}
 use Prim.Native.Nat.{ℕ, zero, suc, _+_, _-_, _≤_, _<_, max}
 use native.Mathlib.Omega.{arith}
-use lib.ListN.{length, set}
+use lib.ListN.{length}
 use borrow.Author.Tests.{leb-false, le-leb, lt-leb, lt-ltb, le-ltb, eq-eqb, ne-eqb}
 use Rattle.base.specs.Choice.{_==_, _≤?_, _<?_, or-left, or-right}
-use Rattle.base.specs.Cases.{firstOf}
-use Rattle.table.specs.Field.{Field, State, Known, End, Incarnation, LiveCount, Flag, same}
+use Rattle.base.specs.Cases.{Case, firstOf, none, hit, skip}
+use Rattle.table.specs.Field.{Field, State, Known, End, Size, Incarnation, LiveCount, Flag, same}
 use Rattle.table.specs.Change.{put, put-ind, put-other}
-use Rattle.table.specs.Layout.{controllers, incarnations, tableWords, position}
-use Rattle.table.specs.Words.{state, words, words-state, length-words, wrote, words-same, Agree}
-use Rattle.table.specs.Numbering.{numberOf}
+use Rattle.table.specs.Layout.{controllers, incarnations, tableWords}
+use Rattle.table.specs.Words.{state, words, words-same, Agree, agree-words, agree-put, put-again, then-put}
+use Rattle.table.specs.Numbering.{Numbered, numberOf, numbers-put, numbers-trans, number-same}
 use Rattle.rules.specs.Limits.{lastIncarnation}
+use Rattle.rules.specs.Refusal.{CONTROLLER, NO-SUCH-CRASH, ALREADY-HEARD, INCARNATIONS-USED-UP}
 use Rattle.rules.specs.Shared.{latestFlagged, replayed}
-use Rattle.rules.specs.Steps.{hearRefusals, noted, lowestCondemned, rolledBack, hear, stepHear}
+use Rattle.rules.specs.Steps.{noController, hearRefusals, noted, lowestCondemned, rolledBack, hear, stepHear}
 use Rattle.rules.specs.Step.{out, written}
+use Rattle.rules.specs.declared.Answer.{Answer}
 use Rattle.rules.specs.declared.Answer.the-variants.{Heard, Rolled, Refused}
 use Rattle.laws.specs.Facts.{form, below-8}
 use Rattle.laws.specs.Allowed.{hearAllowed}
 use Rattle.laws.specs.Agree.{lowestCondemned-same, replayed-same}
-use Rattle.laws.specs.Answering.{Lent, granted}
-use Rattle.recovery.specs.Removal.{Chained, Rolls}
-use Rattle.recovery.specs.States.{agree-words}
-use Rattle.recovery.specs.Rolling.{rolls-ready, agree-rolled}
-use Rattle.recovery.specs.Ready.{chained-of, chained-words, noted-chained}
+use Rattle.laws.specs.Found.{lowest}
+use Rattle.laws.specs.Answering.{Lent, granted-by}
+use Rattle.laws.specs.Chain.{Chain, chain-of, chain-words, Starts, chain-noted}
+use Rattle.recovery.specs.Rolling.{agree-rolled, undoing}
 
--- refusal 3 does not apply: both are controllers of the house
-pub both-below : (n b a : ℕ) → ((n ≤? b) || (n ≤? a)) ≡ false → (b < n) × (a < n)
-both-below n b a e = (leb-false n b (or-left (n ≤? b) _ e), leb-false n a (or-right (n ≤? b) _ e))
+-- NOTING
+-- two words were put, one after the other
+pub takes-back : (t t₁ t₂ : List ℕ) (f g : Field) (x y : ℕ) → t₁ ≡ words (put (state t) f x) → t₂ ≡ words (put (state t₁) g y) → t₂ ≡ words (put (put (state t) f x) g y)
+takes-back t t₁ t₂ f g x y e₁ e₂ = then-put _ g y e₁ e₂
 
--- refusal 9 applies: there is no such incarnation
-pub too-late : (σ : State) (a t : ℕ) → lastIncarnation < t → ((lastIncarnation <? t) || (σ (End a a t) == 0)) ≡ true
-too-late σ a t l = rw (lt-ltb lastIncarnation t l)
-
--- refusal 9 applies: the incarnation has not ended
-pub no-end : (σ : State) (a t : ℕ) → σ (End a a t) ≡ 0 → ((lastIncarnation <? t) || (σ (End a a t) == 0)) ≡ true
-no-end σ a t e = rw (eq-eqb (σ (End a a t)) 0 e) (or-true (lastIncarnation <? t))
-
--- refusal 9 does not apply
-pub has-end : (σ : State) (a t : ℕ) → t ≤ lastIncarnation → (σ (End a a t) ≡ 0 → ⊥) → ((lastIncarnation <? t) || (σ (End a a t) == 0)) ≡ false
-has-end σ a t l ne = rw (le-ltb lastIncarnation t l, ne-eqb (σ (End a a t)) 0 ne)
-
--- the known word is raised: two words are stored
-pub note-write : (t : List ℕ) (b a i : ℕ) → length t ≡ tableWords → b < controllers → a < controllers → i < incarnations → state t (Known b a i) < state t (End a a i) →
-    set (set t (position (End b a i)) (state t (End a a i))) (position (Known b a i)) (state t (End a a i)) ≡ words (noted (state t) b a i)
+-- the known word is raised, or it is high enough
+pub note-raised : (t t₁ t₂ : List ℕ) (hearer owner i end known : ℕ) → end ≡ state t (End owner owner i) → known ≡ state t (Known hearer owner i) →
+    t₁ ≡ words (put (state t) (End hearer owner i) end) → known < end → t₂ ≡ words (put (state t₁) (Known hearer owner i) end) → t₂ ≡ words (noted (state t) hearer owner i)
 unfolding noted
-note-write t b a i l bl al il h =
-    let e = state t (End a a i) in
-    let q : e ≡ max (state t (Known b a i)) e = omega arith in
-    wrote _ (Known b a i) e (wrote _ (End b a i) e (words-state t l) (bl, al, il)) (bl, al, il)
-    ∙ ap (λ x. words (put (put (state t) (End b a i) e) (Known b a i) x)) q
+note-raised t t₁ t₂ hearer owner i end known ee ek e₁ l e₂ =
+    let larger : end ≡ max (state t (Known hearer owner i)) (state t (End owner owner i)) = omega arith in
+    then-put _ (Known hearer owner i) end e₁ e₂ ∙ (λ d. words (put (put (state t) (End hearer owner i) (ee d)) (Known hearer owner i) (larger d)))
 
--- a word put that stands there already changes no word
-put-again : (σ : State) (f : Field) (x : ℕ) → x ≡ σ f → Agree σ (put σ f x)
-put-again σ f x e g v = put-ind (λ g y. σ g ≡ y) σ f x (sym e) (λ g ne. refl) g
-
--- the known word is high enough: one word is stored
-pub note-keep : (t : List ℕ) (b a i : ℕ) → length t ≡ tableWords → b < controllers → a < controllers → i < incarnations → state t (End a a i) ≤ state t (Known b a i) →
-    set t (position (End b a i)) (state t (End a a i)) ≡ words (noted (state t) b a i)
+pub note-enough : (t t₁ : List ℕ) (hearer owner i end known : ℕ) → end ≡ state t (End owner owner i) → known ≡ state t (Known hearer owner i) →
+    t₁ ≡ words (put (state t) (End hearer owner i) end) → end ≤ known → t₁ ≡ words (noted (state t) hearer owner i)
 unfolding noted put same
-note-keep t b a i l bl al il h =
-    let e = state t (End a a i) in
-    let q : max (state t (Known b a i)) e ≡ state t (Known b a i) = omega arith in
-    wrote _ (End b a i) e (words-state t l) (bl, al, il) ∙ words-same _ _ (put-again (put (state t) (End b a i) e) (Known b a i) _ q)
+note-enough t t₁ hearer owner i end known ee ek e₁ l =
+    let larger : max (state t (Known hearer owner i)) (state t (End owner owner i)) ≡ state t (Known hearer owner i) = omega arith in
+    e₁ ∙ ap (λ x. words (put (state t) (End hearer owner i) x)) ee ∙ words-same _ _ (put-again (put (state t) (End hearer owner i) (state t (End owner owner i))) (Known hearer owner i) _ larger)
 
 -- two words put that get their old values back change no word
 put-back : (σ : State) (f g : Field) (x y : ℕ) → Agree (put (put (put (put σ f x) g y) f (σ f)) g (σ g)) σ
@@ -73,117 +55,148 @@ put-back σ f g x y h v =
     put-ind (λ h z. z ≡ σ h) (put (put (put σ f x) g y) f (σ f)) g (σ g) refl
     (λ h ng. put-ind (λ h z. h ≢ g → z ≡ σ h) (put (put σ f x) g y) f (σ f) (λ _. refl) (λ h nf ng. put-other (put σ f x) g h y ng ∙ put-other σ f h x nf) h ng) h
 
--- what is noted does not change the latest checkpoint
-flagged-noted : (σ : State) (b a i c k : ℕ) → latestFlagged (noted σ b a i) c k ≡ latestFlagged σ c k
-unfolding latestFlagged noted put same numberOf
-flagged-noted σ b a i c zero = refl
-flagged-noted σ b a i c (suc p) = ap (λ x. cond (σ (Flag c p) == 1) (p + 1) x) (flagged-noted σ b a i c p)
+-- what is noted changes no number, and not what is replayed
+noted-numbers : (σ : State) (hearer owner i : ℕ) → Numbered (noted σ hearer owner i) σ
+unfolding noted
+noted-numbers σ hearer owner i = numbers-trans _ _ _ (numbers-put _ (Known hearer owner i) _ refl) (numbers-put σ (End hearer owner i) _ refl)
 
--- nor the replay figure
-replayed-noted : (σ : State) (b a i c k : ℕ) → replayed (noted σ b a i) c k ≡ replayed σ c k
-unfolding replayed numberOf
-replayed-noted σ b a i c k = ap (λ x. k - x) (flagged-noted σ b a i c k)
+noted-flagged : (σ : State) (hearer owner i c k : ℕ) → latestFlagged (noted σ hearer owner i) c k ≡ latestFlagged σ c k
+unfolding latestFlagged noted put same
+noted-flagged σ hearer owner i c zero = refl
+noted-flagged σ hearer owner i c (suc p) =
+    λ d. cond (σ (Flag c p) == 1) (noted-numbers σ hearer owner i .number c (p + 1) d) (noted-flagged σ hearer owner i c p d)
 
--- a hearing that is not refused at once
-pub record Hears (t : List ℕ) (b a i : ℕ) : Type 0 where
-  pub free : 0 ≡ firstOf (hearRefusals (state t) b a i)
+noted-replayed : (σ : State) (hearer owner i c k : ℕ) → replayed (noted σ hearer owner i) c k ≡ replayed σ c k
+unfolding replayed
+noted-replayed σ hearer owner i c k d = noted-numbers σ hearer owner i .number c k d - noted-flagged σ hearer owner i c k d
+
+-- HEARING
+-- The code has read n, how many controllers there are, and the end words of both: which of the first refusals applies.
+module _ (t : List ℕ) (hearer owner i n : ℕ) (en : n ≡ state t Size) where
+  abbrev cases : List Case
+  cases = hearRefusals (state t) hearer owner i
+
+  named-as : (b : Bool) → ((n ≤? hearer) || (n ≤? owner)) ≡ b → (noController (state t) hearer || noController (state t) owner) ≡ b
+  named-as b h = ap (λ n. (n ≤? hearer) || (n ≤? owner)) (sym en) ∙ h
+
+  pub hear-unknown : ((n ≤? hearer) || (n ≤? owner)) ≡ true → CONTROLLER ≡ firstOf cases
+  hear-unknown h = hit _ _ _ (named-as true h)
+
+  module _ (h : ((n ≤? hearer) || (n ≤? owner)) ≡ false) where
+    pub hearer-named : Lent t → hearer < controllers
+    hearer-named w = below-8 (form (state t) (w .good)) hearer (leb-false _ _ (or-left (noController (state t) hearer) _ (named-as false h)))
+
+    pub owner-named : Lent t → owner < controllers
+    owner-named w = below-8 (form (state t) (w .good)) owner (leb-false _ _ (or-right (noController (state t) hearer) _ (named-as false h)))
+
+    pub hear-beyond : lastIncarnation < i → NO-SUCH-CRASH ≡ firstOf cases
+    hear-beyond l = skip _ _ _ _ (named-as false h) (hit _ _ _ (rw (lt-ltb lastIncarnation i l)))
+
+    module _ (l : i ≤ lastIncarnation) (end : ℕ) (ee : end ≡ state t (End owner owner i)) where
+      pub hear-unended : end ≡ 0 → NO-SUCH-CRASH ≡ firstOf cases
+      hear-unended z = skip _ _ _ _ (named-as false h) (hit _ _ _ (rw (eq-eqb (state t (End owner owner i)) 0 (sym ee ∙ z)) (or-true (lastIncarnation <? i))))
+
+      module _ (ne : end ≢ 0) (heard : ℕ) (eh : heard ≡ state t (End hearer owner i)) where
+        ended : ((lastIncarnation <? i) || (state t (End owner owner i) == 0)) ≡ false
+        ended = rw (le-ltb lastIncarnation i l, ne-eqb (state t (End owner owner i)) 0 (λ z. ne (ee ∙ z)))
+
+        pub hear-again : heard ≢ 0 → ALREADY-HEARD ≡ firstOf cases
+        hear-again nh = skip _ _ _ _ (named-as false h) (skip _ _ _ _ ended (hit _ _ _ (ap not (ne-eqb _ _ (λ z. nh (eh ∙ z))))))
+
+        pub hear-free : heard ≡ 0 → 0 ≡ firstOf cases
+        hear-free z = skip _ _ _ _ (named-as false h) (skip _ _ _ _ ended (skip _ _ _ _ (ap not (eq-eqb _ _ (sym eh ∙ z))) none))
+
+-- a hearing that none of its first refusals stops
+pub record Hears (t : List ℕ) (hearer owner i : ℕ) : Type 0 where
   pub long : length t ≡ tableWords
-  pub hearer : b < controllers
-  pub teller : a < controllers
+  pub chain : Chain (state t) hearer
+  pub owner-lt : owner < controllers
   pub incarnation-lt : i < incarnations
-  pub unheard : state t (End b a i) ≡ 0
-  pub chained : Chained (state t) b
+  pub unheard : state t (End hearer owner i) ≡ 0
 
--- a table in form with no refusal gives it
-pub may-hear : (t : List ℕ) (b a i x : ℕ) → Lent t → x ≡ firstOf (hearRefusals (state t) b a i) → x ≡ 0 → Hears t b a i
-may-hear t b a i x l e z =
-    let h = hearAllowed (state t) b a i (sym z ∙ e) in
-    let f = form (state t) (l .good) in
+pub hears : (t : List ℕ) (hearer owner i n : ℕ) → Lent t → n ≡ firstOf (hearRefusals (state t) hearer owner i) → n ≡ 0 → Hears t hearer owner i
+hears t hearer owner i n l e z =
+    let h = hearAllowed (state t) hearer owner i (sym z ∙ e) in
     record {
-      free = sym z ∙ e;
       long = l .long;
-      hearer = below-8 f b (h .hearer-lt);
-      teller = below-8 f a (h .crashed-lt);
+      chain = chain-of t hearer l (h .hearer-lt);
+      owner-lt = below-8 (form (state t) (l .good)) owner (h .owner-lt);
       incarnation-lt = omega (arith, h .incarnation-le);
       unheard = h .unheard;
-      chained = chained-of t b l (h .hearer-lt);
     }
 
--- Hearing: t₁ is the table with the two words noted.
-module _ (t t₁ : List ℕ) (b a i : ℕ) (w : Hears t b a i) (e₁ : t₁ ≡ words (noted (state t) b a i)) where
-  -- it has the words of the noted state
-  heard-agree : Agree (state t₁) (noted (state t) b a i)
-  heard-agree = agree-words (noted (state t) b a i) e₁
+pub hear-granted : (t u : List ℕ) (hearer owner i n : ℕ) (a : Answer) → n ≡ firstOf (hearRefusals (state t) hearer owner i) → n ≡ 0 →
+    out a u ≡ written (hear (state t) hearer owner i) → out a u ≡ written (stepHear (state t) hearer owner i)
+unfolding stepHear
+hear-granted t u hearer owner i n a e z h = granted-by _ _ _ _ _ n e z h
 
-  -- the chain on it
-  pub heard-chained : Chained (state t₁) b
-  heard-chained = chained-words (noted (state t) b a i) b (noted-chained (state t) b b a i (w .chained)) e₁
+-- t₁ has the crash noted.
+module _ (t t₁ : List ℕ) (hearer owner i : ℕ) (w : Hears t hearer owner i) (e₁ : t₁ ≡ words (noted (state t) hearer owner i)) where
+  pub heard-chain : Chain (state t₁) hearer
+  heard-chain = chain-words _ hearer e₁ (chain-noted (state t) hearer hearer owner i (w .chain))
 
-  -- its length
-  pub heard-long : length t₁ ≡ tableWords
-  heard-long = ap length e₁ ∙ length-words _
+-- The code has read the known word; t₁ has the crash noted, and on it the walk has found place k.
+pub record Walked (t t₁ : List ℕ) (hearer owner i known k : ℕ) : Type 0 where
+  pub hears : Hears t hearer owner i
+  pub known-is : known ≡ state t (Known hearer owner i)
+  pub noted-is : t₁ ≡ words (noted (state t) hearer owner i)
+  pub place-is : k ≡ lowestCondemned (state t₁) hearer
 
-  -- its live count is that of the table before
-  heard-live : state t₁ (LiveCount b) ≡ state t (LiveCount b)
+module _ {t t₁ : List ℕ} {hearer owner i known k : ℕ} (w : Walked t t₁ hearer owner i known k) where
+  abbrev heard : State
+  heard = noted (state t) hearer owner i
+
+  chain : Chain (state t₁) hearer
+  chain = heard-chain t t₁ hearer owner i (w .hears) (w .noted-is)
+
+  agrees : Agree (state t₁) heard
+  agrees = agree-words heard (w .noted-is)
+
+  live-kept : state t₁ (LiveCount hearer) ≡ state t (LiveCount hearer)
   unfolding noted put same
-  heard-live = heard-agree (LiveCount b) (w .hearer, omega arith)
+  live-kept = agrees (LiveCount hearer) (chain .named, omega arith)
 
-  -- and so is its incarnation
-  heard-own : state t₁ (Incarnation b) ≡ state t (Incarnation b)
+  own-kept : state t₁ (Incarnation hearer) ≡ state t (Incarnation hearer)
   unfolding noted put same
-  heard-own = heard-agree (Incarnation b) (w .hearer, omega arith)
+  own-kept = agrees (Incarnation hearer) (chain .named, omega arith)
 
-  -- k is the lowest condemned place on it
-  module _ (k : ℕ) (low : k ≡ lowestCondemned (state t₁) b) where
-    -- it is the place that the rule names
-    heard-lowest : k ≡ lowestCondemned (noted (state t) b a i) b
-    heard-lowest =
-        low ∙ lowestCondemned-same (state t₁) (noted (state t) b a i) heard-agree b (w .hearer) (heard-chained .live-le) (heard-chained .near)
+  low : k ≡ lowestCondemned heard hearer
+  low = w .place-is ∙ lowestCondemned-same (state t₁) heard agrees hearer (chain .named) (chain .live-le) (chain .near)
 
-    -- none is condemned: the step is done
-    pub hear-none : state t (LiveCount b) ≤ k → out (Heard b) t₁ ≡ written (stepHear (state t) b a i)
-    unfolding stepHear hear
-    hear-none l =
-        granted _ _ _ _ _ (w .free)
-        (rw (le-leb (state t (LiveCount b)) (lowestCondemned (noted (state t) b a i) b) (omega (arith, heard-lowest))) (ap (out (Heard b)) e₁))
+  module _ {live : ℕ} (el : live ≡ state t₁ (LiveCount hearer)) where
+    -- no place is condemned: the step is done
+    pub hear-none : live ≤ k → out (Heard hearer) t₁ ≡ written (hear (state t) hearer owner i)
+    unfolding hear
+    hear-none l = rw (le-leb (state t (LiveCount hearer)) (lowestCondemned heard hearer) (omega (arith, low, live-kept))) (ap (out (Heard hearer)) (w .noted-is))
 
-    -- the two words get their old values back
-    restored : set (set t₁ (position (End b a i)) 0) (position (Known b a i)) (state t (Known b a i)) ≡ words (state t)
-    unfolding noted
-    restored =
-        wrote _ (Known b a i) (state t (Known b a i)) (wrote _ (End b a i) 0 e₁ (w .hearer, w .teller, w .incarnation-lt)) (w .hearer, w .teller, w .incarnation-lt)
-        ∙ ap (λ x. words (put (put (noted (state t) b a i) (End b a i) x) (Known b a i) (state t (Known b a i)))) (sym (w .unheard))
-        ∙ words-same _ _ (put-back (state t) (End b a i) (Known b a i) (state t (End a a i)) (max (state t (Known b a i)) (state t (End a a i))))
+    -- one is, and the hearer is in incarnation own
+    module _ (l : k < live) {own : ℕ} (eo : own ≡ state t₁ (Incarnation hearer)) where
+      some : (state t (LiveCount hearer) ≤? lowestCondemned heard hearer) ≡ false
+      some = lt-leb (state t (LiveCount hearer)) (lowestCondemned heard hearer) (omega (arith, low, live-kept))
 
-    -- one is condemned, in the last incarnation: the step is refused
-    pub hear-late : k < state t (LiveCount b) → lastIncarnation ≤ state t (Incarnation b) →
-        out (Refused 13) (set (set t₁ (position (End b a i)) 0) (position (Known b a i)) (state t (Known b a i))) ≡ written (stepHear (state t) b a i)
-    unfolding stepHear hear
-    hear-late l m =
-        granted _ _ _ _ _ (w .free)
-        (rw (lt-leb (state t (LiveCount b)) (lowestCondemned (noted (state t) b a i) b) (omega (arith, heard-lowest)), le-leb lastIncarnation (state t (Incarnation b)) m)
-        (ap (out (Refused 13)) restored))
+      -- the last: the noted words are taken back, and the step is refused
+      pub hear-late : lastIncarnation ≤ own → {t₂ : List ℕ} →
+          t₂ ≡ words (put (put (state t₁) (End hearer owner i) 0) (Known hearer owner i) known) → out (Refused INCARNATIONS-USED-UP) t₂ ≡ written (hear (state t) hearer owner i)
+      unfolding hear noted
+      hear-late m e₂ =
+          let back = words-same _ _ (agree-put _ _ (Known hearer owner i) known (agree-put _ _ (End hearer owner i) 0 agrees)) in
+          let old : words (put (put heard (End hearer owner i) 0) (Known hearer owner i) known) ≡ words (put (put heard (End hearer owner i) (state t (End hearer owner i))) (Known hearer owner i) (state t (Known hearer owner i))) =
+          λ d. words (put (put heard (End hearer owner i) (sym (w .hears .unheard) d)) (Known hearer owner i) (w .known-is d)) in
+          let same-words = words-same _ _ (put-back (state t) (End hearer owner i) (Known hearer owner i) (state t (End owner owner i)) (max (state t (Known hearer owner i)) (state t (End owner owner i)))) in
+          rw (some, le-leb lastIncarnation (state t (Incarnation hearer)) (omega (arith, own-kept))) (ap (out (Refused INCARNATIONS-USED-UP)) (e₂ ∙ back ∙ old ∙ same-words))
 
-    -- one is, and b may roll back
-    pub hear-rolls : k < state t (LiveCount b) → state t (Incarnation b) < lastIncarnation → Rolls t₁ b k
-    unfolding lowestCondemned
-    hear-rolls l m =
-        record { long = heard-long; chained = heard-chained; kept = omega (arith, low); below = omega (arith, heard-live); left = omega (arith, heard-own) }
+      -- or not: its intervals from place k on are undone
+      pub hear-starts : own < lastIncarnation → Starts (state t₁) hearer k
+      hear-starts m =
+          let f = lowest (state t₁) hearer (chain .live-pos) in
+          record { chain = chain; kept = omega (arith, f .pos, w .place-is); room = omega (arith, chain .live-le); below = omega arith; left = omega arith }
 
-    -- answer and words after rolling back are those of the step
-    pub hear-done : (t₂ : List ℕ) (x again : ℕ) → k < state t (LiveCount b) → state t (Incarnation b) < lastIncarnation →
-        x ≡ numberOf (state t₁) b k → again ≡ replayed (state t₁) b k → t₂ ≡ words (rolledBack (state t₁) b k) →
-        out (Rolled b x (state t (LiveCount b) - k) again) t₂ ≡ written (stepHear (state t) b a i)
-    unfolding stepHear hear numberOf
-    hear-done t₂ x again l m n r e₂ =
-        let low₀ = heard-lowest in
-        let rolls = hear-rolls l m in
-        let q : t₂ ≡ words (rolledBack (noted (state t) b a i) b (lowestCondemned (noted (state t) b a i) b)) =
-        e₂ ∙ words-same _ _ (agree-rolled (state t₁) (noted (state t) b a i) b k heard-chained (rolls-ready t₁ b k rolls) heard-agree)
-        ∙ ap (λ k. words (rolledBack (noted (state t) b a i) b k)) low₀ in
-        let again-is =
-        r ∙ replayed-same (state t₁) (noted (state t) b a i) heard-agree b k (w .hearer) (omega (arith, w .chained .live-le)) ∙ replayed-noted (state t) b a i b k
-        ∙ ap (replayed (state t) b) low₀ in
-        granted _ _ _ _ _ (w .free)
-        (rw (lt-leb (state t (LiveCount b)) (lowestCondemned (noted (state t) b a i) b) (omega arith), lt-leb lastIncarnation (state t (Incarnation b)) m)
-        (λ d. out (Rolled b ((n ∙ low₀) d) (state t (LiveCount b) - low₀ d) (again-is d)) (q d)))
+      pub hear-undone : own < lastIncarnation → {t₂ : List ℕ} {a : Answer} → out a t₂ ≡ written (undoing (state t₁) hearer k) → out a t₂ ≡ written (hear (state t) hearer owner i)
+      unfolding hear
+      hear-undone m e₂ =
+          let x = number-same (state t₁) heard agrees hearer k (chain .named) ∙ noted-numbers (state t) hearer owner i .number hearer k in
+          let again = replayed-same (state t₁) heard agrees hearer k (chain .named) (omega (arith, chain .live-le)) ∙ noted-replayed (state t) hearer owner i hearer k in
+          let left = words-same _ _ (agree-rolled (state t₁) heard hearer k (hear-starts m) agrees) in
+          rw (some, lt-leb lastIncarnation (state t (Incarnation hearer)) (omega (arith, own-kept)))
+          (e₂ ∙ (λ d. out (Rolled hearer (x d) (live-kept d - k) (again d)) (left d))
+          ∙ ap (λ k. out (Rolled hearer (numberOf (state t) hearer k) (state t (LiveCount hearer) - k) (replayed (state t) hearer k)) (words (rolledBack heard hearer k))) low)

@@ -1,9 +1,4 @@
-pub mod Removal
-pub mod States
-pub mod Dropping
-pub mod Settling
-pub mod Anew
-pub mod Ready
+pub mod Kept
 pub mod Crashing
 pub mod Rolling
 pub mod Hearing

@@ -8,16 +8,16 @@ use Rattle.base.specs.Ranges.{anyb}
 use Rattle.base.specs.Lists.{tab}
 use Rattle.table.specs.Field.{State, Known, End, LiveCount, StableCount, MessagePairNumber, same}
 use Rattle.table.specs.Change.{blank, put, putPart, clearPlaces, putStates}
-use Rattle.table.specs.Numbering.{numberOf, recordOf, messageOf}
+use Rattle.table.specs.Numbering.{numberOf, used, messageOf}
 use Rattle.rules.specs.Vector.{placeVector, messageVector, flat, knownStable, filterPair, filtered, condemnedPair, condemned, maskTo, mask}
-use Rattle.rules.specs.Shared.{placeRecord, logged, loggedTo, causedFrom, causes, newVector, restarted, dropHeld, startAnew}
+use Rattle.rules.specs.Shared.{placeRecord, logged, loggedTo, causedIn, causesIn, causes, offeredAgain, newVector, placed, entered, restarted, heldOrDropped, dropHeld, startAnew}
 use Rattle.rules.specs.Steps.{After, letOut, release, rolledBack}
 use Rattle.rules.specs.Report.{report}
 use Rattle.rules.specs.Starred.{Row, _is_, answer}
 use Rattle.rules.specs.declared.Answer.{Answer}
 use Rattle.rules.specs.declared.Answer.the-variants.{Released}
 
--- message 1 is from controller 0, of degree 0, and has the pair (0,2) of controller 1, which controller 0 knows to be stable
+-- message 1, in record 0, is from controller 0, of degree 0, and has the pair (0,2) of controller 1, which controller 0 knows to be stable
 abbrev since-logged : State
 since-logged = put (put blank (MessagePairNumber 0 1) 2) (Known 0 1 0) 2
 
@@ -28,7 +28,7 @@ two-unstable = put (put blank (LiveCount 0) 3) (StableCount 0) 1
 abbrev told-apart : List Row
 told-apart =
     -- "Counting stored pairs at release instead of filtered ones": it would be held.
-    (answer (release since-logged 1 .answer) is answer (Released 1 0))
+    (answer (release since-logged 1 0 .answer) is answer (Released 1 0))
     -- "Writing an end word for a rollback as if it were a crash": the own end word would be 2.
     ∷ ((rolledBack two-unstable 0 2 (End 0 0 0) ∷ []) is (0 ∷ []))
     -- "Not logging kept intervals on rollback": they would not be known to be stable.
@@ -36,5 +36,5 @@ told-apart =
     ∷ []
 
 pub told-apart-hold : map (λ (x : Row). x .given) told-apart ≡ map (λ (x : Row). x .said) told-apart
-unfolding put same putPart clearPlaces putStates tab anyb numberOf recordOf messageOf placeVector messageVector flat knownStable filterPair filtered condemnedPair condemned maskTo mask placeRecord logged loggedTo causedFrom causes newVector restarted dropHeld startAnew letOut release rolledBack report onesIn ones
+unfolding put same putPart clearPlaces putStates tab anyb numberOf used messageOf placeVector messageVector flat knownStable filterPair filtered condemnedPair condemned maskTo mask placeRecord logged loggedTo causedIn causesIn causes offeredAgain newVector placed entered restarted heldOrDropped dropHeld startAnew letOut release rolledBack report onesIn ones
 told-apart-hold = refl

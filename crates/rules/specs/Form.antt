@@ -5,9 +5,9 @@ use Prim.Native.Nat.{ℕ, _+_, _-_}
 use Rattle.base.specs.Choice.{_==_, _≤?_, _<?_}
 use Rattle.base.specs.Ranges.{allb}
 use Rattle.base.specs.Cases.{allOf}
-use Rattle.table.specs.Field.{State, OfHead, OfController, Known, End, OfPlace, OfMessage, Size, SentCount, Degree, Incarnation, LiveCount, StableCount, PlaceIncarnation, PlaceNumber, Cause, Flag, MessageState, Sender, Receiver, SendingIncarnation, SendingNumber}
+use Rattle.table.specs.Field.{State, OfHead, OfController, Known, End, OfPlace, OfMessage, Size, Degree, Incarnation, LiveCount, StableCount, PlaceIncarnation, PlaceNumber, Cause, Flag, MessageState, Sender, Receiver, SendingIncarnation, SendingNumber, spareFrom}
 use Rattle.table.specs.Layout.{controllers, incarnations, headWords, controllerWords, placeWords, messageWords}
-use Rattle.table.specs.Numbering.{numberOf}
+use Rattle.table.specs.Numbering.{numberOf, used, lastGiven}
 use Rattle.rules.specs.Limits.{Limits, lastIncarnation}
 use Rattle.rules.specs.Vector.{Pair, Vector, incarnation, number, pairOf, placeVector, messageVector}
 
@@ -27,21 +27,21 @@ stateLost = 4
 abbrev pub stateDropped : ℕ
 stateDropped = 5
 
--- k words in a row are 0
+-- n words in a row are 0
 unfoldable pub zeros : ℕ → (ℕ → ℕ) → Bool
-zeros k word = allb k (λ (i : ℕ). word i == 0)
+zeros n word = allb n (λ (k : ℕ). word k == 0)
 
 module _ (L : Limits) (n : ℕ) where
   -- "pair numbers 0 to 64, and 0 only with incarnation 0; incarnations 0 to 15; all words for controllers from n on, pairs
   -- included, are 0"
   unfoldable pub pairOk : ℕ → Pair → Bool
-  pairOk a p =
-      cond (a <? n)
+  pairOk owner p =
+      cond (owner <? n)
       (allOf ((number p ≤? L .numbers) ∷ (incarnation p ≤? lastIncarnation) ∷ ((0 <? number p) || (incarnation p == 0)) ∷ []))
       (allOf ((number p == 0) ∷ (incarnation p == 0) ∷ []))
 
   unfoldable pub vectorOk : Vector → Bool
-  vectorOk v = allb controllers (λ (a : ℕ). pairOk a (pairOf v a))
+  vectorOk v = allb controllers (λ (owner : ℕ). pairOk owner (pairOf v owner))
 
   -- "K (0 to n), incarnation, live count (1 to 64), stable count (1 to live count)"
   unfoldable pub controllerOk : State → ℕ → Bool
@@ -57,12 +57,14 @@ module _ (L : Limits) (n : ℕ) where
       ∷ []))
       (zeros controllerWords (λ (k : ℕ). σ (OfController c k)))
 
-  -- "known and end words 0 to 64", of holder b and owner a; 0 for controllers from n on
+  -- "known and end words 0 to 64"; 0 for controllers from n on
   unfoldable pub highest : ℕ → ℕ → ℕ
-  highest b a = cond ((b <? n) && (a <? n)) (L .numbers) 0
+  highest holder owner = cond ((holder <? n) && (owner <? n)) (L .numbers) 0
 
   unfoldable pub rowOk : State → ℕ → ℕ → Bool
-  rowOk σ b a = allb incarnations (λ (t : ℕ). (σ (Known b a t) ≤? highest b a) && (σ (End b a t) ≤? highest b a))
+  rowOk σ holder owner =
+      let most = highest holder owner in
+      allb incarnations (λ (i : ℕ). (σ (Known holder owner i) ≤? most) && (σ (End holder owner i) ≤? most))
 
   -- "place p has number p + 1; place 0 has flag 1; a cause is at most the messages sent"; "checkpoint flag (0 or 1)";
   -- "places from the live count on are 0" (a controller from n on has the live count 0)
@@ -72,7 +74,7 @@ module _ (L : Limits) (n : ℕ) where
       (allOf
       ((σ (PlaceIncarnation c p) ≤? lastIncarnation)
       ∷ (σ (PlaceNumber c p) == numberOf σ c (p + 1))
-      ∷ (σ (Cause c p) ≤? σ SentCount)
+      ∷ (σ (Cause c p) ≤? lastGiven σ)
       ∷ (σ (Flag c p) ≤? 1)
       ∷ ((0 <? p) || (σ (Flag c p) == 1))
       ∷ vectorOk (placeVector σ c p)
@@ -83,7 +85,7 @@ module _ (L : Limits) (n : ℕ) where
   -- are 0"
   unfoldable pub messageOk : State → ℕ → Bool
   messageOk σ r =
-      cond (r <? σ SentCount)
+      cond (r <? used σ)
       (allOf
       ((stateHeld ≤? σ (MessageState r))
       ∷ (σ (MessageState r) ≤? stateDropped)
@@ -103,10 +105,10 @@ inForm L σ =
     allOf
     ((1 ≤? n)
     ∷ (n ≤? controllers)
-    ∷ (σ SentCount ≤? L .messages)
-    ∷ zeros (headWords - 2) (λ (k : ℕ). σ (OfHead (2 + k)))
+    ∷ (used σ ≤? L .messages)
+    ∷ zeros (headWords - spareFrom) (λ (k : ℕ). σ (OfHead (spareFrom + k)))
     ∷ allb controllers (controllerOk L n σ)
-    ∷ allb controllers (λ (b : ℕ). allb controllers (rowOk L n σ b))
+    ∷ allb controllers (λ (holder : ℕ). allb controllers (rowOk L n σ holder))
     ∷ allb controllers (λ (c : ℕ). allb (L .places) (placeOk L n σ c))
     ∷ allb (L .messages) (messageOk L n σ)
     ∷ [])

@@ -1,9 +1,12 @@
 pub mod Limits
+pub mod Refusal
+pub mod Bytes
 pub mod Vector
 pub mod Form
 pub mod Shared
 pub mod Steps
 pub mod Step
+pub mod Order
 pub mod Report
 pub mod Starred
 pub mod Faults

@@ -8,9 +8,12 @@ pub record Limits : Type 0 where
   pub messages : ℕ
   pub numbers : ℕ
 
-abbrev pub house : Limits
-house = record { places = places; messages = messages; numbers = 64 }
-
--- "An interval has an incarnation t (0 to 15)."
+-- "An interval has an incarnation t (0 to 15) and a number x (1 to 64)."
 abbrev pub lastIncarnation : ℕ
 lastIncarnation = 15
+
+abbrev pub lastNumber : ℕ
+lastNumber = 64
+
+abbrev pub house : Limits
+house = record { places = places; messages = messages; numbers = lastNumber }

@@ -7,9 +7,9 @@ use Rattle.base.specs.Choice.{_==_, _<?_}
 use Rattle.base.specs.Ranges.{anyb}
 use Rattle.table.specs.Field.{State, OfPlace, Known, Incarnation, LiveCount, StableCount, Cause, Flag, MessageState, Sender, SendingNumber}
 use Rattle.table.specs.Change.{put, putPart, clearPlaces, putStates}
-use Rattle.table.specs.Numbering.{numberOf, messageOf}
-use Rattle.rules.specs.Vector.{Vector, pair, placeVector, flat, filtered}
-use Rattle.rules.specs.Form.{stateHeld, stateDropped}
+use Rattle.table.specs.Numbering.{numberOf, used, messageOf}
+use Rattle.rules.specs.Vector.{Vector, pair, placeVector, messageVector, flat, filtered, condemned}
+use Rattle.rules.specs.Form.{stateHeld, stateReleased, stateDropped}
 
 -- the place of the newest live interval
 abbrev pub newestPlace : State → ℕ → ℕ
@@ -17,46 +17,64 @@ newestPlace σ c = σ (LiveCount c) - 1
 
 -- a place's words: "incarnation, number, cause (message number, 0 for a start), checkpoint flag (0 or 1), vector"
 unfoldable pub placeRecord : ℕ → ℕ → ℕ → ℕ → Vector → List ℕ
-placeRecord t x cause flag v = (t ∷ x ∷ cause ∷ flag ∷ []) ++ flat v
+placeRecord i x cause flag v = (i ∷ x ∷ cause ∷ flag ∷ []) ++ flat v
 
--- Logging, of L, C and H: the j oldest live intervals of c are stable, and "c's known word for itself and its incarnation
+-- Logging, of L, C and H: the k oldest live intervals of c are stable, and "c's known word for itself and its incarnation
 -- becomes the new stable count".
 unfoldable pub logged : State → ℕ → ℕ → State
-logged σ c j = put (put σ (StableCount c) j) (Known c c (σ (Incarnation c))) (numberOf σ c j)
+logged σ c k = put (put σ (StableCount c) k) (Known c c (σ (Incarnation c))) (numberOf σ c k)
 
 -- the same "if any" of them are not yet stable
 unfoldable pub loggedTo : State → ℕ → ℕ → State
-loggedTo σ c j = cond (σ (StableCount c) <? j) (logged σ c j) σ
+loggedTo σ c k = cond (σ (StableCount c) <? k) (logged σ c k) σ
 
--- message record r is the cause of a live interval of c in place k or above
-unfoldable pub causedFrom : State → ℕ → ℕ → ℕ → Bool
-causedFrom σ c k r = anyb (σ (LiveCount c) - k) (λ (i : ℕ). σ (Cause c (k + i)) == messageOf σ r)
+-- message record r, in use, is the cause of an interval of c in one of the n places from k on
+unfoldable pub causedIn : State → ℕ → ℕ → ℕ → ℕ → Bool
+causedIn σ c k n r = (r <? used σ) && anyb n (λ (j : ℕ). σ (Cause c (k + j)) == messageOf σ r)
 
--- The causes of the intervals of c from place k on, each with the state that s gives it.
+-- the causes of these intervals, each with the state that s gives it
+unfoldable pub causesIn : State → ℕ → ℕ → ℕ → (ℕ → ℕ) → State
+causesIn σ c k n s = putStates σ (λ (r : ℕ). cond (causedIn σ c k n r) (s r) (σ (MessageState r)))
+
+-- The causes of the live intervals of c from place k on.
 unfoldable pub causes : State → ℕ → ℕ → (ℕ → ℕ) → State
-causes σ c k s = putStates σ (λ (r : ℕ). cond (causedFrom σ c k r) (s r) (σ (MessageState r)))
+causes σ c k s = causesIn σ c k (σ (LiveCount c) - k) s
+
+-- H: "each cause of an undone interval becomes dropped if its vector is condemned to b, else released again": the state of
+-- the cause in record r
+unfoldable pub offeredAgain : State → ℕ → ℕ → ℕ
+offeredAgain σ c r = cond (condemned σ c (messageVector σ r)) stateDropped stateReleased
 
 -- "the kept vector filtered for c with c's own pair set to the new interval"
 unfoldable pub newVector : State → ℕ → ℕ → Vector
 newVector σ c k = set (filtered σ c (placeVector σ c (k - 1))) c (pair (σ (Incarnation c) + 1) (numberOf σ c (k + 1)))
 
 -- "Starting anew at c after kept number k: freed places become 0. Place k gets the controller's incarnation plus 1, number
--- k + 1, cause 0, flag 0, and the kept vector .. Live and stable counts become k + 1 and the controller's incarnation is the
--- new one. Known for c by c gets k + 1 at it."
+-- k + 1, cause 0, flag 0, and the kept vector ..": these are i, x and v
+unfoldable pub placed : State → ℕ → ℕ → ℕ → ℕ → Vector → State
+placed σ c k i x v = let freed = clearPlaces σ c k (σ (LiveCount c)) in putPart freed (OfPlace c k 0) 0 (placeRecord i x 0 0 v)
+
+-- "Live and stable counts become k + 1 and the controller's incarnation is the new one. Known for c by c gets k + 1 at it":
+-- with k for k + 1, and x for its number
+unfoldable pub entered : State → ℕ → ℕ → ℕ → ℕ → State
+entered σ c k i x = put (put (put (put σ (Incarnation c) i) (LiveCount c) k) (StableCount c) k) (Known c c i) x
+
 unfoldable pub restarted : State → ℕ → ℕ → State
 restarted σ c k =
-    let t = σ (Incarnation c) + 1 in
+    let i = σ (Incarnation c) + 1 in
     let x = numberOf σ c (k + 1) in
-    let freed = clearPlaces σ c k (σ (LiveCount c)) in
-    let begun = putPart freed (OfPlace c k 0) 0 (placeRecord t x 0 0 (newVector σ c k)) in
-    put (put (put (put begun (Incarnation c) t) (LiveCount c) (k + 1)) (StableCount c) (k + 1)) (Known c c t) x
+    entered (placed σ c k i x (newVector σ c k)) c (k + 1) i x
 
--- "Held messages from c with sending number above k become dropped."
-abbrev pub orphanedFrom : State → ℕ → ℕ → ℕ → Bool
-orphanedFrom σ c k r = (σ (MessageState r) == stateHeld) && ((σ (Sender r) == c) && (numberOf σ c k <? σ (SendingNumber r)))
+-- "Held messages from c with sending number above k become dropped": whether that in record r is one, with x for k ..
+abbrev pub orphaned : State → ℕ → ℕ → ℕ → Bool
+orphaned σ c x r = (σ (MessageState r) == stateHeld) && ((σ (Sender r) == c) && (x <? σ (SendingNumber r)))
+
+-- .. and the state that it has then
+unfoldable pub heldOrDropped : State → ℕ → ℕ → ℕ → ℕ
+heldOrDropped σ c x r = cond (orphaned σ c x r) stateDropped (σ (MessageState r))
 
 unfoldable pub dropHeld : State → ℕ → ℕ → State
-dropHeld σ c k = putStates σ (λ (r : ℕ). cond (orphanedFrom σ c k r) stateDropped (σ (MessageState r)))
+dropHeld σ c k = putStates σ (heldOrDropped σ c (numberOf σ c k))
 
 unfoldable pub startAnew : State → ℕ → ℕ → State
 startAnew σ c k = dropHeld (restarted σ c k) c k

@@ -8,11 +8,11 @@ use Rattle.base.specs.Ranges.{anyb}
 use Rattle.base.specs.Lists.{tab}
 use Rattle.table.specs.Field.{State, same, Known, End, Degree, LiveCount, Flag, PairNumber, MessagePairIncarnation, MessagePairNumber}
 use Rattle.table.specs.Change.{blank, put, putPart}
-use Rattle.table.specs.Numbering.{numberOf, recordOf}
+use Rattle.table.specs.Numbering.{numberOf}
 use Rattle.rules.specs.Limits.{house}
 use Rattle.rules.specs.Vector.{pair, noPair, pairOf, placeVector, messageVector, flat, knownStable, filterPair, filtered, condemnedPair, condemned, maskTo, mask, conflictPair, conflict, mergePair, merged}
 use Rattle.rules.specs.Shared.{placeRecord, latestFlagged, replayed}
-use Rattle.rules.specs.Steps.{letOut, release, begun, deliver}
+use Rattle.rules.specs.Steps.{letOut, release, intervalAdded, intervalBegins, deliver}
 use Rattle.rules.specs.Report.{report}
 use Rattle.rules.specs.declared.Answer.{Answer}
 use Rattle.rules.specs.declared.Answer.the-variants.{Released, Held, Delivered, Waits}
@@ -46,11 +46,11 @@ ended = put blank (End 1 0 0) 4
 abbrev known : State
 known = put blank (Known 1 0 0) 2
 
--- message 1 is from controller 0, whose degree is k; its vector has pairs of controllers 1 and 2
+-- message 1, in record 0, is from controller 0, whose degree is k; its vector has pairs of controllers 1 and 2
 abbrev two-named : ℕ → State
 two-named k = put (put (put blank (Degree 0) k) (MessagePairNumber 0 1) 5) (MessagePairNumber 0 2) 3
 
--- controller 0 has one live interval, which has the pair (0,9) of controller 1; message 1, for it, has the pair (1,3)
+-- controller 0 has one live interval, which has the pair (0,9) of controller 1; message 1, in record 0 and for it, has the pair (1,3)
 abbrev two-incarnations : State
 two-incarnations = put (put (put (put blank (LiveCount 0) 1) (PairNumber 0 0 1) 9) (MessagePairIncarnation 0 1) 1) (MessagePairNumber 0 1) 3
 
@@ -74,19 +74,19 @@ starred =
     ∷ (filterPair known 1 0 (pair 0 2) is noPair)
     ∷ (filterPair known 1 0 (pair 0 3) is pair 0 3)
     -- 5. Mask 6 with K 1 is held; with K 2 released.
-    ∷ (answer (release (two-named 1) 1 .answer) is answer (Held 1 6))
-    ∷ (answer (release (two-named 2) 1 .answer) is answer (Released 1 6))
+    ∷ (answer (release (two-named 1) 1 0 .answer) is answer (Held 1 6))
+    ∷ (answer (release (two-named 2) 1 0 .answer) is answer (Released 1 6))
     -- 6. Mask 0 with K 0 is released.
-    ∷ (answer (release blank 1 .answer) is answer (Released 1 0))
+    ∷ (answer (release blank 1 0 .answer) is answer (Released 1 0))
     -- 7. Pairs (0,9) and (1,3) of one owner, neither known stable: waits.
-    ∷ (answer (deliver house two-incarnations 1 .answer) is answer (Waits 1))
+    ∷ (answer (deliver house two-incarnations 1 0 .answer) is answer (Waits 1))
     -- 8. The same with (0,9) known stable: merged pair (1,3).
-    ∷ (answer (deliver house one-stable 1 .answer) is answer (Delivered 1 0 2))
-    ∷ (pairOf (placeVector (deliver house one-stable 1 .left) 0 1) 1 is pair 1 3)
+    ∷ (answer (deliver house one-stable 1 0 .answer) is answer (Delivered 1 0 2))
+    ∷ (pairOf (placeVector (deliver house one-stable 1 0 .left) 0 1) 1 is pair 1 3)
     -- 9. k 5, flagged numbers 1 and 4: replayed 1.
     ∷ ((replayed flagged 0 5 ∷ []) is (1 ∷ []))
     ∷ []
 
 pub starred-hold : map (λ (x : Row). x .given) starred ≡ map (λ (x : Row). x .said) starred
-unfolding put same putPart tab anyb numberOf recordOf placeVector messageVector flat knownStable filterPair filtered condemnedPair condemned maskTo mask conflictPair conflict mergePair merged placeRecord latestFlagged replayed letOut release begun deliver report onesIn ones
+unfolding put same putPart tab anyb numberOf placeVector messageVector flat knownStable filterPair filtered condemnedPair condemned maskTo mask conflictPair conflict mergePair merged placeRecord latestFlagged replayed letOut release intervalAdded intervalBegins deliver report onesIn ones
 starred-hold = refl

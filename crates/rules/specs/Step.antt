@@ -8,6 +8,7 @@ use Rattle.table.specs.Field.{State}
 use Rattle.table.specs.Layout.{tableWords}
 use Rattle.table.specs.Words.{state, words}
 use Rattle.rules.specs.Limits.{Limits, house}
+use Rattle.rules.specs.Refusal.{LENGTH, FORM}
 use Rattle.rules.specs.Form.{inForm}
 use Rattle.rules.specs.Steps.{After, refuse, stepOpen, stepDegree, stepSend, stepRelease, stepDeliver, stepLog, stepCheckpoint, stepTell, stepCrash, stepHear}
 use Rattle.rules.specs.declared.Answer.{Answer}
@@ -19,30 +20,30 @@ use Rattle.rules.specs.declared.Command.the-variants.{Open, SetDegree, S
 unfoldable pub perform : Limits → State → Command → After
 perform L σ (Open n k) = stepOpen σ n k
 perform L σ (SetDegree c k) = stepDegree σ c k
-perform L σ (Send s r p) = stepSend L σ s r p
+perform L σ (Send sender receiver payload) = stepSend L σ sender receiver payload
 perform L σ (Release m) = stepRelease σ m
 perform L σ (Deliver m) = stepDeliver L σ m
 perform L σ (Log c q) = stepLog σ c q
 perform L σ (Checkpoint c) = stepCheckpoint σ c
-perform L σ (Tell a b) = stepTell σ a b
+perform L σ (Tell owner holder) = stepTell σ owner holder
 perform L σ (Crash c) = stepCrash L σ c
-perform L σ (Hear b a t) = stepHear σ b a t
+perform L σ (Hear hearer owner i) = stepHear σ hearer owner i
 
 -- "2 table not in form (not looked at by open)"
 abbrev pub looksAtForm : Command → Bool
 looksAtForm (Open n k) = false
 looksAtForm (SetDegree c k) = true
-looksAtForm (Send s r p) = true
+looksAtForm (Send sender receiver payload) = true
 looksAtForm (Release m) = true
 looksAtForm (Deliver m) = true
 looksAtForm (Log c q) = true
 looksAtForm (Checkpoint c) = true
-looksAtForm (Tell a b) = true
+looksAtForm (Tell owner holder) = true
 looksAtForm (Crash c) = true
-looksAtForm (Hear b a t) = true
+looksAtForm (Hear hearer owner i) = true
 
 unfoldable pub stepOn : Limits → State → Command → After
-stepOn L σ x = cond (looksAtForm x && not (inForm L σ)) (refuse 2 σ) (perform L σ x)
+stepOn L σ x = cond (looksAtForm x && not (inForm L σ)) (refuse FORM σ) (perform L σ x)
 
 -- an answer, and the table that is left
 pub record Out : Type 0 where
@@ -57,7 +58,7 @@ written o = out (o .answer) (words (o .left))
 
 -- "1 length is not 15,152": what a step does on the state of a table is done on the table.
 unfoldable pub lent : List ℕ → (State → After) → Out
-lent t f = cond (length t == tableWords) (written (f (state t))) (out (Refused 1) t)
+lent t f = cond (length t == tableWords) (written (f (state t))) (out (Refused LENGTH) t)
 
 -- The step function of a house over its lent table: the answer, and every word that is left.
 unfoldable pub step : List ℕ → Command → Out

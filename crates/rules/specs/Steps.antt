@@ -1,5 +1,16 @@
--- The ten steps of document 01 on a state, each with its own refusals, in order of number. The host's refusals, 1 and 2,
--- stand in Step.antt.
+-- The ten steps of document 01 on a state, each with its own refusals. The host's refusals, LENGTH and FORM, stand in
+-- Step.antt. Each letter's refusals in their order, which is that of their numbers (Refusal.antt; the test is in Order.antt):
+--
+--   O   LENGTH        DEGREE
+--   K   LENGTH FORM   CONTROLLER DEGREE
+--   S   LENGTH FORM   CONTROLLER SAME-CONTROLLER MESSAGES-USED-UP
+--   R   LENGTH FORM   MESSAGE STATE
+--   D   LENGTH FORM   MESSAGE STATE, and, where it neither drops nor waits, PLACES-USED-UP
+--   L   LENGTH FORM   CONTROLLER LOG-COUNT
+--   C   LENGTH FORM   CONTROLLER
+--   T   LENGTH FORM   CONTROLLER SAME-CONTROLLER
+--   X   LENGTH FORM   CONTROLLER PLACES-USED-UP INCARNATIONS-USED-UP
+--   H   LENGTH FORM   CONTROLLER NO-SUCH-CRASH ALREADY-HEARD, and, where it must undo, INCARNATIONS-USED-UP
 use mathlib.Core.Bool.{Bool, not, cond, _&&_, _||_}
 use mathlib.Core.List.{List, [], _∷_, _++_}
 use Prim.Native.Nat.{ℕ, _+_, _-_, max}
@@ -9,14 +20,15 @@ use Rattle.base.specs.Choice.{_==_, _≤?_, _<?_}
 use Rattle.base.specs.Ranges.{first}
 use Rattle.base.specs.Lists.{tab}
 use Rattle.base.specs.Cases.{Case, _⇒_, firstOf}
-use Rattle.table.specs.Field.{State, OfHead, OfController, Known, End, OfPlace, OfMessage, Size, SentCount, Degree, Incarnation, LiveCount, StableCount, PlaceIncarnation, PlaceNumber, Flag, MessageState, Sender, Receiver, messageHead}
+use Rattle.table.specs.Field.{State, OfHead, OfController, Known, End, OfPlace, OfMessage, Size, Degree, Incarnation, LiveCount, StableCount, PlaceIncarnation, PlaceNumber, Flag, MessageState, Sender, Receiver, messageHead}
 use Rattle.table.specs.Change.{put, putPart}
 use Rattle.table.specs.Layout.{controllers, incarnations}
-use Rattle.table.specs.Numbering.{numberOf, recordOf, messageOf}
+use Rattle.table.specs.Numbering.{numberOf, used, nextMessage, recordOf, posted}
 use Rattle.rules.specs.Limits.{Limits, lastIncarnation}
-use Rattle.rules.specs.Vector.{Vector, pair, placeVector, messageVector, flat, filtered, condemned, mask, conflict, merged}
+use Rattle.rules.specs.Refusal.{CONTROLLER, MESSAGE, DEGREE, SAME-CONTROLLER, STATE, LOG-COUNT, NO-SUCH-CRASH, ALREADY-HEARD, MESSAGES-USED-UP, PLACES-USED-UP, INCARNATIONS-USED-UP}
+use Rattle.rules.specs.Vector.{Vector, pair, noPair, placeVector, messageVector, flat, filtered, condemned, mask, conflict, merged}
 use Rattle.rules.specs.Form.{stateHeld, stateReleased, stateDelivered, stateLost, stateDropped}
-use Rattle.rules.specs.Shared.{newestPlace, placeRecord, logged, loggedTo, causes, startAnew, replayed}
+use Rattle.rules.specs.Shared.{newestPlace, placeRecord, logged, loggedTo, causes, offeredAgain, startAnew, replayed}
 use Rattle.rules.specs.declared.Answer.{Answer}
 use Rattle.rules.specs.declared.Answer.the-variants.{Done, Sent, Released, Held, Delivered, Dropped, Waits, Crashed, Heard, Rolled, Refused}
 
@@ -40,104 +52,116 @@ refusing cases σ o = cond (firstOf cases == 0) o (refuse (firstOf cases) σ)
 abbrev pub noController : State → ℕ → Bool
 noController σ c = σ Size ≤? c
 
--- "4 message number 0 or above the messages sent"
-abbrev pub noMessage : State → ℕ → Bool
-noMessage σ m = (m == 0) || (σ SentCount <? m)
-
 -- O n k: "n controllers, all with K = k; each has (0,1), flagged, stable, known to its owner, own pair (0,1) in its vector;
 -- all else 0."
+abbrev pub firstVector : ℕ → Vector
+firstVector c = tab controllers (λ (owner : ℕ). cond (owner == c) (pair 0 1) noPair)
+
 unfoldable pub openHouse : ℕ → ℕ → State
-openHouse n k (OfHead i) = cond (i == 0) n 0
-openHouse n k (OfController c i) = cond (c <? n) (getD (k ∷ 0 ∷ 1 ∷ 1 ∷ []) i 0) 0
-openHouse n k (Known b a t) = cond ((b <? n) && ((b == a) && (t == 0))) 1 0
-openHouse n k (End b a t) = 0
-openHouse n k (OfPlace c p i) = cond ((c <? n) && (p == 0)) (getD (placeRecord 0 1 0 1 (tab controllers (λ (a : ℕ). cond (a == c) (pair 0 1) (pair 0 0)))) i 0) 0
-openHouse n k (OfMessage r i) = 0
+openHouse n k (OfHead w) = cond (w == 0) n 0
+openHouse n k (OfController c w) = cond (c <? n) (getD (k ∷ 0 ∷ 1 ∷ 1 ∷ []) w 0) 0
+openHouse n k (Known holder owner i) = cond ((holder <? n) && ((holder == owner) && (i == 0))) 1 0
+openHouse n k (End holder owner i) = 0
+openHouse n k (OfPlace c p w) = cond ((c <? n) && (p == 0)) (getD (placeRecord 0 1 0 1 (firstVector c)) w 0) 0
+openHouse n k (OfMessage r w) = 0
 
 -- "5 n not 1 to 8, or a degree above n"
 abbrev pub openRefusals : ℕ → ℕ → List Case
-openRefusals n k = (((n == 0) || (controllers <? n) || (n <? k)) ⇒ 5) ∷ []
+openRefusals n k = (((n == 0) || (controllers <? n) || (n <? k)) ⇒ DEGREE) ∷ []
 
 unfoldable pub stepOpen : State → ℕ → ℕ → After
 stepOpen σ n k = refusing (openRefusals n k) σ (after Done (openHouse n k))
 
 -- K c k: "set the degree."
 abbrev pub degreeRefusals : State → ℕ → ℕ → List Case
-degreeRefusals σ c k = (noController σ c ⇒ 3) ∷ ((σ Size <? k) ⇒ 5) ∷ []
+degreeRefusals σ c k = (noController σ c ⇒ CONTROLLER) ∷ ((σ Size <? k) ⇒ DEGREE) ∷ []
 
 unfoldable pub stepDegree : State → ℕ → ℕ → After
 stepDegree σ c k = refusing (degreeRefusals σ c k) σ (after Done (put σ (Degree c) k))
 
 -- a message's words: "state, sender, receiver, incarnation and number of the sending interval, payload, vector"
 unfoldable pub messageRecord : ℕ → ℕ → ℕ → ℕ → ℕ → ℕ → Vector → List ℕ
-messageRecord st s r t x p v = (st ∷ s ∷ r ∷ t ∷ x ∷ p ∷ []) ++ flat v
+messageRecord st sender receiver i x payload v = (st ∷ sender ∷ receiver ∷ i ∷ x ∷ payload ∷ []) ++ flat v
 
--- S s r p: "message held, with the newest vector of s filtered for s." It stands in the first unused record.
+-- S s r p: "message held, with the newest vector of s filtered for s." It is put into the first unused record.
 unfoldable pub sent : State → ℕ → ℕ → ℕ → State
-sent σ s r p =
-    let k = newestPlace σ s in
-    let v = filtered σ s (placeVector σ s k) in
-    let m = σ SentCount in
-    put (putPart σ (OfMessage m 0) 0 (messageRecord stateHeld s r (σ (PlaceIncarnation s k)) (σ (PlaceNumber s k)) p v)) SentCount (m + 1)
+sent σ sender receiver payload =
+    let newest = newestPlace σ sender in
+    let i = σ (PlaceIncarnation sender newest) in
+    let x = σ (PlaceNumber sender newest) in
+    let v = filtered σ sender (placeVector σ sender newest) in
+    posted σ (messageRecord stateHeld sender receiver i x payload v)
 
 -- "6 the two controllers of S or T are equal"; "11 128 messages were sent since opening"
 abbrev pub sendRefusals : Limits → State → ℕ → ℕ → List Case
-sendRefusals L σ s r = ((noController σ s || noController σ r) ⇒ 3) ∷ ((s == r) ⇒ 6) ∷ ((L .messages ≤? σ SentCount) ⇒ 11) ∷ []
+sendRefusals L σ sender receiver =
+    ((noController σ sender || noController σ receiver) ⇒ CONTROLLER)
+    ∷ ((sender == receiver) ⇒ SAME-CONTROLLER)
+    ∷ ((L .messages ≤? used σ) ⇒ MESSAGES-USED-UP)
+    ∷ []
 
 unfoldable pub stepSend : Limits → State → ℕ → ℕ → ℕ → After
-stepSend L σ s r p = refusing (sendRefusals L σ s r) σ (after (Sent (messageOf σ (σ SentCount))) (sent σ s r p))
+stepSend L σ sender receiver payload =
+    refusing (sendRefusals L σ sender receiver) σ (after (Sent (nextMessage σ)) (sent σ sender receiver payload))
+
+-- "4 message number 0 or above the messages sent": there is no record of it. "7 release of a message not held, delivery of one
+-- not released": it stands in record r, in another state.
+abbrev pub messageRefusals : State → ℕ → ℕ → List Case
+messageRefusals σ r wanted = ((used σ ≤? r) ⇒ MESSAGE) ∷ (not (σ (MessageState r) == wanted) ⇒ STATE) ∷ []
 
 -- R: "the filtered vector is stored and the state is released"
 unfoldable pub letOut : State → ℕ → Vector → State
 letOut σ r v = put (putPart σ (OfMessage r 0) messageHead (flat v)) (MessageState r) stateReleased
 
--- R m: "filter the message's vector for its sender; the mask has 2 to the power c for each non-empty pair. If the number of
--- ones in the mask is at most K of the sender, the filtered vector is stored and the state is released. Otherwise it stays
--- held and no word changes."
-unfoldable pub release : State → ℕ → After
-release σ m =
-    let r = recordOf σ m in
-    let v = filtered σ (σ (Sender r)) (messageVector σ r) in
-    cond (ones (mask v) ≤? σ (Degree (σ (Sender r))))
-    (after (Released m (mask v)) (letOut σ r v))
-    (after (Held m (mask v)) σ)
-
--- "7 release of a message not held, delivery of one not released"
-abbrev pub messageRefusals : State → ℕ → ℕ → List Case
-messageRefusals σ m wanted = (noMessage σ m ⇒ 4) ∷ (not (σ (MessageState (recordOf σ m)) == wanted) ⇒ 7) ∷ []
+-- R m, in record r: "filter the message's vector for its sender; the mask has 2 to the power c for each non-empty pair. If the
+-- number of ones in the mask is at most K of the sender, the filtered vector is stored and the state is released. Otherwise it
+-- stays held and no word changes."
+unfoldable pub release : State → ℕ → ℕ → After
+release σ m r =
+    let sender = σ (Sender r) in
+    let v = filtered σ sender (messageVector σ r) in
+    let letting = after (Released m (mask v)) (letOut σ r v) in
+    let holding = after (Held m (mask v)) σ in
+    cond (ones (mask v) ≤? σ (Degree sender)) letting holding
 
 unfoldable pub stepRelease : State → ℕ → After
-stepRelease σ m = refusing (messageRefusals σ m stateHeld) σ (release σ m)
+stepRelease σ m = let r = recordOf σ m in refusing (messageRefusals σ r stateHeld) σ (release σ m r)
 
 -- D: "Else a new interval begins with cause m and flag 0; each pair is the non-empty one or the one with the larger number,
--- and c's own pair is the new interval. State: delivered."
-unfoldable pub begun : State → ℕ → ℕ → Vector → State
-begun σ c m v =
-    let t = σ (Incarnation c) in
+-- and c's own pair is the new interval. State: delivered." v has the merged pairs; m stands in record r.
+unfoldable pub intervalAdded : State → ℕ → ℕ → ℕ → Vector → State
+intervalAdded σ c m r v =
+    let i = σ (Incarnation c) in
     let live = σ (LiveCount c) in
     let x = numberOf σ c (live + 1) in
-    put (put (putPart σ (OfPlace c live 0) 0 (placeRecord t x m 0 (set v c (pair t x)))) (LiveCount c) (live + 1)) (MessageState (recordOf σ m)) stateDelivered
+    let added = putPart σ (OfPlace c live 0) 0 (placeRecord i x m 0 (set v c (pair i x))) in
+    put (put added (LiveCount c) (live + 1)) (MessageState r) stateDelivered
 
--- D m: "deliver at its receiver c. Condemned to c: dropped. Else filter both c's newest vector and the message's for c; if an
--- owner other than c has non-empty pairs of different incarnations in the two, it waits and no word changes. Else a new
--- interval begins .."; "12 delivery with 64 live, unless it drops or waits"
-unfoldable pub deliver : Limits → State → ℕ → After
-deliver L σ m =
-    let r = recordOf σ m in
+-- its answer with what it leaves
+unfoldable pub intervalBegins : State → ℕ → ℕ → ℕ → Vector → After
+intervalBegins σ c m r v = after (Delivered m (σ (Incarnation c)) (numberOf σ c (σ (LiveCount c) + 1))) (intervalAdded σ c m r v)
+
+-- D m, in record r: "deliver at its receiver c. Condemned to c: dropped. Else filter both c's newest vector and the message's
+-- for c; if an owner other than c has non-empty pairs of different incarnations in the two, it waits and no word changes. Else
+-- a new interval begins .."; "12 delivery with 64 live, unless it drops or waits"
+unfoldable pub deliver : Limits → State → ℕ → ℕ → After
+deliver L σ m r =
     let c = σ (Receiver r) in
     let ours = filtered σ c (placeVector σ c (newestPlace σ c)) in
     let theirs = filtered σ c (messageVector σ r) in
-    cond (condemned σ c (messageVector σ r)) (after (Dropped m) (put σ (MessageState r) stateDropped))
-    (cond (conflict c ours theirs) (after (Waits m) σ)
-    (cond (L .places ≤? σ (LiveCount c)) (refuse 12 σ)
-    (after (Delivered m (σ (Incarnation c)) (numberOf σ c (σ (LiveCount c) + 1))) (begun σ c m (merged ours theirs)))))
+    let dropping = after (Dropped m) (put σ (MessageState r) stateDropped) in
+    let waiting = after (Waits m) σ in
+    let full = refuse PLACES-USED-UP σ in
+    cond (condemned σ c (messageVector σ r)) dropping
+    (cond (conflict c ours theirs) waiting
+    (cond (L .places ≤? σ (LiveCount c)) full (intervalBegins σ c m r (merged ours theirs))))
 
 unfoldable pub stepDeliver : Limits → State → ℕ → After
-stepDeliver L σ m = refusing (messageRefusals σ m stateReleased) σ (deliver L σ m)
+stepDeliver L σ m = let r = recordOf σ m in refusing (messageRefusals σ r stateReleased) σ (deliver L σ m r)
 
 -- L c q: "log the q oldest live intervals that are not stable"; "8 q is 0 or above live minus stable"
 abbrev pub logRefusals : State → ℕ → ℕ → List Case
-logRefusals σ c q = (noController σ c ⇒ 3) ∷ (((q == 0) || (σ (LiveCount c) - σ (StableCount c) <? q)) ⇒ 8) ∷ []
+logRefusals σ c q = (noController σ c ⇒ CONTROLLER) ∷ (((q == 0) || (σ (LiveCount c) - σ (StableCount c) <? q)) ⇒ LOG-COUNT) ∷ []
 
 unfoldable pub stepLog : State → ℕ → ℕ → After
 stepLog σ c q = refusing (logRefusals σ c q) σ (after Done (logged σ c (σ (StableCount c) + q)))
@@ -147,65 +171,85 @@ unfoldable pub checkpointed : State → ℕ → State
 checkpointed σ c = put (loggedTo σ c (σ (LiveCount c))) (Flag c (newestPlace σ c)) 1
 
 abbrev pub checkpointRefusals : State → ℕ → List Case
-checkpointRefusals σ c = (noController σ c ⇒ 3) ∷ []
+checkpointRefusals σ c = (noController σ c ⇒ CONTROLLER) ∷ []
 
 unfoldable pub stepCheckpoint : State → ℕ → After
 stepCheckpoint σ c = refusing (checkpointRefusals σ c) σ (after Done (checkpointed σ c))
 
 -- T a b, telling (a logging progress notification): "b's known words for a become the larger of b's and a's own, for each
 -- incarnation."
+unfoldable pub toldRow : State → ℕ → ℕ → List ℕ
+toldRow σ owner holder = tab incarnations (λ (i : ℕ). max (σ (Known holder owner i)) (σ (Known owner owner i)))
+
 unfoldable pub told : State → ℕ → ℕ → State
-told σ a b = putPart σ (Known b a 0) 0 (tab incarnations (λ (t : ℕ). max (σ (Known b a t)) (σ (Known a a t))))
+told σ owner holder = putPart σ (Known holder owner 0) 0 (toldRow σ owner holder)
 
 abbrev pub tellRefusals : State → ℕ → ℕ → List Case
-tellRefusals σ a b = ((noController σ a || noController σ b) ⇒ 3) ∷ ((a == b) ⇒ 6) ∷ []
+tellRefusals σ owner holder = ((noController σ owner || noController σ holder) ⇒ CONTROLLER) ∷ ((owner == holder) ⇒ SAME-CONTROLLER) ∷ []
 
 unfoldable pub stepTell : State → ℕ → ℕ → After
-stepTell σ a b = refusing (tellRefusals σ a b) σ (after Done (told σ a b))
+stepTell σ owner holder = refusing (tellRefusals σ owner holder) σ (after Done (told σ owner holder))
 
 -- X c: "k is the stable count. Causes of lost intervals get state lost. c's own end word for its incarnation becomes k. Then
 -- start anew."
 unfoldable pub crashed : State → ℕ → State
 crashed σ c =
     let k = σ (StableCount c) in
-    startAnew (put (causes σ c k (λ (r : ℕ). stateLost)) (End c c (σ (Incarnation c))) (numberOf σ c k)) c k
+    let settled = causes σ c k (λ (r : ℕ). stateLost) in
+    let ended = put settled (End c c (σ (Incarnation c))) (numberOf σ c k) in
+    startAnew ended c k
 
 -- "12 crash with 64 stable"; "13 crash in incarnation 15"
 abbrev pub crashRefusals : Limits → State → ℕ → List Case
-crashRefusals L σ c = (noController σ c ⇒ 3) ∷ ((L .places ≤? σ (StableCount c)) ⇒ 12) ∷ ((lastIncarnation ≤? σ (Incarnation c)) ⇒ 13) ∷ []
+crashRefusals L σ c =
+    (noController σ c ⇒ CONTROLLER)
+    ∷ ((L .places ≤? σ (StableCount c)) ⇒ PLACES-USED-UP)
+    ∷ ((lastIncarnation ≤? σ (Incarnation c)) ⇒ INCARNATIONS-USED-UP)
+    ∷ []
 
 unfoldable pub stepCrash : Limits → State → ℕ → After
 stepCrash L σ c =
     let k = σ (StableCount c) in
-    refusing (crashRefusals L σ c) σ
-    (after (Crashed c (σ (Incarnation c)) (numberOf σ c k) (σ (LiveCount c) - k) (replayed σ c k)) (crashed σ c))
+    let answer = Crashed c (σ (Incarnation c)) (numberOf σ c k) (σ (LiveCount c) - k) (replayed σ c k) in
+    refusing (crashRefusals L σ c) σ (after answer (crashed σ c))
 
--- H b a t: "copy a's own end word, and raise b's known word to it."
+-- H b a t, the hearer, the owner of the crash and the incarnation that it ended: "copy a's own end word, and raise b's known
+-- word to it."
 unfoldable pub noted : State → ℕ → ℕ → ℕ → State
-noted σ b a t = let e = σ (End a a t) in put (put σ (End b a t) e) (Known b a t) (max (σ (Known b a t)) e)
+noted σ hearer owner i =
+    let end = σ (End owner owner i) in
+    put (put σ (End hearer owner i) end) (Known hearer owner i) (max (σ (Known hearer owner i)) end)
 
 -- "Find the lowest place above 0 whose vector holds a condemned entry": that place, or the live count if there is none.
 unfoldable pub lowestCondemned : State → ℕ → ℕ
-lowestCondemned σ b = 1 + first (σ (LiveCount b) - 1) (λ (i : ℕ). condemned σ b (placeVector σ b (1 + i)))
+lowestCondemned σ hearer = 1 + first (σ (LiveCount hearer) - 1) (λ (j : ℕ). condemned σ hearer (placeVector σ hearer (1 + j)))
 
 -- "kept intervals not yet stable, if any, are logged as by L; each cause of an undone interval becomes dropped if its vector
 -- is condemned to b, else released again; then start anew."
 unfoldable pub rolledBack : State → ℕ → ℕ → State
-rolledBack σ b k = startAnew (causes (loggedTo σ b k) b k (λ (r : ℕ). cond (condemned σ b (messageVector σ r)) stateDropped stateReleased)) b k
+rolledBack σ hearer k =
+    let kept = loggedTo σ hearer k in
+    let settled = causes kept hearer k (offeredAgain kept hearer) in
+    startAnew settled hearer k
 
 -- H after its refusals; "If none, done. Otherwise that place's index is k"; "13 a hearing that must undo, in incarnation 15"
 unfoldable pub hear : State → ℕ → ℕ → ℕ → After
-hear σ b a t =
-    let heard = noted σ b a t in
-    let k = lowestCondemned heard b in
-    cond (σ (LiveCount b) ≤? k) (after (Heard b) heard)
-    (cond (lastIncarnation ≤? σ (Incarnation b)) (refuse 13 σ)
-    (after (Rolled b (numberOf σ b k) (σ (LiveCount b) - k) (replayed σ b k)) (rolledBack heard b k)))
+hear σ hearer owner i =
+    let heard = noted σ hearer owner i in
+    let k = lowestCondemned heard hearer in
+    let undone = σ (LiveCount hearer) - k in
+    let late = refuse INCARNATIONS-USED-UP σ in
+    let rolling = after (Rolled hearer (numberOf σ hearer k) undone (replayed σ hearer k)) (rolledBack heard hearer k) in
+    cond (σ (LiveCount hearer) ≤? k) (after (Heard hearer) heard)
+    (cond (lastIncarnation ≤? σ (Incarnation hearer)) late rolling)
 
 -- "9 a's own end word for t is 0, or t above 15"; "10 b's end word for a and t isn't 0"
 abbrev pub hearRefusals : State → ℕ → ℕ → ℕ → List Case
-hearRefusals σ b a t =
-    ((noController σ b || noController σ a) ⇒ 3) ∷ (((lastIncarnation <? t) || (σ (End a a t) == 0)) ⇒ 9) ∷ (not (σ (End b a t) == 0) ⇒ 10) ∷ []
+hearRefusals σ hearer owner i =
+    ((noController σ hearer || noController σ owner) ⇒ CONTROLLER)
+    ∷ (((lastIncarnation <? i) || (σ (End owner owner i) == 0)) ⇒ NO-SUCH-CRASH)
+    ∷ (not (σ (End hearer owner i) == 0) ⇒ ALREADY-HEARD)
+    ∷ []
 
 unfoldable pub stepHear : State → ℕ → ℕ → ℕ → After
-stepHear σ b a t = refusing (hearRefusals σ b a t) σ (hear σ b a t)
+stepHear σ hearer owner i = refusing (hearRefusals σ hearer owner i) σ (hear σ hearer owner i)

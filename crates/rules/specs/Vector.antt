@@ -17,7 +17,7 @@ abbrev pub Vector : Type 0
 Vector = List (List ℕ)
 
 abbrev pub pair : ℕ → ℕ → Pair
-pair t x = t ∷ x ∷ []
+pair i x = i ∷ x ∷ []
 
 abbrev pub noPair : Pair
 noPair = pair 0 0
@@ -31,39 +31,41 @@ number p = getD p 1 0
 abbrev pub empty : Pair → Bool
 empty p = number p == 0
 
--- the pair of owner a
+-- the pair of an owner
 abbrev pub pairOf : Vector → ℕ → Pair
-pairOf v a = getD v a []
+pairOf v owner = getD v owner []
 
 -- the vector in place p of c, and that in message record r
 unfoldable pub placeVector : State → ℕ → ℕ → Vector
-placeVector σ c p = tab controllers (λ (a : ℕ). pair (σ (PairIncarnation c p a)) (σ (PairNumber c p a)))
+placeVector σ c p = tab controllers (λ (owner : ℕ). pair (σ (PairIncarnation c p owner)) (σ (PairNumber c p owner)))
 
 unfoldable pub messageVector : State → ℕ → Vector
-messageVector σ r = tab controllers (λ (a : ℕ). pair (σ (MessagePairIncarnation r a)) (σ (MessagePairNumber r a)))
+messageVector σ r = tab controllers (λ (owner : ℕ). pair (σ (MessagePairIncarnation r owner)) (σ (MessagePairNumber r owner)))
 
 -- a vector's words in a record
 unfoldable pub flat : Vector → List ℕ
-flat v = tab vectorWords (λ (i : ℕ). getD (pairOf v (i / 2)) (i % 2) 0)
+flat v = tab vectorWords (λ (k : ℕ). getD (pairOf v (k / 2)) (k % 2) 0)
 
 -- "Known stable, to holder b: a pair (t,x) of owner a with x at most b's known word for a and t."
 unfoldable pub knownStable : State → ℕ → ℕ → Pair → Bool
-knownStable σ b a p = number p ≤? σ (Known b a (incarnation p))
+knownStable σ holder owner p = number p ≤? σ (Known holder owner (incarnation p))
 
 -- "Filtering a vector for b empties such pairs."
 unfoldable pub filterPair : State → ℕ → ℕ → Pair → Pair
-filterPair σ b a p = cond (knownStable σ b a p) noPair p
+filterPair σ holder owner p = cond (knownStable σ holder owner p) noPair p
 
 unfoldable pub filtered : State → ℕ → Vector → Vector
-filtered σ b v = tab controllers (λ (a : ℕ). filterPair σ b a (pairOf v a))
+filtered σ holder v = tab controllers (λ (owner : ℕ). filterPair σ holder owner (pairOf v owner))
 
 -- "Condemned, to b: a non-empty pair (t,x) of a where b's end word for a and t isn't 0 and x exceeds it."
 unfoldable pub condemnedPair : State → ℕ → ℕ → Pair → Bool
-condemnedPair σ b a p = let e = σ (End b a (incarnation p)) in not (empty p) && (not (e == 0) && (e <? number p))
+condemnedPair σ holder owner p =
+    let end = σ (End holder owner (incarnation p)) in
+    not (empty p) && (not (end == 0) && (end <? number p))
 
 -- "A vector is condemned when one of its pairs is."
 unfoldable pub condemned : State → ℕ → Vector → Bool
-condemned σ b v = anyb controllers (λ (a : ℕ). condemnedPair σ b a (pairOf v a))
+condemned σ holder v = anyb controllers (λ (owner : ℕ). condemnedPair σ holder owner (pairOf v owner))
 
 -- R: "the mask has 2 to the power c for each non-empty pair", here of the first n pairs.
 unfoldable pub maskTo : ℕ → Vector → ℕ
@@ -73,16 +75,16 @@ maskTo (suc c) v = cond (empty (pairOf v c)) 0 (2 ^ c) + maskTo c v
 unfoldable pub mask : Vector → ℕ
 mask v = maskTo controllers v
 
--- D: "if an owner other than c has non-empty pairs of different incarnations in the two": owner a, with the pairs p and q
+-- D: "if an owner other than c has non-empty pairs of different incarnations in the two": with the pairs p and q
 unfoldable pub conflictPair : ℕ → ℕ → Pair → Pair → Bool
-conflictPair c a p q = not (a == c) && (not (empty p) && (not (empty q) && not (incarnation p == incarnation q)))
+conflictPair c owner p q = not (owner == c) && (not (empty p) && (not (empty q) && not (incarnation p == incarnation q)))
 
 unfoldable pub conflict : ℕ → Vector → Vector → Bool
-conflict c v w = anyb controllers (λ (a : ℕ). conflictPair c a (pairOf v a) (pairOf w a))
+conflict c v w = anyb controllers (λ (owner : ℕ). conflictPair c owner (pairOf v owner) (pairOf w owner))
 
 -- D: "each pair is the non-empty one or the one with the larger number" (an empty pair's number is 0)
 unfoldable pub mergePair : Pair → Pair → Pair
 mergePair p q = cond (number p <? number q) q p
 
 unfoldable pub merged : Vector → Vector → Vector
-merged v w = tab controllers (λ (a : ℕ). mergePair (pairOf v a) (pairOf w a))
+merged v w = tab controllers (λ (owner : ℕ). mergePair (pairOf v owner) (pairOf w owner))

@@ -1,4 +1,5 @@
 // What is asked of a house and what it answers. The rules themselves are definitions, in specs/.
+pub mod refusal;
 
 // A step, by its letter in document 01.
 pub enum Command {
@@ -20,7 +21,7 @@ pub enum Command {
     Tell(u32, u32),
     // X c
     Crash(u32),
-    // H b a t
+    // H b a t: hearer, owner of the crash, incarnation
     Hear(u32, u32, u32),
 }
 

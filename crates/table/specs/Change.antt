@@ -94,16 +94,18 @@ clear-ind P σ c p q u v g = cond-ind (P g) (inPlaces c p q g) hit miss
     miss : inPlaces c p q g ≡ false → P g (σ g)
     miss e = v g (λ x k l m. differs (inPlaces c p q) (OfPlace c x k) g (simp (eq-eqb c c refl, le-leb p x l, lt-ltb x q m)) e)
 
+-- a field that is a message's state is that of its record
+pub is-state : (g : Field) → isState g ≡ true → g ≡ MessageState (owner g)
+is-state g e =
+    message-state g (eqb-true _ _ (and-left (region g == region (MessageState 0)) _ e)) (eqb-true _ _ (and-right (region g == region (MessageState 0)) _ e))
+
 pub states-ind : (P : Field → ℕ → Type 0) (σ : State) (s : ℕ → ℕ) → ((r : ℕ) → P (MessageState r) (s r)) →
     ((g : Field) → ((r : ℕ) → g ≢ MessageState r) → P g (σ g)) → (g : Field) → P g (putStates σ s g)
 unfolding putStates
-states-ind P σ s u v g = cond-ind (P g) (isState g) hit miss
-  where
-    hit : isState g ≡ true → P g (s (owner g))
-    hit e =
-        let k = eqb-true _ _ (and-left (region g == region (MessageState 0)) _ e) in
-        let w = eqb-true _ _ (and-right (region g == region (MessageState 0)) _ e) in
-        subst (λ h. P h (s (owner g))) (sym (message-state g k w)) (u (owner g))
+states-ind P σ s u v g =
+    cond-ind (P g) (isState g) (λ e. subst (λ h. P h (s (owner g))) (sym (is-state g e)) (u (owner g)))
+    (λ e. v g (λ r. differs isState (MessageState r) g refl e))
 
-    miss : isState g ≡ false → P g (σ g)
-    miss e = v g (λ r. differs isState (MessageState r) g refl e)
+pub states-at : (σ : State) (s : ℕ → ℕ) (r : ℕ) → putStates σ s (MessageState r) ≡ s r
+unfolding putStates
+states-at σ s r = refl

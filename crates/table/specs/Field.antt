@@ -30,6 +30,10 @@ Size = OfHead 0
 abbrev pub SentCount : Field
 SentCount = OfHead 1
 
+-- the first word of the head that has no meaning yet
+abbrev pub spareFrom : ℕ
+spareFrom = 2
+
 -- "Per controller 4 words: K, incarnation, live count, stable count."
 abbrev pub Degree : ℕ → Field
 Degree c = OfController c 0
@@ -98,32 +102,32 @@ MessagePairNumber r a = OfMessage r (messageHead + 2 * a + 1)
 abbrev pub region : Field → ℕ
 region (OfHead i) = 0
 region (OfController c k) = 1
-region (Known b a t) = 2
-region (End b a t) = 3
+region (Known b a i) = 2
+region (End b a i) = 3
 region (OfPlace c p k) = 4
 region (OfMessage r k) = 5
 
 abbrev pub word : Field → ℕ
 word (OfHead i) = i
 word (OfController c k) = k
-word (Known b a t) = t
-word (End b a t) = t
+word (Known b a i) = i
+word (End b a i) = i
 word (OfPlace c p k) = k
 word (OfMessage r k) = k
 
 abbrev pub owner : Field → ℕ
 owner (OfHead i) = 0
 owner (OfController c k) = c
-owner (Known b a t) = b
-owner (End b a t) = b
+owner (Known b a i) = b
+owner (End b a i) = b
 owner (OfPlace c p k) = c
 owner (OfMessage r k) = r
 
 abbrev pub second : Field → ℕ
 second (OfHead i) = 0
 second (OfController c k) = 0
-second (Known b a t) = a
-second (End b a t) = a
+second (Known b a i) = a
+second (End b a i) = a
 second (OfPlace c p k) = p
 second (OfMessage r k) = 0
 
@@ -138,8 +142,8 @@ made (suc (suc (suc (suc (suc n))))) k a b = OfMessage a k
 made-of : (f : Field) → made (region f) (word f) (owner f) (second f) ≡ f
 made-of (OfHead i) = refl
 made-of (OfController c k) = refl
-made-of (Known b a t) = refl
-made-of (End b a t) = refl
+made-of (Known b a i) = refl
+made-of (End b a i) = refl
 made-of (OfPlace c p k) = refl
 made-of (OfMessage r k) = refl
 
@@ -158,16 +162,16 @@ same g f = (region g == region f) && ((word g == word f) && ((owner g == owner f
 pub word-of : (f : Field) (k : ℕ) → word (wordOf f k) ≡ k
 word-of (OfHead i) k = refl
 word-of (OfController c i) k = refl
-word-of (Known b a t) k = refl
-word-of (End b a t) k = refl
+word-of (Known b a i) k = refl
+word-of (End b a i) k = refl
 word-of (OfPlace c p i) k = refl
 word-of (OfMessage r i) k = refl
 
 pub made-alike : (g f : Field) (k : ℕ) → region g ≡ region f → owner g ≡ owner f → second g ≡ second f → word g ≡ k → g ≡ wordOf f k
 made-alike g f k p q r s = sym (made-of g) ∙ (λ d. made (p d) (s d) (q d) (r d))
 
--- a field of the messages' region with word 0 is the state of a message
-pub message-state : (g : Field) → region g ≡ 5 → word g ≡ 0 → g ≡ MessageState (owner g)
+-- a field of the messages' region with the state's word is the state of a message
+pub message-state : (g : Field) → region g ≡ region (MessageState 0) → word g ≡ word (MessageState 0) → g ≡ MessageState (owner g)
 message-state g p w = sym (made-of g) ∙ (λ d. made (p d) (w d) (owner g) (second g))
 
 pub alike-true : (g f : Field) → alike g f ≡ true → g ≡ wordOf f (word g)
@@ -179,8 +183,8 @@ alike-true g f e =
 pub alike-word : (f : Field) (k : ℕ) → alike (wordOf f k) f ≡ true
 alike-word (OfHead i) k = refl
 alike-word (OfController c i) k = simp (eq-eqb c c refl)
-alike-word (Known b a t) k = simp (eq-eqb b b refl, eq-eqb a a refl)
-alike-word (End b a t) k = simp (eq-eqb b b refl, eq-eqb a a refl)
+alike-word (Known b a i) k = simp (eq-eqb b b refl, eq-eqb a a refl)
+alike-word (End b a i) k = simp (eq-eqb b b refl, eq-eqb a a refl)
 alike-word (OfPlace c p i) k = simp (eq-eqb c c refl, eq-eqb p p refl)
 alike-word (OfMessage r i) k = simp (eq-eqb r r refl)
 

@@ -1,12 +1,12 @@
 -- Where each field stands in the lent table. These are the only word positions of the definitions; src/lib.rt has the
 -- same numbers as constants of the code.
 use mathlib.Core.Path.{_≡_, refl, sym, ap, _∙_}
-use mathlib.Core.Bool.{cond}
+use mathlib.Core.Bool.{Bool, true, cond, _&&_}
 use Prim.Native.Nat.{ℕ, _+_, _-_, _*_, _/_, _%_, _<_}
 use native.Mathlib.Omega.{arith}
 use borrow.Author.Tests.{ltb-true, ltb-false, lt-ltb, le-ltb}
-use Rattle.base.specs.Choice.{_<?_, cond-ind}
-use Rattle.table.specs.Field.{Field, OfHead, OfController, Known, End, OfPlace, OfMessage, wordOf, placeHead, messageHead}
+use Rattle.base.specs.Choice.{_<?_, and-left, and-right, cond-ind}
+use Rattle.table.specs.Field.{Field, OfHead, OfController, Known, End, OfPlace, OfMessage, PairIncarnation, PairNumber, MessagePairIncarnation, MessagePairNumber, wordOf, placeHead, messageHead}
 
 -- how many there are of each
 abbrev pub controllers : ℕ
@@ -70,8 +70,8 @@ printed = (refl, refl, refl, refl, refl)
 abbrev pub Valid : Field → Type 0
 Valid (OfHead i) = i < headWords
 Valid (OfController c k) = (c < controllers) × (k < controllerWords)
-Valid (Known b a t) = (b < controllers) × (a < controllers) × (t < incarnations)
-Valid (End b a t) = (b < controllers) × (a < controllers) × (t < incarnations)
+Valid (Known holder owner i) = (holder < controllers) × (owner < controllers) × (i < incarnations)
+Valid (End holder owner i) = (holder < controllers) × (owner < controllers) × (i < incarnations)
 Valid (OfPlace c p k) = (c < controllers) × (p < places) × (k < placeWords)
 Valid (OfMessage r k) = (r < messages) × (k < messageWords)
 
@@ -80,8 +80,8 @@ Valid (OfMessage r k) = (r < messages) × (k < messageWords)
 abbrev pub position : Field → ℕ
 position (OfHead i) = i
 position (OfController c k) = controllersFrom + k + c * controllerWords
-position (Known b a t) = knownFrom + b * rowsWords + a * incarnations + t
-position (End b a t) = endsFrom + b * rowsWords + a * incarnations + t
+position (Known holder owner i) = knownFrom + holder * rowsWords + owner * incarnations + i
+position (End holder owner i) = endsFrom + holder * rowsWords + owner * incarnations + i
 position (OfPlace c p k) = placesFrom + k + c * chainWords + p * placeWords
 position (OfMessage r k) = messagesFrom + k + r * messageWords
 
@@ -114,37 +114,37 @@ stands i h =
     cond-ind (Stands i) (i <? messagesFrom) (λ e. let u = ltb-true i messagesFrom e in record { valid = (omega arith, omega arith, omega arith); here = omega arith })
     (λ e. let l = ltb-false i messagesFrom e in record { valid = (omega arith, omega arith); here = omega arith })))))
 
-pub at-lt : (f : Field) → Valid f → position f < tableWords
-at-lt (OfHead i) v = omega arith
-at-lt (OfController c k) v = omega arith
-at-lt (Known b a t) v = omega arith
-at-lt (End b a t) v = omega arith
-at-lt (OfPlace c p k) v = omega arith
-at-lt (OfMessage r k) v = omega arith
+pub position-lt : (f : Field) → Valid f → position f < tableWords
+position-lt (OfHead i) v = omega arith
+position-lt (OfController c k) v = omega arith
+position-lt (Known b a i) v = omega arith
+position-lt (End b a i) v = omega arith
+position-lt (OfPlace c p k) v = omega arith
+position-lt (OfMessage r k) v = omega arith
 
 -- a field stands at its position
-pub field-at : (f : Field) → Valid f → fieldAt (position f) ≡ f
+pub field-at-position : (f : Field) → Valid f → fieldAt (position f) ≡ f
 unfolding fieldAt
-field-at (OfHead i) v = simp (lt-ltb i controllersFrom v)
-field-at (OfController c k) v =
+field-at-position (OfHead i) v = simp (lt-ltb i controllersFrom v)
+field-at-position (OfController c k) v =
     let i = position (OfController c k) in
     let x : (i - controllersFrom) / controllerWords ≡ c = omega arith in
     let y : (i - controllersFrom) % controllerWords ≡ k = omega arith in
     simp (le-ltb i controllersFrom (omega arith), lt-ltb i knownFrom (omega arith)) (λ d. OfController (x d) (y d))
-field-at (Known b a t) v =
-    let i = position (Known b a t) in
-    let x : (i - knownFrom) / rowsWords ≡ b = omega arith in
-    let y : (i - knownFrom) / incarnations % controllers ≡ a = omega arith in
-    let z : (i - knownFrom) % incarnations ≡ t = omega arith in
-    simp (le-ltb i controllersFrom (omega arith), le-ltb i knownFrom (omega arith), lt-ltb i endsFrom (omega arith)) (λ d. Known (x d) (y d) (z d))
-field-at (End b a t) v =
-    let i = position (End b a t) in
-    let x : (i - endsFrom) / rowsWords ≡ b = omega arith in
-    let y : (i - endsFrom) / incarnations % controllers ≡ a = omega arith in
-    let z : (i - endsFrom) % incarnations ≡ t = omega arith in
-    simp (le-ltb i controllersFrom (omega arith), le-ltb i knownFrom (omega arith), le-ltb i endsFrom (omega arith), lt-ltb i placesFrom (omega arith))
+field-at-position (Known b a i) v =
+    let w = position (Known b a i) in
+    let x : (w - knownFrom) / rowsWords ≡ b = omega arith in
+    let y : (w - knownFrom) / incarnations % controllers ≡ a = omega arith in
+    let z : (w - knownFrom) % incarnations ≡ i = omega arith in
+    simp (le-ltb w controllersFrom (omega arith), le-ltb w knownFrom (omega arith), lt-ltb w endsFrom (omega arith)) (λ d. Known (x d) (y d) (z d))
+field-at-position (End b a i) v =
+    let w = position (End b a i) in
+    let x : (w - endsFrom) / rowsWords ≡ b = omega arith in
+    let y : (w - endsFrom) / incarnations % controllers ≡ a = omega arith in
+    let z : (w - endsFrom) % incarnations ≡ i = omega arith in
+    simp (le-ltb w controllersFrom (omega arith), le-ltb w knownFrom (omega arith), le-ltb w endsFrom (omega arith), lt-ltb w placesFrom (omega arith))
     (λ d. End (x d) (y d) (z d))
-field-at (OfPlace c p k) v =
+field-at-position (OfPlace c p k) v =
     let i = position (OfPlace c p k) in
     let x : (i - placesFrom) / chainWords ≡ c = omega arith in
     let y : (i - placesFrom) / placeWords % places ≡ p = omega arith in
@@ -157,7 +157,7 @@ field-at (OfPlace c p k) v =
       lt-ltb i messagesFrom (omega arith),
     )
     (λ d. OfPlace (x d) (y d) (z d))
-field-at (OfMessage r k) v =
+field-at-position (OfMessage r k) v =
     let i = position (OfMessage r k) in
     let x : (i - messagesFrom) / messageWords ≡ r = omega arith in
     let y : (i - messagesFrom) % messageWords ≡ k = omega arith in
@@ -171,14 +171,56 @@ field-at (OfMessage r k) v =
     (λ d. OfMessage (x d) (y d))
 
 -- two fields of the table at one position are one field
-pub at-one : (f g : Field) → Valid f → Valid g → position f ≡ position g → f ≡ g
-at-one f g u v e = sym (field-at f u) ∙ ap fieldAt e ∙ field-at g v
+pub position-one : (f g : Field) → Valid f → Valid g → position f ≡ position g → f ≡ g
+position-one f g u v e = sym (field-at-position f u) ∙ ap fieldAt e ∙ field-at-position g v
 
 -- the words of a record stand one after the other
-pub at-next : (f : Field) (k i : ℕ) → position (wordOf f (k + i)) ≡ position (wordOf f k) + i
-at-next (OfHead j) k i = refl
-at-next (OfController c j) k i = omega arith
-at-next (Known b a t) k i = omega arith
-at-next (End b a t) k i = omega arith
-at-next (OfPlace c p j) k i = omega arith
-at-next (OfMessage r j) k i = omega arith
+pub position-next : (f : Field) (k i : ℕ) → position (wordOf f (k + i)) ≡ position (wordOf f k) + i
+position-next (OfHead j) k i = refl
+position-next (OfController c j) k i = omega arith
+position-next (Known b a n) k i = omega arith
+position-next (End b a n) k i = omega arith
+position-next (OfPlace c p j) k i = omega arith
+position-next (OfMessage r j) k i = omega arith
+
+-- the words of a vector are in the table
+pub valid-pair : (c p a : ℕ) → c < controllers → p < places → a < controllers → Valid (PairIncarnation c p a) × Valid (PairNumber c p a)
+valid-pair c p a cl pl al = ((cl, pl, omega arith), (cl, pl, omega arith))
+
+pub valid-message-pair : (r a : ℕ) → r < messages → a < controllers → Valid (MessagePairIncarnation r a) × Valid (MessagePairNumber r a)
+valid-message-pair r a rl al = ((rl, omega arith), (rl, omega arith))
+
+-- the same as a test
+abbrev pub valid : Field → Bool
+valid (OfHead i) = i <? headWords
+valid (OfController c k) = (c <? controllers) && (k <? controllerWords)
+valid (Known holder owner i) = (holder <? controllers) && ((owner <? controllers) && (i <? incarnations))
+valid (End holder owner i) = (holder <? controllers) && ((owner <? controllers) && (i <? incarnations))
+valid (OfPlace c p k) = (c <? controllers) && ((p <? places) && (k <? placeWords))
+valid (OfMessage r k) = (r <? messages) && (k <? messageWords)
+
+-- two tests passed
+two : (a b m n : ℕ) → ((a <? m) && (b <? n)) ≡ true → (a < m) × (b < n)
+two a b m n e = (ltb-true a m (and-left (a <? m) _ e), ltb-true b n (and-right (a <? m) _ e))
+
+-- three tests passed
+three : (a b c m n o : ℕ) → ((a <? m) && ((b <? n) && (c <? o))) ≡ true → (a < m) × (b < n) × (c < o)
+three a b c m n o e = let q = two b c n o (and-right (a <? m) _ e) in (ltb-true a m (and-left (a <? m) _ e), q .0, q .1)
+
+-- a field that passes has a word
+pub valid-of : (f : Field) → valid f ≡ true → Valid f
+valid-of (OfHead i) e = ltb-true i headWords e
+valid-of (OfController c k) e = two c k controllers controllerWords e
+valid-of (Known holder owner i) e = three holder owner i controllers controllers incarnations e
+valid-of (End holder owner i) e = three holder owner i controllers controllers incarnations e
+valid-of (OfPlace c p k) e = three c p k controllers places placeWords e
+valid-of (OfMessage r k) e = two r k messages messageWords e
+
+-- a field with a word passes
+pub of-valid : (f : Field) → Valid f → valid f ≡ true
+of-valid (OfHead i) v = lt-ltb i headWords v
+of-valid (OfController c k) v = simp (lt-ltb c controllers (v .0), lt-ltb k controllerWords (v .1))
+of-valid (Known holder owner i) v = simp (lt-ltb holder controllers (v .0), lt-ltb owner controllers (v .1), lt-ltb i incarnations (v .2))
+of-valid (End holder owner i) v = simp (lt-ltb holder controllers (v .0), lt-ltb owner controllers (v .1), lt-ltb i incarnations (v .2))
+of-valid (OfPlace c p k) v = simp (lt-ltb c controllers (v .0), lt-ltb p places (v .1), lt-ltb k placeWords (v .2))
+of-valid (OfMessage r k) v = simp (lt-ltb r messages (v .0), lt-ltb k messageWords (v .1))

@@ -1,10 +1,14 @@
-// Where each word of the lent table stands: the only word positions in the code. The definitions have the same numbers
-// in specs/Layout.antt; every contract over the table ties the two.
+// Where each word of the lent table stands: the only word positions in the code, and the only functions that read or write a
+// word by its position. The definitions have the same numbers in specs/Layout.antt; every contract over the table ties the
+// two. Names of words are those of specs/Field.antt.
 ghost use mathlib.Core.Path.{_≡_};
 ghost use Prim.Native.Nat.{_≤_, _<_};
-ghost use Rattle.table.specs.Layout.{messages};
-ghost use Rattle.table.specs.Words.{state};
-ghost use Rattle.table.specs.Numbering.{numberOf, recordOf, messageOf};
+ghost use lib.ListN.{length};
+ghost use Rattle.table.specs.Field.{OfController, OfPlace, OfMessage, Known, End, Size, SentCount, Degree, Incarnation, LiveCount, StableCount, PlaceIncarnation, PlaceNumber, Cause, Flag, MessageState, Sender, Receiver, SendingIncarnation, SendingNumber, placeHead, messageHead};
+ghost use Rattle.table.specs.Change.{put};
+ghost use Rattle.table.specs.Layout.{controllers, incarnations, places, messages, tableWords, position};
+ghost use Rattle.table.specs.Words.{state, words};
+ghost use Rattle.table.specs.Numbering.{numberOf, used, lastGiven, recordOf, messageOf};
 
 // How many there are of each.
 pub const CONTROLLERS: usize = 8;
@@ -70,59 +74,341 @@ pub const SENT_COUNT: usize = 1;
 
 pub const SPARE: usize = 2;
 
-// Of controller c, at + c * CONTROLLER_WORDS.
-pub const DEGREE: usize = CONTROLLERS_FROM;
+// The words of a controller's record, and where those of controller c stand, at + c * CONTROLLER_WORDS.
+pub const DEGREE_WORD: usize = 0;
 
-pub const INCARNATION: usize = CONTROLLERS_FROM + 1;
+pub const INCARNATION_WORD: usize = 1;
 
-pub const LIVE_COUNT: usize = CONTROLLERS_FROM + 2;
+pub const LIVE_COUNT_WORD: usize = 2;
 
-pub const STABLE_COUNT: usize = CONTROLLERS_FROM + 3;
+pub const STABLE_COUNT_WORD: usize = 3;
 
-// Of place p of controller c, at + c * CHAIN_WORDS + p * PLACE_WORDS.
-pub const PLACE_INCARNATION: usize = PLACES_FROM;
+pub const DEGREE: usize = CONTROLLERS_FROM + DEGREE_WORD;
 
-pub const PLACE_NUMBER: usize = PLACES_FROM + 1;
+pub const INCARNATION: usize = CONTROLLERS_FROM + INCARNATION_WORD;
 
-pub const CAUSE: usize = PLACES_FROM + 2;
+pub const LIVE_COUNT: usize = CONTROLLERS_FROM + LIVE_COUNT_WORD;
 
-pub const FLAG: usize = PLACES_FROM + 3;
+pub const STABLE_COUNT: usize = CONTROLLERS_FROM + STABLE_COUNT_WORD;
+
+// The words of a place's record, and where those of place p of controller c stand, at + c * CHAIN_WORDS + p * PLACE_WORDS.
+pub const PLACE_INCARNATION_WORD: usize = 0;
+
+pub const PLACE_NUMBER_WORD: usize = 1;
+
+pub const CAUSE_WORD: usize = 2;
+
+pub const FLAG_WORD: usize = 3;
+
+pub const PLACE_INCARNATION: usize = PLACES_FROM + PLACE_INCARNATION_WORD;
+
+pub const PLACE_NUMBER: usize = PLACES_FROM + PLACE_NUMBER_WORD;
+
+pub const CAUSE: usize = PLACES_FROM + CAUSE_WORD;
+
+pub const FLAG: usize = PLACES_FROM + FLAG_WORD;
 
 pub const PLACE_VECTOR: usize = PLACES_FROM + PLACE_HEAD;
 
-// Of message record r, at + r * MESSAGE_WORDS.
-pub const MESSAGE_STATE: usize = MESSAGES_FROM;
+// The words of a message's record, and where those of record r stand, at + r * MESSAGE_WORDS.
+pub const STATE_WORD: usize = 0;
 
-pub const SENDER: usize = MESSAGES_FROM + 1;
+pub const SENDER_WORD: usize = 1;
 
-pub const RECEIVER: usize = MESSAGES_FROM + 2;
+pub const RECEIVER_WORD: usize = 2;
 
-pub const SENDING_INCARNATION: usize = MESSAGES_FROM + 3;
+pub const SENDING_INCARNATION_WORD: usize = 3;
 
-pub const SENDING_NUMBER: usize = MESSAGES_FROM + 4;
+pub const SENDING_NUMBER_WORD: usize = 4;
 
-pub const PAYLOAD: usize = MESSAGES_FROM + 5;
+pub const PAYLOAD_WORD: usize = 5;
+
+pub const MESSAGE_STATE: usize = MESSAGES_FROM + STATE_WORD;
+
+pub const SENDER: usize = MESSAGES_FROM + SENDER_WORD;
+
+pub const RECEIVER: usize = MESSAGES_FROM + RECEIVER_WORD;
+
+pub const SENDING_INCARNATION: usize = MESSAGES_FROM + SENDING_INCARNATION_WORD;
+
+pub const SENDING_NUMBER: usize = MESSAGES_FROM + SENDING_NUMBER_WORD;
 
 pub const MESSAGE_VECTOR: usize = MESSAGES_FROM + MESSAGE_HEAD;
 
-// The number of the k-th live interval of c, counted from 1.
+// The head: how many controllers the house has.
+pub fn size(t: &[u32]) -> u32
+    requires { ⌜ length (now t) ≡ tableWords ⌝ }
+    ensures { λ x. ⌜ x ≡ state (now (t .entry)) Size ⌝ }
+{
+    t[SIZE]
+}
+
+pub fn set_size(t: &mut [u32], x: u32)
+    requires { ⌜ length (now t) ≡ tableWords ⌝ }
+    ensures { λ _. ⌜ now (t .exit) ≡ words (put (state (now (t .entry))) Size x) ⌝ }
+{
+    t[SIZE] = x;
+}
+
+pub fn set_sent_count(t: &mut [u32], x: u32)
+    requires { ⌜ length (now t) ≡ tableWords ⌝ }
+    ensures { λ _. ⌜ now (t .exit) ≡ words (put (state (now (t .entry))) SentCount x) ⌝ }
+{
+    t[SENT_COUNT] = x;
+}
+
+// A controller's own words.
+pub fn degree(t: &[u32], c: usize) -> u32
+    requires { ⌜ (length (now t) ≡ tableWords) × (c < controllers) ⌝ }
+    ensures { λ x. ⌜ x ≡ state (now (t .entry)) (Degree c) ⌝ }
+{
+    t[DEGREE + c * CONTROLLER_WORDS]
+}
+
+pub fn set_degree(t: &mut [u32], c: usize, x: u32)
+    requires { ⌜ (length (now t) ≡ tableWords) × (c < controllers) ⌝ }
+    ensures { λ _. ⌜ now (t .exit) ≡ words (put (state (now (t .entry))) (Degree c) x) ⌝ }
+{
+    t[DEGREE + c * CONTROLLER_WORDS] = x;
+}
+
+pub fn incarnation(t: &[u32], c: usize) -> u32
+    requires { ⌜ (length (now t) ≡ tableWords) × (c < controllers) ⌝ }
+    ensures { λ x. ⌜ x ≡ state (now (t .entry)) (Incarnation c) ⌝ }
+{
+    t[INCARNATION + c * CONTROLLER_WORDS]
+}
+
+pub fn set_incarnation(t: &mut [u32], c: usize, x: u32)
+    requires { ⌜ (length (now t) ≡ tableWords) × (c < controllers) ⌝ }
+    ensures { λ _. ⌜ now (t .exit) ≡ words (put (state (now (t .entry))) (Incarnation c) x) ⌝ }
+{
+    t[INCARNATION + c * CONTROLLER_WORDS] = x;
+}
+
+pub fn live_count(t: &[u32], c: usize) -> u32
+    requires { ⌜ (length (now t) ≡ tableWords) × (c < controllers) ⌝ }
+    ensures { λ x. ⌜ x ≡ state (now (t .entry)) (LiveCount c) ⌝ }
+{
+    t[LIVE_COUNT + c * CONTROLLER_WORDS]
+}
+
+pub fn set_live_count(t: &mut [u32], c: usize, x: u32)
+    requires { ⌜ (length (now t) ≡ tableWords) × (c < controllers) ⌝ }
+    ensures { λ _. ⌜ now (t .exit) ≡ words (put (state (now (t .entry))) (LiveCount c) x) ⌝ }
+{
+    t[LIVE_COUNT + c * CONTROLLER_WORDS] = x;
+}
+
+pub fn stable_count(t: &[u32], c: usize) -> u32
+    requires { ⌜ (length (now t) ≡ tableWords) × (c < controllers) ⌝ }
+    ensures { λ x. ⌜ x ≡ state (now (t .entry)) (StableCount c) ⌝ }
+{
+    t[STABLE_COUNT + c * CONTROLLER_WORDS]
+}
+
+pub fn set_stable_count(t: &mut [u32], c: usize, x: u32)
+    requires { ⌜ (length (now t) ≡ tableWords) × (c < controllers) ⌝ }
+    ensures { λ _. ⌜ now (t .exit) ≡ words (put (state (now (t .entry))) (StableCount c) x) ⌝ }
+{
+    t[STABLE_COUNT + c * CONTROLLER_WORDS] = x;
+}
+
+// What `holder` knows of incarnation i of `owner`: the highest number known stable, and the number kept in the crash that
+// ended it.
+pub fn known(t: &[u32], holder: usize, owner: usize, i: usize) -> u32
+    requires { ⌜ (length (now t) ≡ tableWords) × (holder < controllers) × (owner < controllers) × (i < incarnations) ⌝ }
+    ensures { λ x. ⌜ x ≡ state (now (t .entry)) (Known holder owner i) ⌝ }
+{
+    t[KNOWN + holder * ROWS_WORDS + owner * INCARNATIONS + i]
+}
+
+pub fn set_known(t: &mut [u32], holder: usize, owner: usize, i: usize, x: u32)
+    requires { ⌜ (length (now t) ≡ tableWords) × (holder < controllers) × (owner < controllers) × (i < incarnations) ⌝ }
+    ensures { λ _. ⌜ now (t .exit) ≡ words (put (state (now (t .entry))) (Known holder owner i) x) ⌝ }
+{
+    t[KNOWN + holder * ROWS_WORDS + owner * INCARNATIONS + i] = x;
+}
+
+pub fn end(t: &[u32], holder: usize, owner: usize, i: usize) -> u32
+    requires { ⌜ (length (now t) ≡ tableWords) × (holder < controllers) × (owner < controllers) × (i < incarnations) ⌝ }
+    ensures { λ x. ⌜ x ≡ state (now (t .entry)) (End holder owner i) ⌝ }
+{
+    t[ENDS + holder * ROWS_WORDS + owner * INCARNATIONS + i]
+}
+
+pub fn set_end(t: &mut [u32], holder: usize, owner: usize, i: usize, x: u32)
+    requires { ⌜ (length (now t) ≡ tableWords) × (holder < controllers) × (owner < controllers) × (i < incarnations) ⌝ }
+    ensures { λ _. ⌜ now (t .exit) ≡ words (put (state (now (t .entry))) (End holder owner i) x) ⌝ }
+{
+    t[ENDS + holder * ROWS_WORDS + owner * INCARNATIONS + i] = x;
+}
+
+// Place p of controller c.
+pub fn place_incarnation(t: &[u32], c: usize, p: usize) -> u32
+    requires { ⌜ (length (now t) ≡ tableWords) × (c < controllers) × (p < places) ⌝ }
+    ensures { λ x. ⌜ x ≡ state (now (t .entry)) (PlaceIncarnation c p) ⌝ }
+{
+    t[PLACE_INCARNATION + c * CHAIN_WORDS + p * PLACE_WORDS]
+}
+
+pub fn place_number(t: &[u32], c: usize, p: usize) -> u32
+    requires { ⌜ (length (now t) ≡ tableWords) × (c < controllers) × (p < places) ⌝ }
+    ensures { λ x. ⌜ x ≡ state (now (t .entry)) (PlaceNumber c p) ⌝ }
+{
+    t[PLACE_NUMBER + c * CHAIN_WORDS + p * PLACE_WORDS]
+}
+
+pub fn cause(t: &[u32], c: usize, p: usize) -> u32
+    requires { ⌜ (length (now t) ≡ tableWords) × (c < controllers) × (p < places) ⌝ }
+    ensures { λ x. ⌜ x ≡ state (now (t .entry)) (Cause c p) ⌝ }
+{
+    t[CAUSE + c * CHAIN_WORDS + p * PLACE_WORDS]
+}
+
+pub fn flag(t: &[u32], c: usize, p: usize) -> u32
+    requires { ⌜ (length (now t) ≡ tableWords) × (c < controllers) × (p < places) ⌝ }
+    ensures { λ x. ⌜ x ≡ state (now (t .entry)) (Flag c p) ⌝ }
+{
+    t[FLAG + c * CHAIN_WORDS + p * PLACE_WORDS]
+}
+
+pub fn set_flag(t: &mut [u32], c: usize, p: usize, x: u32)
+    requires { ⌜ (length (now t) ≡ tableWords) × (c < controllers) × (p < places) ⌝ }
+    ensures { λ _. ⌜ now (t .exit) ≡ words (put (state (now (t .entry))) (Flag c p) x) ⌝ }
+{
+    t[FLAG + c * CHAIN_WORDS + p * PLACE_WORDS] = x;
+}
+
+// Message record r.
+pub fn message_state(t: &[u32], r: usize) -> u32
+    requires { ⌜ (length (now t) ≡ tableWords) × (r < messages) ⌝ }
+    ensures { λ x. ⌜ x ≡ state (now (t .entry)) (MessageState r) ⌝ }
+{
+    t[MESSAGE_STATE + r * MESSAGE_WORDS]
+}
+
+pub fn set_message_state(t: &mut [u32], r: usize, x: u32)
+    requires { ⌜ (length (now t) ≡ tableWords) × (r < messages) ⌝ }
+    ensures { λ _. ⌜ now (t .exit) ≡ words (put (state (now (t .entry))) (MessageState r) x) ⌝ }
+{
+    t[MESSAGE_STATE + r * MESSAGE_WORDS] = x;
+}
+
+pub fn sender(t: &[u32], r: usize) -> u32
+    requires { ⌜ (length (now t) ≡ tableWords) × (r < messages) ⌝ }
+    ensures { λ x. ⌜ x ≡ state (now (t .entry)) (Sender r) ⌝ }
+{
+    t[SENDER + r * MESSAGE_WORDS]
+}
+
+pub fn receiver(t: &[u32], r: usize) -> u32
+    requires { ⌜ (length (now t) ≡ tableWords) × (r < messages) ⌝ }
+    ensures { λ x. ⌜ x ≡ state (now (t .entry)) (Receiver r) ⌝ }
+{
+    t[RECEIVER + r * MESSAGE_WORDS]
+}
+
+pub fn sending_incarnation(t: &[u32], r: usize) -> u32
+    requires { ⌜ (length (now t) ≡ tableWords) × (r < messages) ⌝ }
+    ensures { λ x. ⌜ x ≡ state (now (t .entry)) (SendingIncarnation r) ⌝ }
+{
+    t[SENDING_INCARNATION + r * MESSAGE_WORDS]
+}
+
+pub fn sending_number(t: &[u32], r: usize) -> u32
+    requires { ⌜ (length (now t) ≡ tableWords) × (r < messages) ⌝ }
+    ensures { λ x. ⌜ x ≡ state (now (t .entry)) (SendingNumber r) ⌝ }
+{
+    t[SENDING_NUMBER + r * MESSAGE_WORDS]
+}
+
+// Where a record, its vector, or a row of known words begins, for a part that is lent.
+pub fn controller_at(c: usize) -> usize
+    requires { ⌜ c < controllers ⌝ }
+    ensures { λ at. ⌜ at ≡ position (OfController c 0) ⌝ }
+{
+    CONTROLLERS_FROM + c * CONTROLLER_WORDS
+}
+
+pub fn known_row_at(holder: usize, owner: usize) -> usize
+    requires { ⌜ (holder < controllers) × (owner < controllers) ⌝ }
+    ensures { λ at. ⌜ at ≡ position (Known holder owner 0) ⌝ }
+{
+    KNOWN + holder * ROWS_WORDS + owner * INCARNATIONS
+}
+
+pub fn place_at(c: usize, p: usize) -> usize
+    requires { ⌜ (c < controllers) × (p ≤ places) ⌝ }
+    ensures { λ at. ⌜ at ≡ position (OfPlace c p 0) ⌝ }
+{
+    PLACES_FROM + c * CHAIN_WORDS + p * PLACE_WORDS
+}
+
+pub fn place_vector_at(c: usize, p: usize) -> usize
+    requires { ⌜ (c < controllers) × (p < places) ⌝ }
+    ensures { λ at. ⌜ at ≡ position (OfPlace c p placeHead) ⌝ }
+{
+    PLACE_VECTOR + c * CHAIN_WORDS + p * PLACE_WORDS
+}
+
+pub fn message_at(r: usize) -> usize
+    requires { ⌜ r ≤ messages ⌝ }
+    ensures { λ at. ⌜ at ≡ position (OfMessage r 0) ⌝ }
+{
+    MESSAGES_FROM + r * MESSAGE_WORDS
+}
+
+pub fn message_vector_at(r: usize) -> usize
+    requires { ⌜ r < messages ⌝ }
+    ensures { λ at. ⌜ at ≡ position (OfMessage r messageHead) ⌝ }
+{
+    MESSAGE_VECTOR + r * MESSAGE_WORDS
+}
+
+// Numbers: of the k-th live interval of c, counted from 1; message records in use; the last message number given.
 pub fn number_of(t: &[u32], c: usize, k: u32) -> u32
+    requires { ⌜ (length (now t) ≡ tableWords) × (c < controllers) ⌝ }
     ensures { λ x. ⌜ x ≡ numberOf (state (now (t .entry))) c k ⌝ }
 {
     k
 }
 
-// The record of message m, and the message of record r.
-pub fn record_of(t: &[u32], m: u32) -> usize
-    requires { ⌜ 1 ≤ m ⌝ }
-    ensures { λ r. ⌜ r ≡ recordOf (state (now (t .entry))) m ⌝ }
+pub fn records_used(t: &[u32]) -> u32
+    requires { ⌜ length (now t) ≡ tableWords ⌝ }
+    ensures { λ n. ⌜ n ≡ used (state (now (t .entry))) ⌝ }
 {
-    (m - 1) as usize
+    t[SENT_COUNT]
 }
 
-pub fn message_of(t: &[u32], r: u32) -> u32
-    requires { ⌜ r < messages ⌝ }
-    ensures { λ m. ⌜ m ≡ messageOf (state (now (t .entry))) r ⌝ }
+pub fn last_given(t: &[u32]) -> u32
+    requires { ⌜ length (now t) ≡ tableWords ⌝ }
+    ensures { λ m. ⌜ m ≡ lastGiven (state (now (t .entry))) ⌝ }
 {
-    r + 1
+    t[SENT_COUNT]
+}
+
+// The record of message m, or the records in use where no such message is there.
+pub fn find_record(t: &[u32], m: u32) -> usize
+    requires { ⌜ length (now t) ≡ tableWords ⌝ }
+    ensures { λ r. ⌜ r ≡ recordOf (state (now (t .entry))) m ⌝ }
+{
+    if (1 <= m) & (m <= last_given(t)) {
+        (m - 1) as usize
+    } else {
+        records_used(t) as usize
+    }
+}
+
+// The words of `s` are copied to a part that is lent for them.
+pub fn copy_words(d: &mut [u32], s: &[u32])
+    requires { ⌜ length (now d) ≡ length (now s) ⌝ }
+    ensures { λ _. ⌜ now (d .exit) ≡ now (s .entry) ⌝ }
+{
+    let n = s.len();
+    let mut i = 0;
+    while i < n {
+        d[i] = s[i];
+        i += 1;
+    }
 }

@@ -8,33 +8,36 @@ use Rattle.base.specs.Lists.{tab, getD-tab}
 use Rattle.table.specs.Field.{OfPlace, OfMessage, PairIncarnation, PairNumber, MessagePairIncarnation, MessagePairNumber, placeHead, messageHead}
 use Rattle.table.specs.Layout.{controllers, position}
 use Rattle.table.specs.Words.{state}
-use Rattle.rules.specs.Vector.{Vector, pair, pairOf, placeVector, messageVector}
+use Rattle.rules.specs.Vector.{Pair, Vector, pair, pairOf, placeVector, messageVector}
 
--- the vector whose words begin at word i of t
+-- the pair of an owner, and the vector, whose words begin at word `at` of t
+abbrev pub pairAt : List ℕ → ℕ → ℕ → Pair
+pairAt t at owner = pair (getD t (at + 2 * owner) 0) (getD t (at + 2 * owner + 1) 0)
+
 unfoldable pub vectorAt : List ℕ → ℕ → Vector
-vectorAt t i = tab controllers (λ (a : ℕ). pair (getD t (i + 2 * a) 0) (getD t (i + 2 * a + 1) 0))
+vectorAt t at = tab controllers (pairAt t at)
 
-pub pair-at : (t : List ℕ) (i a : ℕ) → a < controllers → pairOf (vectorAt t i) a ≡ pair (getD t (i + 2 * a) 0) (getD t (i + 2 * a + 1) 0)
+pub pair-at : (t : List ℕ) (at owner : ℕ) → owner < controllers → pairOf (vectorAt t at) owner ≡ pairAt t at owner
 unfolding vectorAt
-pair-at t i a h = getD-tab controllers _ a [] h
+pair-at t at owner h = getD-tab controllers _ owner [] h
 
 -- the vector of a place and that of a message stand after the head of their records
-pub place-vector : (t : List ℕ) (c p : ℕ) → vectorAt t (position (OfPlace c p placeHead)) ≡ placeVector (state t) c p
+pub place-vector : (t : List ℕ) (c p at : ℕ) → at ≡ position (OfPlace c p placeHead) → vectorAt t at ≡ placeVector (state t) c p
 unfolding vectorAt placeVector
-place-vector t c p = ap (tab controllers) (fun-ext (λ (a : ℕ). λ d. pair (getD t (x a d) 0) (getD t (y a d) 0)))
+place-vector t c p at e = ap (tab controllers) (fun-ext (λ (owner : ℕ). λ d. pair (getD t (x owner d) 0) (getD t (y owner d) 0)))
   where
-    x : (a : ℕ) → position (OfPlace c p placeHead) + 2 * a ≡ position (PairIncarnation c p a)
-    x a = omega arith
+    x : (owner : ℕ) → at + 2 * owner ≡ position (PairIncarnation c p owner)
+    x owner = omega arith
 
-    y : (a : ℕ) → position (OfPlace c p placeHead) + 2 * a + 1 ≡ position (PairNumber c p a)
-    y a = omega arith
+    y : (owner : ℕ) → at + 2 * owner + 1 ≡ position (PairNumber c p owner)
+    y owner = omega arith
 
-pub message-vector : (t : List ℕ) (r : ℕ) → vectorAt t (position (OfMessage r messageHead)) ≡ messageVector (state t) r
+pub message-vector : (t : List ℕ) (r at : ℕ) → at ≡ position (OfMessage r messageHead) → vectorAt t at ≡ messageVector (state t) r
 unfolding vectorAt messageVector
-message-vector t r = ap (tab controllers) (fun-ext (λ (a : ℕ). λ d. pair (getD t (x a d) 0) (getD t (y a d) 0)))
+message-vector t r at e = ap (tab controllers) (fun-ext (λ (owner : ℕ). λ d. pair (getD t (x owner d) 0) (getD t (y owner d) 0)))
   where
-    x : (a : ℕ) → position (OfMessage r messageHead) + 2 * a ≡ position (MessagePairIncarnation r a)
-    x a = omega arith
+    x : (owner : ℕ) → at + 2 * owner ≡ position (MessagePairIncarnation r owner)
+    x owner = omega arith
 
-    y : (a : ℕ) → position (OfMessage r messageHead) + 2 * a + 1 ≡ position (MessagePairNumber r a)
-    y a = omega arith
+    y : (owner : ℕ) → at + 2 * owner + 1 ≡ position (MessagePairNumber r owner)
+    y owner = omega arith

@@ -1,5 +1,5 @@
-// Dependency vectors by value, eight pairs of incarnation and number: taken from words, filtered, merged, judged, and
-// written back.
+// Dependency vectors by value, a pair of incarnation and number for each controller: taken from words, filtered, merged,
+// judged, and written back.
 ghost use mathlib.Core.Path.{_≡_};
 ghost use Prim.Native.Nat.{_+_, _≤_, _<_};
 ghost use lib.Count.{ones};
@@ -11,151 +11,154 @@ ghost use Rattle.rules.specs.Vector.{incarnation, placeVector, messageVector, f
 ghost use Rattle.laws.specs.Facts.{Near};
 ghost use Rattle.vector.specs.At.{vectorAt};
 
+// Incarnation and number.
+pub type Pair = [u32; 2];
+
+// The pair of each owner.
+pub type Vector = [Pair; table::CONTROLLERS];
+
 // The vector whose words begin at word `at`.
-pub fn vector_at(t: &[u32], at: usize) -> [[u32; 2]; 8]
+pub fn vector_at(t: &[u32], at: usize) -> Vector
     requires { ⌜ at + vectorWords ≤ length (now t) ⌝ }
     ensures { λ v. ⌜ v ≡ vectorAt (now (t .entry)) at ⌝ }
 {
-    let mut v = [[0u32; 2]; 8];
-    let mut a = 0;
-    while a < table::CONTROLLERS {
-        let p = [t[at + 2 * a], t[at + 2 * a + 1]];
-        v[a] = p;
-        a += 1;
+    let mut v = [[0u32; 2]; table::CONTROLLERS];
+    let mut owner = 0;
+    while owner < table::CONTROLLERS {
+        let p = [t[at + 2 * owner], t[at + 2 * owner + 1]];
+        v[owner] = p;
+        owner += 1;
     }
     v
 }
 
-pub fn place_vector(t: &[u32], c: usize, p: usize) -> [[u32; 2]; 8]
+pub fn place_vector(t: &[u32], c: usize, p: usize) -> Vector
     requires { ⌜ (length (now t) ≡ tableWords) × (c < controllers) × (p < places) ⌝ }
     ensures { λ v. ⌜ v ≡ placeVector (state (now (t .entry))) c p ⌝ }
 {
-    vector_at(
-        t,
-        table::PLACE_VECTOR + c * table::CHAIN_WORDS + p * table::PLACE_WORDS,
-    )
+    vector_at(t, table::place_vector_at(c, p))
 }
 
-pub fn message_vector(t: &[u32], r: usize) -> [[u32; 2]; 8]
+pub fn message_vector(t: &[u32], r: usize) -> Vector
     requires { ⌜ (length (now t) ≡ tableWords) × (r < messages) ⌝ }
     ensures { λ v. ⌜ v ≡ messageVector (state (now (t .entry))) r ⌝ }
 {
-    vector_at(t, table::MESSAGE_VECTOR + r * table::MESSAGE_WORDS)
+    vector_at(t, table::message_vector_at(r))
 }
 
-// The pair of owner a, or none where b knows it to be stable.
-pub fn filter_pair(t: &[u32], b: usize, a: usize, p: [u32; 2]) -> [u32; 2]
-    requires { ⌜ (length (now t) ≡ tableWords) × (b < controllers) × (a < controllers) × (incarnation p < incarnations) ⌝ }
-    ensures { λ q. ⌜ q ≡ filterPair (state (now (t .entry))) b a p ⌝ }
+// The pair of `owner`, or none where `holder` knows it to be stable.
+pub fn filter_pair(t: &[u32], holder: usize, owner: usize, p: Pair) -> Pair
+    requires { ⌜ (length (now t) ≡ tableWords) × (holder < controllers) × (owner < controllers) × (incarnation p < incarnations) ⌝ }
+    ensures { λ q. ⌜ q ≡ filterPair (state (now (t .entry))) holder owner p ⌝ }
 {
-    if p[1] <= t[table::KNOWN + b * table::ROWS_WORDS + a * table::INCARNATIONS + p[0] as usize] {
+    if p[1] <= table::known(t, holder, owner, p[0] as usize) {
         [0, 0]
     } else {
         p
     }
 }
 
-pub fn filter_vector(t: &[u32], b: usize, v: [[u32; 2]; 8]) -> [[u32; 2]; 8]
-    requires { ⌜ (length (now t) ≡ tableWords) × (b < controllers) × Near v ⌝ }
-    ensures { λ w. ⌜ w ≡ filtered (state (now (t .entry))) b v ⌝ }
+pub fn filter_vector(t: &[u32], holder: usize, v: Vector) -> Vector
+    requires { ⌜ (length (now t) ≡ tableWords) × (holder < controllers) × Near v ⌝ }
+    ensures { λ w. ⌜ w ≡ filtered (state (now (t .entry))) holder v ⌝ }
 {
-    let mut out = [[0u32; 2]; 8];
-    let mut a = 0;
-    while a < table::CONTROLLERS {
-        let p = filter_pair(t, b, a, v[a]);
-        out[a] = p;
-        a += 1;
+    let mut w = [[0u32; 2]; table::CONTROLLERS];
+    let mut owner = 0;
+    while owner < table::CONTROLLERS {
+        let p = filter_pair(t, holder, owner, v[owner]);
+        w[owner] = p;
+        owner += 1;
     }
-    out
+    w
 }
 
-// Whether the crashes that b has heard condemn the pair of owner a.
-pub fn condemned_pair(t: &[u32], b: usize, a: usize, p: [u32; 2]) -> bool
-    requires { ⌜ (length (now t) ≡ tableWords) × (b < controllers) × (a < controllers) × (incarnation p < incarnations) ⌝ }
-    ensures { λ r. ⌜ r ≡ condemnedPair (state (now (t .entry))) b a p ⌝ }
+// Whether the crashes that `holder` has heard condemn the pair of `owner`.
+pub fn condemned_pair(t: &[u32], holder: usize, owner: usize, p: Pair) -> bool
+    requires { ⌜ (length (now t) ≡ tableWords) × (holder < controllers) × (owner < controllers) × (incarnation p < incarnations) ⌝ }
+    ensures { λ x. ⌜ x ≡ condemnedPair (state (now (t .entry))) holder owner p ⌝ }
 {
-    let end = t[table::ENDS + b * table::ROWS_WORDS + a * table::INCARNATIONS + p[0] as usize];
+    let end = table::end(t, holder, owner, p[0] as usize);
     (p[1] != 0) & ((end != 0) & (end < p[1]))
 }
 
-pub fn condemned_vector(t: &[u32], b: usize, v: [[u32; 2]; 8]) -> bool
-    requires { ⌜ (length (now t) ≡ tableWords) × (b < controllers) × Near v ⌝ }
-    ensures { λ r. ⌜ r ≡ condemned (state (now (t .entry))) b v ⌝ }
+pub fn condemned_vector(t: &[u32], holder: usize, v: Vector) -> bool
+    requires { ⌜ (length (now t) ≡ tableWords) × (holder < controllers) × Near v ⌝ }
+    ensures { λ x. ⌜ x ≡ condemned (state (now (t .entry))) holder v ⌝ }
 {
     let mut some = false;
-    let mut a = 0;
-    while a < table::CONTROLLERS {
-        some = some | condemned_pair(t, b, a, v[a]);
-        a += 1;
+    let mut owner = 0;
+    while owner < table::CONTROLLERS {
+        some = some | condemned_pair(t, holder, owner, v[owner]);
+        owner += 1;
     }
     some
 }
 
-// Whether owner a, other than c, has non-empty pairs of different incarnations.
-pub fn conflict_pair(c: usize, a: usize, p: [u32; 2], q: [u32; 2]) -> bool
-    ensures { λ r. ⌜ r ≡ conflictPair c a p q ⌝ }
+// Whether `owner`, other than c, has non-empty pairs of different incarnations.
+pub fn conflict_pair(c: usize, owner: usize, p: Pair, q: Pair) -> bool
+    ensures { λ x. ⌜ x ≡ conflictPair c owner p q ⌝ }
 {
-    (a != c) & ((p[1] != 0) & ((q[1] != 0) & (p[0] != q[0])))
+    (owner != c) & ((p[1] != 0) & ((q[1] != 0) & (p[0] != q[0])))
 }
 
-pub fn conflict(c: usize, v: [[u32; 2]; 8], w: [[u32; 2]; 8]) -> bool
-    ensures { λ r. ⌜ r ≡ conflict c v w ⌝ }
+pub fn conflict(c: usize, v: Vector, w: Vector) -> bool
+    ensures { λ x. ⌜ x ≡ conflict c v w ⌝ }
 {
     let mut some = false;
-    let mut a = 0;
-    while a < table::CONTROLLERS {
-        some = some | conflict_pair(c, a, v[a], w[a]);
-        a += 1;
+    let mut owner = 0;
+    while owner < table::CONTROLLERS {
+        some = some | conflict_pair(c, owner, v[owner], w[owner]);
+        owner += 1;
     }
     some
 }
 
 // The non-empty pair, or the one with the larger number.
-pub fn merge_pair(p: [u32; 2], q: [u32; 2]) -> [u32; 2]
-    ensures { λ r. ⌜ r ≡ mergePair p q ⌝ }
+pub fn merge_pair(p: Pair, q: Pair) -> Pair
+    ensures { λ x. ⌜ x ≡ mergePair p q ⌝ }
 {
     if p[1] < q[1] { q } else { p }
 }
 
-pub fn merge_vector(v: [[u32; 2]; 8], w: [[u32; 2]; 8]) -> [[u32; 2]; 8]
-    ensures { λ r. ⌜ r ≡ merged v w ⌝ }
+pub fn merge_vector(v: Vector, w: Vector) -> Vector
+    ensures { λ x. ⌜ x ≡ merged v w ⌝ }
 {
-    let mut out = [[0u32; 2]; 8];
-    let mut a = 0;
-    while a < table::CONTROLLERS {
-        let p = merge_pair(v[a], w[a]);
-        out[a] = p;
-        a += 1;
+    let mut both = [[0u32; 2]; table::CONTROLLERS];
+    let mut owner = 0;
+    while owner < table::CONTROLLERS {
+        let p = merge_pair(v[owner], w[owner]);
+        both[owner] = p;
+        owner += 1;
     }
-    out
+    both
 }
 
-// The mask of the controllers with a non-empty pair.
-pub fn mask_of(v: [[u32; 2]; 8]) -> u32
-    ensures { λ r. ⌜ r ≡ mask v ⌝ }
+// The mask of the owners with a non-empty pair.
+pub fn mask_of(v: Vector) -> u32
+    ensures { λ x. ⌜ x ≡ mask v ⌝ }
 {
     let mut mask = 0;
     let mut bit = 1;
-    let mut a = 0;
-    while a < table::CONTROLLERS {
-        if v[a][1] != 0 {
+    let mut owner = 0;
+    while owner < table::CONTROLLERS {
+        if v[owner][1] != 0 {
             mask += bit;
         }
         bit *= 2;
-        a += 1;
+        owner += 1;
     }
     mask
 }
 
 // Whether a mask names at most k controllers.
 pub fn within_degree(mask: u32, k: u32) -> bool
-    ensures { λ r. ⌜ r ≡ leb (ones mask) k ⌝ }
+    ensures { λ x. ⌜ x ≡ leb (ones mask) k ⌝ }
 {
     u32::count_ones(mask) <= k
 }
 
 // The words of a vector, written into the part of a record that is lent for it.
-pub fn write_vector(d: &mut [u32], v: [[u32; 2]; 8])
+pub fn write_vector(d: &mut [u32], v: Vector)
     requires { ⌜ length (now d) ≡ vectorWords ⌝ }
     ensures { λ _. ⌜ now (d .exit) ≡ flat v ⌝ }
 {

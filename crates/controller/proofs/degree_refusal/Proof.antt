@@ -1,25 +1,24 @@
--- The tests stand in the order of the cases, and each return is the first that applies (hit, skip, none).
-use Rattle.base.specs.Cases.{none, hit, skip}
+-- The tests stand in the order of the cases; what was read is put for the words, and each test has its outcome.
+use Rattle.base.specs.Cases.{firstOf}
 use borrow.Author.Tests.{lt-ltb, le-ltb, le-leb, lt-leb}
 use borrow.Author.Needs.{needs}
 use Rattle.controller.proofs.degree_refusal.Statement.{statement}
 use Rattle.controller.proofs.degree_refusal.Tie as tie
 
-shared-slice-read-if1 : tie.Need-shared-slice-read-if1
-shared-slice-read-if1 c = search needs
+size-requires : tie.Need-size-requires
+size-requires c κs = search needs
 
 returns : tie.Need-returns
-returns c = hit _ _ _ (le-leb _ _ (c .if1 .taken))
-
-shared-slice-read-if2 : tie.Need-shared-slice-read-if2
-shared-slice-read-if2 c = search needs
+unfolding firstOf
+returns c = rw (← (c .before .size .ensures), le-leb _ _ (c .if1 .taken))
 
 returns-2 : tie.Need-returns-2
-returns-2 c = skip _ _ _ _ (lt-leb _ _ (c .before .before .if1 .left)) (hit _ _ _ (lt-ltb _ _ (c .if2 .taken)))
+unfolding firstOf
+returns-2 c = rw (← (c .before .before .size .ensures), lt-leb _ _ (c .before .if1 .left), lt-ltb _ _ (c .if2 .taken))
 
 returns-3 : tie.Need-returns-3
-returns-3 c = skip _ _ _ _ (lt-leb _ _ (c .before .before .if1 .left)) (skip _ _ _ _ (le-ltb _ _ (c .if2 .left)) none)
+unfolding firstOf
+returns-3 c = rw (← (c .before .before .size .ensures), lt-leb _ _ (c .before .if1 .left), le-ltb _ _ (c .if2 .left))
 
 pub degree-refusal-spec : {M : Type 1} → statement M
-degree-refusal-spec =
-    tie.close (tie.spec shared-slice-read-if1 returns shared-slice-read-if2 returns-2 returns-3)
+degree-refusal-spec = tie.close (tie.spec size-requires returns returns-2 returns-3)

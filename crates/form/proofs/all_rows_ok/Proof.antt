@@ -1,4 +1,4 @@
--- The flag gathers the tests of the holders before b (allb-step).
+-- The flag gathers the tests of the holders before `holder` (allb-step).
 use Rattle.base.specs.Ranges.{allb, allb-zero, allb-step, allb-end}
 use Rattle.table.specs.Layout.{controllers}
 use Rattle.table.specs.Words.{state}
@@ -11,10 +11,10 @@ use Rattle.form.proofs.all_rows_ok.Statement.{statement}
 use Rattle.form.proofs.all_rows_ok.Tie as tie
 
 abbrev Inv-loop : tie.InvT-loop
-Inv-loop t n ok₀ b₀ ok b = (b ≤ controllers) × (ok ≡ allb b (λ (b : ℕ). allb controllers (rowOk house n (state t) b)))
+Inv-loop t n ok₀ holder₀ ok holder = (holder ≤ controllers) × (ok ≡ allb holder (λ (holder : ℕ). allb controllers (rowOk house n (state t) holder)))
 
 abbrev μ-loop : tie.MeasureT-loop
-μ-loop t n ok₀ b₀ ok b = controllers - b
+μ-loop t n ok₀ holder₀ ok holder = controllers - holder
 
 loop-holds : tie.Need-loop-holds Inv-loop μ-loop
 loop-holds c = (search needs, allb-zero _)
@@ -22,8 +22,8 @@ loop-holds c = (search needs, allb-zero _)
 rows-ok-requires : tie.Need-rows-ok-requires Inv-loop μ-loop
 rows-ok-requires c κs = search needs
 
-add-b : tie.Need-add-b Inv-loop μ-loop
-add-b c = search needs
+add-holder : tie.Need-add-holder Inv-loop μ-loop
+add-holder c = search needs
 
 loop-less : tie.Need-loop-less Inv-loop μ-loop
 loop-less c = search needs
@@ -37,4 +37,4 @@ returns c = allb-end _ _ _ _ (c .before .loop .inv .1) (c .before .loop .inv .0)
 pub all-rows-ok-spec : {M : Type 1} → statement M
 all-rows-ok-spec =
     tie.close
-    (tie.spec Inv-loop μ-loop loop-holds rows-ok-requires add-b loop-less loop-again returns)
+    (tie.spec Inv-loop μ-loop loop-holds rows-ok-requires add-holder loop-less loop-again returns)

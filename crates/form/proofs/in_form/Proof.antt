@@ -1,20 +1,20 @@
 -- The tests are those of the definition, in its order; each call promises its own.
 use Rattle.base.specs.Cases.{allOf}
 use Rattle.rules.specs.Form.{inForm}
-use Rattle.form.specs.Runs.{zeros-head}
+use Rattle.records.specs.Zeros.{zeros-head}
 use mathlib.Core.Path.{_∙_}
 use borrow.Author.Needs.{needs}
 use Rattle.form.proofs.in_form.Statement.{statement}
 use Rattle.form.proofs.in_form.Tie as tie
 
-shared-slice-read-n : tie.Need-shared-slice-read-n
-shared-slice-read-n c = search needs
+size-requires : tie.Need-size-requires
+size-requires c κs = search needs
 
 cast-result : tie.Need-cast-result
 cast-result c = search needs
 
-shared-slice-read-result : tie.Need-shared-slice-read-result
-shared-slice-read-result c = search needs
+records-used-requires : tie.Need-records-used-requires
+records-used-requires c κs = search needs
 
 cast-result-2 : tie.Need-cast-result-2
 cast-result-2 c = search needs
@@ -40,15 +40,16 @@ messages-ok-requires c κs = search needs
 returns : tie.Need-returns
 unfolding inForm allOf
 returns c =
-    rw (c .before .before .before .before .all-zero .ensures ∙ zeros-head _, c .before .before .before .controllers-ok .ensures, c .before .before .all-rows-ok .ensures, c .before .all-places-ok .ensures, c .messages-ok .ensures)
+    let x = c .before .before .before .before in
+    rw (x .all-zero .ensures ∙ zeros-head _, c .before .before .before .controllers-ok .ensures, c .before .before .all-rows-ok .ensures, c .before .all-places-ok .ensures, c .messages-ok .ensures, x .before .records-used .ensures, x .before .before .size .ensures)
 
 pub in-form-spec : {M : Type 1} → statement M
 in-form-spec =
     tie.close
     (tie.spec
-    shared-slice-read-n
+    size-requires
     cast-result
-    shared-slice-read-result
+    records-used-requires
     cast-result-2
     sub-all-zero
     all-zero-requires

@@ -1,5 +1,6 @@
 -- The flag gathers the tests of the live places before p; the rest is one run of zeros (all-places).
 use Rattle.base.specs.Ranges.{allb, allb-zero, allb-step, allb-end}
+use Rattle.table.specs.Field.{LiveCount}
 use Rattle.table.specs.Layout.{places}
 use Rattle.table.specs.Words.{state}
 use Rattle.rules.specs.Limits.{house}
@@ -7,34 +8,24 @@ use Rattle.rules.specs.Form.{placeOk}
 use Rattle.form.specs.Runs.{all-places}
 use borrow.Author.Needs.{needs}
 use mathlib.Core.Path.{_≡_}
-use Prim.Native.Nat.{_-_, _≤_}
-use native.Mathlib.Omega.{arith}
+use Prim.Native.Nat.{_-_, _≤_, min}
 use Rattle.form.proofs.places_ok.Statement.{statement}
 use Rattle.form.proofs.places_ok.Tie as tie
 
 abbrev Inv-loop : tie.InvT-loop
-Inv-loop t n c live ok₀ p₀ ok p = (p ≤ live) × (live ≤ places) × (ok ≡ allb p (placeOk house n (state t) c))
+Inv-loop t n c live ok₀ p₀ ok p = (p ≤ live) × (live ≡ min (state t (LiveCount c)) places) × (ok ≡ allb p (placeOk house n (state t) c))
 
 abbrev μ-loop : tie.MeasureT-loop
 μ-loop t n c live ok₀ p₀ ok p = live - p
 
-mul-used : tie.Need-mul-used Inv-loop μ-loop
-mul-used c = search needs
+live-count-requires : tie.Need-live-count-requires Inv-loop μ-loop
+live-count-requires c κs = search needs
 
-add-used : tie.Need-add-used Inv-loop μ-loop
-add-used c = search needs
-
-mul-used-2 : tie.Need-mul-used-2 Inv-loop μ-loop
-mul-used-2 c = search needs
-
-shared-slice-read-used : tie.Need-shared-slice-read-used Inv-loop μ-loop
-shared-slice-read-used c = search needs
-
-used-requires : tie.Need-used-requires Inv-loop μ-loop
-used-requires c κs = search needs
+at-most-requires : tie.Need-at-most-requires Inv-loop μ-loop
+at-most-requires c κs = search needs
 
 loop-holds : tie.Need-loop-holds Inv-loop μ-loop
-loop-holds c = (search needs, omega (arith, c .used .ensures), allb-zero _)
+loop-holds c = (search needs, rw (c .before .live-count .ensures) at (c .at-most .ensures), allb-zero _)
 
 place-ok-requires : tie.Need-place-ok-requires Inv-loop μ-loop
 place-ok-requires c κs = search needs
@@ -46,33 +37,24 @@ loop-less : tie.Need-loop-less Inv-loop μ-loop
 loop-less c = search needs
 
 loop-again : tie.Need-loop-again Inv-loop μ-loop
-loop-again c = (search needs, search needs, allb-step _ _ _ _ (c .before .before .loop .inv .2) (c .place-ok .ensures))
+loop-again c = (search needs, c .before .before .loop .inv .1, allb-step _ _ _ _ (c .before .before .loop .inv .2) (c .place-ok .ensures))
 
-mul-all-zero : tie.Need-mul-all-zero Inv-loop μ-loop
-mul-all-zero c = search needs
+sub-free : tie.Need-sub-free Inv-loop μ-loop
+sub-free c = search needs
 
-add-all-zero : tie.Need-add-all-zero Inv-loop μ-loop
-add-all-zero c = search needs
+mul-free : tie.Need-mul-free Inv-loop μ-loop
+mul-free c = search needs
 
-mul-all-zero-2 : tie.Need-mul-all-zero-2 Inv-loop μ-loop
-mul-all-zero-2 c = search needs
-
-add-all-zero-2 : tie.Need-add-all-zero-2 Inv-loop μ-loop
-add-all-zero-2 c = search needs
-
-sub-all-zero : tie.Need-sub-all-zero Inv-loop μ-loop
-sub-all-zero c = search needs
-
-mul-all-zero-3 : tie.Need-mul-all-zero-3 Inv-loop μ-loop
-mul-all-zero-3 c = search needs
+place-at-requires : tie.Need-place-at-requires Inv-loop μ-loop
+place-at-requires c κs = search needs
 
 all-zero-requires : tie.Need-all-zero-requires Inv-loop μ-loop
 all-zero-requires c κs = search needs
 
 returns : tie.Need-returns Inv-loop μ-loop
 returns c =
-    let l = c .before .before .loop in
-    all-places (c .before .before .before .before .before .before .args .t .now) _ (c .before .before .before .before .before .before .args .c) _ _ _ (c .before .before .before .used .ensures) (allb-end _ _ _ _ (l .inv .2) (l .inv .0) (c .before .loop-test .left)) (c .all-zero .ensures)
+    let l = c .before .before .before .loop .inv in
+    all-places _ _ _ _ _ _ _ (l .1) (allb-end _ _ _ _ (l .2) (l .0) (c .before .before .loop-test .left)) (c .before .place-at .ensures) (c .all-zero .ensures)
 
 pub places-ok-spec : {M : Type 1} → statement M
 places-ok-spec =
@@ -80,21 +62,15 @@ places-ok-spec =
     (tie.spec
     Inv-loop
     μ-loop
-    mul-used
-    add-used
-    mul-used-2
-    shared-slice-read-used
-    used-requires
+    live-count-requires
+    at-most-requires
     loop-holds
     place-ok-requires
     add-p
     loop-less
     loop-again
-    mul-all-zero
-    add-all-zero
-    mul-all-zero-2
-    add-all-zero-2
-    sub-all-zero
-    mul-all-zero-3
+    sub-free
+    mul-free
+    place-at-requires
     all-zero-requires
     returns)

@@ -1,4 +1,4 @@
--- The flag gathers the tests of the owners before a (allb-step).
+-- The flag gathers the tests of the owners before `owner` (allb-step).
 use Rattle.base.specs.Ranges.{allb, allb-zero, allb-step, allb-end}
 use Rattle.table.specs.Layout.{controllers}
 use Rattle.table.specs.Words.{state}
@@ -11,10 +11,10 @@ use Rattle.form.proofs.rows_ok.Statement.{statement}
 use Rattle.form.proofs.rows_ok.Tie as tie
 
 abbrev Inv-loop : tie.InvT-loop
-Inv-loop t n b ok₀ a₀ ok a = (a ≤ controllers) × (ok ≡ allb a (rowOk house n (state t) b))
+Inv-loop t n holder ok₀ owner₀ ok owner = (owner ≤ controllers) × (ok ≡ allb owner (rowOk house n (state t) holder))
 
 abbrev μ-loop : tie.MeasureT-loop
-μ-loop t n b ok₀ a₀ ok a = controllers - a
+μ-loop t n holder ok₀ owner₀ ok owner = controllers - owner
 
 loop-holds : tie.Need-loop-holds Inv-loop μ-loop
 loop-holds c = (search needs, allb-zero _)
@@ -22,8 +22,8 @@ loop-holds c = (search needs, allb-zero _)
 row-ok-requires : tie.Need-row-ok-requires Inv-loop μ-loop
 row-ok-requires c κs = search needs
 
-add-a : tie.Need-add-a Inv-loop μ-loop
-add-a c = search needs
+add-owner : tie.Need-add-owner Inv-loop μ-loop
+add-owner c = search needs
 
 loop-less : tie.Need-loop-less Inv-loop μ-loop
 loop-less c = search needs
@@ -37,4 +37,4 @@ returns c = allb-end _ _ _ _ (c .before .loop .inv .1) (c .before .loop .inv .0)
 pub rows-ok-spec : {M : Type 1} → statement M
 rows-ok-spec =
     tie.close
-    (tie.spec Inv-loop μ-loop loop-holds row-ok-requires add-a loop-less loop-again returns)
+    (tie.spec Inv-loop μ-loop loop-holds row-ok-requires add-owner loop-less loop-again returns)

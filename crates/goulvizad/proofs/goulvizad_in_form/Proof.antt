@@ -1,5 +1,5 @@
 -- The two tests are those of the definition.
-use Rattle.goulvizad.specs.Call.{taken, formNumber}
+use Rattle.goulvizad.specs.Call.{formNumber}
 use mathlib.Core.Path.{sym, _∙_}
 use borrow.Author.Tests.{eq-eqb, ne-eqb}
 use borrow.Author.Needs.{needs}

@@ -3,11 +3,13 @@ use Prim.Native.Nat.{_^_, _≤_, _<_}
 use borrow.Author.Needs.{needs}
 use mathlib.Core.Path.{_≡_}
 use lib.ListN.{length}
+use Rattle.table.specs.Layout.{tableWords}
+use Rattle.house.specs.Room.{lineRoom, bufferRoom}
 use Rattle.house.proofs.main.Statement.{statement}
 use Rattle.house.proofs.main.Tie as tie
 
 abbrev Inv-loop : tie.InvT-loop
-Inv-loop table₀ line₀ out₀ chunk₀ p₀ turns₀ table line out chunk p turns = (length table ≡ 15152) × (length line ≡ 65) × (length out ≡ 65536) × (length chunk ≡ 65536) × (p .line ≤ 65) × (p .out ≤ 65536) × (turns < 2 ^ 64)
+Inv-loop table₀ line₀ out₀ chunk₀ p₀ turns₀ table line out chunk p turns = (length table ≡ tableWords) × (length line ≡ lineRoom) × (length out ≡ bufferRoom) × (length chunk ≡ bufferRoom) × (p .line ≤ lineRoom) × (p .out ≤ bufferRoom) × (turns < 2 ^ 64)
 
 abbrev μ-loop : tie.MeasureT-loop
 μ-loop table₀ line₀ out₀ chunk₀ p₀ turns₀ table line out chunk p turns = turns

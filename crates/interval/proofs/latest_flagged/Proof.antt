@@ -2,11 +2,11 @@
 use Rattle.table.specs.Layout.{places}
 use Rattle.table.specs.Words.{state}
 use Rattle.rules.specs.Shared.{latestFlagged}
-use Rattle.interval.specs.Chain.{flagged-none, flagged-here, flagged-below}
-use borrow.Author.Needs.{needs}
+use Rattle.interval.specs.Walks.{flagged-none, flagged-here, flagged-below}
 use mathlib.Core.Path.{_≡_, refl, sym, ap, _∙_}
 use Prim.Native.Nat.{_≤_}
 use native.Mathlib.Omega.{arith}
+use borrow.Author.Needs.{needs}
 use Rattle.interval.proofs.latest_flagged.Statement.{statement}
 use Rattle.interval.proofs.latest_flagged.Tie as tie
 
@@ -22,23 +22,8 @@ loop-holds c = (search needs, refl)
 sub-q : tie.Need-sub-q Inv-loop μ-loop
 sub-q c = search needs
 
-mul-if1 : tie.Need-mul-if1 Inv-loop μ-loop
-mul-if1 c = search needs
-
-add-if1 : tie.Need-add-if1 Inv-loop μ-loop
-add-if1 c = search needs
-
-mul-if1-2 : tie.Need-mul-if1-2 Inv-loop μ-loop
-mul-if1-2 c = search needs
-
-add-if1-2 : tie.Need-add-if1-2 Inv-loop μ-loop
-add-if1-2 c = search needs
-
-mul-if1-3 : tie.Need-mul-if1-3 Inv-loop μ-loop
-mul-if1-3 c = search needs
-
-shared-slice-read-if1 : tie.Need-shared-slice-read-if1 Inv-loop μ-loop
-shared-slice-read-if1 c = search needs
+flag-requires : tie.Need-flag-requires Inv-loop μ-loop
+flag-requires c κs = search needs
 
 cast-number-of : tie.Need-cast-number-of Inv-loop μ-loop
 cast-number-of c = search needs
@@ -47,13 +32,17 @@ number-of-requires : tie.Need-number-of-requires Inv-loop μ-loop
 number-of-requires c κs = search needs
 
 returns : tie.Need-returns Inv-loop μ-loop
-returns c = c .number-of .ensures ∙ flagged-here _ _ _ _ (omega arith) (c .before .if1 .taken) ∙ sym (c .before .before .before .before .loop .inv .1)
+returns c =
+    let s = c .before .before in
+    c .number-of .ensures ∙ flagged-here _ _ _ _ (omega arith) (sym (s .flag .ensures) ∙ c .before .if1 .taken) ∙ sym (s .before .before .loop .inv .1)
 
 loop-less : tie.Need-loop-less Inv-loop μ-loop
 loop-less c = search needs
 
 loop-again : tie.Need-loop-again Inv-loop μ-loop
-loop-again c = (search needs, c .before .before .before .loop .inv .1 ∙ sym (flagged-below _ _ _ _ (omega arith) (c .if1 .left)))
+loop-again c =
+    let s = c .before in
+    (search needs, s .before .before .loop .inv .1 ∙ sym (flagged-below _ _ _ _ (omega arith) (λ e. c .if1 .left (s .flag .ensures ∙ e))))
 
 returns-2 : tie.Need-returns-2 Inv-loop μ-loop
 returns-2 c =
@@ -68,12 +57,7 @@ latest-flagged-spec =
     μ-loop
     loop-holds
     sub-q
-    mul-if1
-    add-if1
-    mul-if1-2
-    add-if1-2
-    mul-if1-3
-    shared-slice-read-if1
+    flag-requires
     cast-number-of
     number-of-requires
     returns

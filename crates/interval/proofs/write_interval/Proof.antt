@@ -44,7 +44,7 @@ returns : tie.Need-returns
 unfolding placeRecord
 returns c =
     let s = c .before .before .before .before .before in
-    rw (c .before .before .write-vector .ensures) (headed (s .args .t ∷ s .args .x ∷ s .args .cause ∷ s .args .flag ∷ []) (s .args .d .now) (flat _) 4 16 refl (s .pre))
+    rw (c .before .before .write-vector .ensures) (headed (s .args .i ∷ s .args .x ∷ s .args .cause ∷ s .args .flag ∷ []) (s .args .d .now) (flat _) 4 16 refl (s .pre))
 
 pub write-interval-spec : {M : Type 1} → statement M
 write-interval-spec =

@@ -1,21 +1,12 @@
 -- The lent part comes back as the record, and the other words are as they were (lent-interval).
-use Rattle.interval.specs.Chain.{lent-interval}
+use Rattle.interval.specs.Walks.{lent-interval}
 use mathlib.Core.Path.{refl}
 use borrow.Author.Needs.{needs}
 use Rattle.interval.proofs.write_place.Statement.{statement}
 use Rattle.interval.proofs.write_place.Tie as tie
 
-mul-from : tie.Need-mul-from
-mul-from c = search needs
-
-add-from : tie.Need-add-from
-add-from c = search needs
-
-mul-from-2 : tie.Need-mul-from-2
-mul-from-2 c = search needs
-
-add-from-2 : tie.Need-add-from-2
-add-from-2 c = search needs
+place-at-requires : tie.Need-place-at-requires
+place-at-requires c κs = search needs
 
 add-to : tie.Need-add-to
 add-to c = search needs
@@ -40,17 +31,15 @@ same-length c = search needs
 
 returns : tie.Need-returns
 returns c =
-    let s = c .before .before .before .before .before .pre in
-    lent-interval _ _ _ _ _ _ _ _ _ _ (s .0) (s .1) (s .2) (c .before .before .write-interval .ensures) refl
+    let s = c .before .before .before .before in
+    let w = s .before .before .pre in
+    lent-interval _ _ _ _ _ _ _ _ _ _ _ (w .0) (w .1) (w .2) (c .before .before .write-interval .ensures) (s .place-at .ensures) refl
 
 pub write-place-spec : {M : Type 1} → statement M
 write-place-spec =
     tie.close
     (tie.spec
-    mul-from
-    add-from
-    mul-from-2
-    add-from-2
+    place-at-requires
     add-to
     mul-write-interval
     sub-write-interval

@@ -1,43 +1,40 @@
--- The tests are those of the refusals, in their order (hit, skip, none).
-use Rattle.base.specs.Cases.{hit, skip, none}
+-- The tests stand in the order of the cases; what was read is put for the words, and each test has its outcome.
+use Rattle.base.specs.Cases.{firstOf}
 use borrow.Author.Tests.{le-leb, lt-leb, eq-eqb, ne-eqb}
 use borrow.Author.Needs.{needs}
 use Rattle.message.proofs.send_refusal.Statement.{statement}
 use Rattle.message.proofs.send_refusal.Tie as tie
 
-shared-slice-read-if1 : tie.Need-shared-slice-read-if1
-shared-slice-read-if1 c = search needs
-
-shared-slice-read-if1-2 : tie.Need-shared-slice-read-if1-2
-shared-slice-read-if1-2 c = search needs
+size-requires : tie.Need-size-requires
+size-requires c κs = search needs
 
 returns : tie.Need-returns
-returns c = hit _ _ _ (c .if1 .taken)
+unfolding firstOf
+returns c = rw (← (c .before .size .ensures), c .if1 .taken)
 
 returns-2 : tie.Need-returns-2
-returns-2 c = skip _ _ _ _ (c .before .if1 .left) (hit _ _ _ (eq-eqb _ _ (c .if2 .taken)))
+unfolding firstOf
+returns-2 c = rw (← (c .before .before .size .ensures), c .before .if1 .left, eq-eqb _ _ (c .if2 .taken))
 
 cast-if3 : tie.Need-cast-if3
 cast-if3 c = search needs
 
-shared-slice-read-if3 : tie.Need-shared-slice-read-if3
-shared-slice-read-if3 c = search needs
+records-used-requires : tie.Need-records-used-requires
+records-used-requires c κs = search needs
 
 returns-3 : tie.Need-returns-3
-returns-3 c = skip _ _ _ _ (c .before .before .before .if1 .left) (skip _ _ _ _ (ne-eqb _ _ (c .before .before .if2 .left)) (hit _ _ _ (le-leb _ _ (c .if3 .taken))))
+unfolding firstOf
+returns-3 c =
+    let k = c .before .before .before in
+    rw (← (k .before .size .ensures), k .if1 .left, ne-eqb _ _ (c .before .before .if2 .left), ← (c .before .records-used .ensures), le-leb _ _ (c .if3 .taken))
 
 returns-4 : tie.Need-returns-4
-returns-4 c = skip _ _ _ _ (c .before .before .before .if1 .left) (skip _ _ _ _ (ne-eqb _ _ (c .before .before .if2 .left)) (skip _ _ _ _ (lt-leb _ _ (c .if3 .left)) none))
+unfolding firstOf
+returns-4 c =
+    let k = c .before .before .before in
+    rw (← (k .before .size .ensures), k .if1 .left, ne-eqb _ _ (c .before .before .if2 .left), ← (c .before .records-used .ensures), lt-leb _ _ (c .if3 .left))
 
 pub send-refusal-spec : {M : Type 1} → statement M
 send-refusal-spec =
     tie.close
-    (tie.spec
-    shared-slice-read-if1
-    shared-slice-read-if1-2
-    returns
-    returns-2
-    cast-if3
-    shared-slice-read-if3
-    returns-3
-    returns-4)
+    (tie.spec size-requires returns returns-2 cast-if3 records-used-requires returns-3 returns-4)

@@ -1,4 +1,6 @@
 -- Six words are stored one by one, and the part after them comes back as the flat vector (headed).
+use Rattle.table.specs.Field.{messageHead}
+use Rattle.table.specs.Layout.{vectorWords}
 use Rattle.rules.specs.Vector.{flat}
 use Rattle.rules.specs.Steps.{messageRecord}
 use Rattle.base.specs.Splice.{headed}
@@ -51,7 +53,7 @@ unfolding messageRecord
 returns c =
     let s = c .before .before .before .before .before in
     rw (c .before .before .write-vector .ensures)
-    (headed (s .args .state ∷ s .args .s ∷ s .args .r ∷ s .args .t ∷ s .args .x ∷ s .args .p ∷ []) (s .args .d .now) (flat _) 6 16 refl (s .pre))
+    (headed (s .args .state ∷ s .args .sender ∷ s .args .receiver ∷ s .args .i ∷ s .args .x ∷ s .args .payload ∷ []) (s .args .d .now) (flat _) messageHead vectorWords refl (s .pre))
 
 pub write-message-spec : {M : Type 1} → statement M
 write-message-spec =

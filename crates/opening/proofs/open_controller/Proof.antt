@@ -1,16 +1,13 @@
 -- The controller's words, its own known word and its place 0 are written one after the other (begun-at).
-use Rattle.opening.specs.Opened.{begun-at}
-use mathlib.Core.Path.{refl, _∙_}
-use lib.ListN.{length-set}
+use Rattle.table.specs.Words.{long-of}
+use Rattle.opening.specs.Opened.{controller-lent, begun-at}
+use mathlib.Core.Path.{refl}
 use borrow.Author.Needs.{needs}
 use Rattle.opening.proofs.open_controller.Statement.{statement}
 use Rattle.opening.proofs.open_controller.Tie as tie
 
-mul-from : tie.Need-mul-from
-mul-from c = search needs
-
-add-from : tie.Need-add-from
-add-from c = search needs
+controller-at-requires : tie.Need-controller-at-requires
+controller-at-requires c κs = search needs
 
 add-to : tie.Need-add-to
 add-to c = search needs
@@ -30,57 +27,39 @@ part-write-controller-end c = search needs
 write-controller-requires : tie.Need-write-controller-requires
 write-controller-requires c κs = search needs
 
-mul-t : tie.Need-mul-t
-mul-t c = search needs
-
-add-t : tie.Need-add-t
-add-t c = search needs
-
-mul-t-2 : tie.Need-mul-t-2
-mul-t-2 c = search needs
-
-add-t-2 : tie.Need-add-t-2
-add-t-2 c = search needs
-
-mul-t-3 : tie.Need-mul-t-3
-mul-t-3 c = search needs
-
-slice-write-t : tie.Need-slice-write-t
-slice-write-t c = search needs
+set-known-requires : tie.Need-set-known-requires
+set-known-requires c κs = search needs
 
 first-vector-requires : tie.Need-first-vector-requires
 first-vector-requires c κs = search needs
 
 write-place-requires : tie.Need-write-place-requires
-write-place-requires c κs = (simp length-set (search needs), search needs, search needs)
+write-place-requires c κs = (long-of _ (c .before .before .before .before .set-known .ensures), search needs, search needs)
 
 same-length : tie.Need-same-length
-same-length c = c .before .t2 .given ∙ simp length-set (search needs)
+same-length c = search needs
 
 returns : tie.Need-returns
 returns c =
-    let s = c .before .before .before .before .before .before .before in
-    let start = s .before .before .before in
-    begun-at _ _ _ _ _ _ _ (start .pre .0) (start .pre .1) (s .write-controller .ensures) refl (c .before .before .before .before .first-vector .ensures) (c .before .before .write-place .ensures)
+    let x = c .before .before .before .before in
+    let y = x .before .before .before in
+    let z = y .before .before .before .before in
+    let start = z .before .before .before .before in
+    let part = controller-lent _ _ _ _ _ _ (start .pre .0) (start .pre .1) (z .write-controller .ensures) (z .before .before .controller-at .ensures) refl in
+    begun-at (start .args .t .now) _ _ _ _ (start .args .k) _ part (y .set-known .ensures) (x .first-vector .ensures) (c .before .before .write-place .ensures)
 
 pub open-controller-spec : {M : Type 1} → statement M
 open-controller-spec =
     tie.close
     (tie.spec
-    mul-from
-    add-from
+    controller-at-requires
     add-to
     mul-write-controller
     sub-write-controller
     part-write-controller-start
     part-write-controller-end
     write-controller-requires
-    mul-t
-    add-t
-    mul-t-2
-    add-t-2
-    mul-t-3
-    slice-write-t
+    set-known-requires
     first-vector-requires
     write-place-requires
     same-length

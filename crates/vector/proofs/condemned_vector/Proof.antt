@@ -1,4 +1,4 @@
--- The flag gathers the tests of the owners before a (anyb-step).
+-- The flag gathers the tests of the owners before `owner` (anyb-step).
 use Rattle.rules.specs.Vector.{pairOf, condemnedPair, condemned}
 use Rattle.base.specs.Ranges.{anyb-zero, anyb-step, anyb-end, anyb}
 use Rattle.table.specs.Words.{state}
@@ -10,10 +10,10 @@ use Rattle.vector.proofs.condemned_vector.Statement.{statement}
 use Rattle.vector.proofs.condemned_vector.Tie as tie
 
 abbrev Inv-loop : tie.InvT-loop
-Inv-loop t b v some₀ a₀ some a = (a ≤ controllers) × (some ≡ anyb a (λ (k : ℕ). condemnedPair (state t) b k (pairOf v k)))
+Inv-loop t holder v some₀ owner₀ some owner = (owner ≤ controllers) × (some ≡ anyb owner (λ (k : ℕ). condemnedPair (state t) holder k (pairOf v k)))
 
 abbrev μ-loop : tie.MeasureT-loop
-μ-loop t b v some₀ a₀ some a = controllers - a
+μ-loop t holder v some₀ owner₀ some owner = controllers - owner
 
 loop-holds : tie.Need-loop-holds Inv-loop μ-loop
 loop-holds c = (search needs, anyb-zero _)
@@ -27,8 +27,8 @@ array-copy-out-condemned-pair c = search needs
 condemned-pair-requires : tie.Need-condemned-pair-requires Inv-loop μ-loop
 condemned-pair-requires c κs = (search needs, search needs, search needs, c .before .before .before .before .pre .2 _ (c .before .loop-test .taken))
 
-add-a : tie.Need-add-a Inv-loop μ-loop
-add-a c = search needs
+add-owner : tie.Need-add-owner Inv-loop μ-loop
+add-owner c = search needs
 
 loop-less : tie.Need-loop-less Inv-loop μ-loop
 loop-less c = search needs
@@ -50,7 +50,7 @@ condemned-vector-spec =
     mul-condemned-pair
     array-copy-out-condemned-pair
     condemned-pair-requires
-    add-a
+    add-owner
     loop-less
     loop-again
     returns)

@@ -1,4 +1,4 @@
--- The flag gathers the tests of the owners before a (anyb-step).
+-- The flag gathers the tests of the owners before `owner` (anyb-step).
 use Rattle.rules.specs.Vector.{pairOf, conflictPair, conflict}
 use Rattle.base.specs.Ranges.{anyb-zero, anyb-step, anyb-end, anyb}
 use Rattle.table.specs.Layout.{controllers}
@@ -9,10 +9,10 @@ use Rattle.vector.proofs.conflict.Statement.{statement}
 use Rattle.vector.proofs.conflict.Tie as tie
 
 abbrev Inv-loop : tie.InvT-loop
-Inv-loop c v w some₀ a₀ some a = (a ≤ controllers) × (some ≡ anyb a (λ (k : ℕ). conflictPair c k (pairOf v k) (pairOf w k)))
+Inv-loop c v w some₀ owner₀ some owner = (owner ≤ controllers) × (some ≡ anyb owner (λ (k : ℕ). conflictPair c k (pairOf v k) (pairOf w k)))
 
 abbrev μ-loop : tie.MeasureT-loop
-μ-loop c v w some₀ a₀ some a = controllers - a
+μ-loop c v w some₀ owner₀ some owner = controllers - owner
 
 loop-holds : tie.Need-loop-holds Inv-loop μ-loop
 loop-holds c = (search needs, anyb-zero _)
@@ -32,8 +32,8 @@ array-copy-out-conflict-pair-2 c = search needs
 conflict-pair-requires : tie.Need-conflict-pair-requires Inv-loop μ-loop
 conflict-pair-requires c κs = search needs
 
-add-a : tie.Need-add-a Inv-loop μ-loop
-add-a c = search needs
+add-owner : tie.Need-add-owner Inv-loop μ-loop
+add-owner c = search needs
 
 loop-less : tie.Need-loop-less Inv-loop μ-loop
 loop-less c = search needs
@@ -57,7 +57,7 @@ conflict-spec =
     mul-conflict-pair-2
     array-copy-out-conflict-pair-2
     conflict-pair-requires
-    add-a
+    add-owner
     loop-less
     loop-again
     returns)

@@ -11,10 +11,10 @@ use Rattle.vector.proofs.filter_vector.Statement.{statement}
 use Rattle.vector.proofs.filter_vector.Tie as tie
 
 abbrev Inv-loop : tie.InvT-loop
-Inv-loop t b v out₀ a₀ out a = Filled [] controllers (λ (k : ℕ). filterPair (state t) b k (pairOf v k)) a out
+Inv-loop t holder v w₀ owner₀ w owner = Filled [] controllers (λ (k : ℕ). filterPair (state t) holder k (pairOf v k)) owner w
 
 abbrev μ-loop : tie.MeasureT-loop
-μ-loop t b v out₀ a₀ out a = controllers - a
+μ-loop t holder v w₀ owner₀ w owner = controllers - owner
 
 loop-holds : tie.Need-loop-holds Inv-loop μ-loop
 loop-holds c = filled-none _ _ _ _ refl
@@ -28,14 +28,14 @@ array-copy-out-filter-pair c = search needs
 filter-pair-requires : tie.Need-filter-pair-requires Inv-loop μ-loop
 filter-pair-requires c κs = (search needs, search needs, search needs, c .before .before .before .before .pre .2 _ (c .before .loop-test .taken))
 
-mul-out : tie.Need-mul-out Inv-loop μ-loop
-mul-out c = search needs
+mul-w : tie.Need-mul-w Inv-loop μ-loop
+mul-w c = search needs
 
-array-set-from-out : tie.Need-array-set-from-out Inv-loop μ-loop
-array-set-from-out c = search needs
+array-set-from-w : tie.Need-array-set-from-w Inv-loop μ-loop
+array-set-from-w c = search needs
 
-add-a : tie.Need-add-a Inv-loop μ-loop
-add-a c = search needs
+add-owner : tie.Need-add-owner Inv-loop μ-loop
+add-owner c = search needs
 
 loop-less : tie.Need-loop-less Inv-loop μ-loop
 loop-less c = search needs
@@ -57,9 +57,9 @@ filter-vector-spec =
     mul-filter-pair
     array-copy-out-filter-pair
     filter-pair-requires
-    mul-out
-    array-set-from-out
-    add-a
+    mul-w
+    array-set-from-w
+    add-owner
     loop-less
     loop-again
     returns)

@@ -1,4 +1,4 @@
--- Before owner a the mask is that of the first a pairs, and `bit` is 2 to the power a.
+-- Before each turn the mask is that of the pairs before `owner`, and `bit` is 2 to the power of it.
 use Rattle.rules.specs.Vector.{maskTo, mask}
 use Rattle.table.specs.Layout.{controllers}
 use Rattle.laws.specs.Mask.{mask-lt}
@@ -14,10 +14,10 @@ use Rattle.vector.proofs.mask_of.Statement.{statement}
 use Rattle.vector.proofs.mask_of.Tie as tie
 
 abbrev Inv-loop : tie.InvT-loop
-Inv-loop v mask₀ bit₀ a₀ mask bit a = (a ≤ controllers) × (bit ≡ 2 ^ a) × (mask ≡ maskTo a v)
+Inv-loop v mask₀ bit₀ owner₀ mask bit owner = (owner ≤ controllers) × (bit ≡ 2 ^ owner) × (mask ≡ maskTo owner v)
 
 abbrev μ-loop : tie.MeasureT-loop
-μ-loop v mask₀ bit₀ a₀ mask bit a = controllers - a
+μ-loop v mask₀ bit₀ owner₀ mask bit owner = controllers - owner
 
 loop-holds : tie.Need-loop-holds Inv-loop μ-loop
 loop-holds c = (search needs, refl, mask-none _)
@@ -32,13 +32,13 @@ index-2-if1 : tie.Need-index-2-if1 Inv-loop μ-loop
 index-2-if1 c = search needs
 
 add-mask : tie.Need-add-mask Inv-loop μ-loop
-add-mask c = omega (arith, bit-small _ _ (c .before .before .loop-test .taken) (c .before .before .before .loop .inv .1), mask-lt (c .before .before .before .loop .a) (c .before .before .before .before .args .t1))
+add-mask c = omega (arith, bit-small _ _ (c .before .before .loop-test .taken) (c .before .before .before .loop .inv .1), mask-lt (c .before .before .before .loop .owner) (c .before .before .before .before .args .t1))
 
 mul-bit : tie.Need-mul-bit Inv-loop μ-loop
 mul-bit c = omega (arith, bit-small _ _ (c .before .before .loop-test .taken) (c .before .before .before .loop .inv .1))
 
-add-a : tie.Need-add-a Inv-loop μ-loop
-add-a c = search needs
+add-owner : tie.Need-add-owner Inv-loop μ-loop
+add-owner c = search needs
 
 loop-less : tie.Need-loop-less Inv-loop μ-loop
 loop-less c = search needs
@@ -47,7 +47,7 @@ loop-again : tie.Need-loop-again Inv-loop μ-loop
 loop-again c =
     let l = c .before .before .before .loop in (
       search needs,
-      ap (λ (x : ℕ). x * 2) (l .inv .1) ∙ sym (pow-suc 2 (l .a)) ∙ ap (λ (k : ℕ). 2 ^ k) (sym (add-one (l .a))),
+      ap (λ (x : ℕ). x * 2) (l .inv .1) ∙ sym (pow-suc 2 (l .owner)) ∙ ap (λ (k : ℕ). 2 ^ k) (sym (add-one (l .owner))),
       ⊎-elim (λ w. w .1 ∙ mask-more-full _ _ _ _ (l .inv .2) (l .inv .1) (w .0 .taken)) (λ w. w .1 ∙ mask-more-empty _ _ _ (l .inv .2) (w .0 .left))
           (c .if1 .came),
     )
@@ -67,7 +67,7 @@ mask-of-spec =
     index-2-if1
     add-mask
     mul-bit
-    add-a
+    add-owner
     loop-less
     loop-again
     returns)

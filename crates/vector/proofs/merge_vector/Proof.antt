@@ -10,10 +10,10 @@ use Rattle.vector.proofs.merge_vector.Statement.{statement}
 use Rattle.vector.proofs.merge_vector.Tie as tie
 
 abbrev Inv-loop : tie.InvT-loop
-Inv-loop v w out₀ a₀ out a = Filled [] controllers (λ (k : ℕ). mergePair (pairOf v k) (pairOf w k)) a out
+Inv-loop v w both₀ owner₀ both owner = Filled [] controllers (λ (k : ℕ). mergePair (pairOf v k) (pairOf w k)) owner both
 
 abbrev μ-loop : tie.MeasureT-loop
-μ-loop v w out₀ a₀ out a = controllers - a
+μ-loop v w both₀ owner₀ both owner = controllers - owner
 
 loop-holds : tie.Need-loop-holds Inv-loop μ-loop
 loop-holds c = filled-none _ _ _ _ refl
@@ -33,14 +33,14 @@ array-copy-out-merge-pair-2 c = search needs
 merge-pair-requires : tie.Need-merge-pair-requires Inv-loop μ-loop
 merge-pair-requires c κs = search needs
 
-mul-out : tie.Need-mul-out Inv-loop μ-loop
-mul-out c = search needs
+mul-both : tie.Need-mul-both Inv-loop μ-loop
+mul-both c = search needs
 
-array-set-from-out : tie.Need-array-set-from-out Inv-loop μ-loop
-array-set-from-out c = search needs
+array-set-from-both : tie.Need-array-set-from-both Inv-loop μ-loop
+array-set-from-both c = search needs
 
-add-a : tie.Need-add-a Inv-loop μ-loop
-add-a c = search needs
+add-owner : tie.Need-add-owner Inv-loop μ-loop
+add-owner c = search needs
 
 loop-less : tie.Need-loop-less Inv-loop μ-loop
 loop-less c = search needs
@@ -64,9 +64,9 @@ merge-vector-spec =
     mul-merge-pair-2
     array-copy-out-merge-pair-2
     merge-pair-requires
-    mul-out
-    array-set-from-out
-    add-a
+    mul-both
+    array-set-from-both
+    add-owner
     loop-less
     loop-again
     returns)

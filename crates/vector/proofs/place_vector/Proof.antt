@@ -5,31 +5,14 @@ use borrow.Author.Needs.{needs}
 use Rattle.vector.proofs.place_vector.Statement.{statement}
 use Rattle.vector.proofs.place_vector.Tie as tie
 
-mul-vector-at : tie.Need-mul-vector-at
-mul-vector-at c = search needs
-
-add-vector-at : tie.Need-add-vector-at
-add-vector-at c = search needs
-
-mul-vector-at-2 : tie.Need-mul-vector-at-2
-mul-vector-at-2 c = search needs
-
-add-vector-at-2 : tie.Need-add-vector-at-2
-add-vector-at-2 c = search needs
+place-vector-at-requires : tie.Need-place-vector-at-requires
+place-vector-at-requires c κs = search needs
 
 vector-at-requires : tie.Need-vector-at-requires
 vector-at-requires c κs = search needs
 
 returns : tie.Need-returns
-returns c = c .vector-at .ensures ∙ place-vector _ _ _
+returns c = c .vector-at .ensures ∙ place-vector _ _ _ _ (c .before .place-vector-at .ensures)
 
 pub place-vector-spec : {M : Type 1} → statement M
-place-vector-spec =
-    tie.close
-    (tie.spec
-    mul-vector-at
-    add-vector-at
-    mul-vector-at-2
-    add-vector-at-2
-    vector-at-requires
-    returns)
+place-vector-spec = tie.close (tie.spec place-vector-at-requires vector-at-requires returns)

@@ -1,21 +1,19 @@
 -- Each turn stores the pair of one owner, so that the array is filled from the front (Filled).
-use Rattle.rules.specs.Vector.{pair}
-use Rattle.vector.specs.At.{vectorAt}
+use Rattle.vector.specs.At.{pairAt, vectorAt}
 use Rattle.base.specs.Lists.{Filled, filled-none, filled-more, filled-done}
 use Rattle.table.specs.Layout.{controllers}
-use Prim.Native.Nat.{ℕ, _+_, _*_, _-_}
+use Prim.Native.Nat.{_-_}
 use borrow.Author.Needs.{needs}
 use mathlib.Core.Path.{refl}
 use mathlib.Core.List.{[]}
-use lib.ListN.{getD}
 use Rattle.vector.proofs.vector_at.Statement.{statement}
 use Rattle.vector.proofs.vector_at.Tie as tie
 
 abbrev Inv-loop : tie.InvT-loop
-Inv-loop t at v₀ a₀ v a = Filled [] controllers (λ (c : ℕ). pair (getD t (at + 2 * c) 0) (getD t (at + 2 * c + 1) 0)) a v
+Inv-loop t at v₀ owner₀ v owner = Filled [] controllers (pairAt t at) owner v
 
 abbrev μ-loop : tie.MeasureT-loop
-μ-loop t at v₀ a₀ v a = controllers - a
+μ-loop t at v₀ owner₀ v owner = controllers - owner
 
 loop-holds : tie.Need-loop-holds Inv-loop μ-loop
 loop-holds c = filled-none _ _ _ _ refl
@@ -53,8 +51,8 @@ mul-v c = search needs
 array-set-from-v : tie.Need-array-set-from-v Inv-loop μ-loop
 array-set-from-v c = search needs
 
-add-a : tie.Need-add-a Inv-loop μ-loop
-add-a c = search needs
+add-owner : tie.Need-add-owner Inv-loop μ-loop
+add-owner c = search needs
 
 loop-less : tie.Need-loop-less Inv-loop μ-loop
 loop-less c = search needs
@@ -84,7 +82,7 @@ vector-at-spec =
     shared-slice-read-t18
     mul-v
     array-set-from-v
-    add-a
+    add-owner
     loop-less
     loop-again
     returns)

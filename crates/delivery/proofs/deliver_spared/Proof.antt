@@ -1,0 +1,89 @@
+-- The two vectors conflict (waits), or no place is free (no-place-free), or an interval begins (begins).
+use Rattle.delivery.specs.Delivers.{waits, no-place-free, begins}
+use borrow.Author.Needs.{needs}
+use Rattle.delivery.proofs.deliver_spared.Statement.{statement}
+use Rattle.delivery.proofs.deliver_spared.Tie as tie
+use Rattle.delivery.proofs.deliver_spared.Reads as reads
+use Rattle.delivery.proofs.deliver_spared.Lts as lts
+use Rattle.delivery.proofs.begin_interval.Reads as begin-interval-reads
+use Rattle.message.proofs.newest_vector.Reads as newest-vector-reads
+use Rattle.table.proofs.live_count.Reads as live-count-reads
+use Rattle.vector.proofs.conflict.Reads as conflict-reads
+use Rattle.vector.proofs.filter_vector.Reads as filter-vector-reads
+use Rattle.vector.proofs.merge_vector.Reads as merge-vector-reads
+
+newest-vector-requires : tie.Need-newest-vector-requires
+newest-vector-requires c κs = search needs
+
+filter-vector-requires : tie.Need-filter-vector-requires
+filter-vector-requires c κs = search needs
+
+conflict-requires : tie.Need-conflict-requires
+conflict-requires c κs = search needs
+
+same-length : tie.Need-same-length
+same-length c = search needs
+
+returns : tie.Need-returns
+returns c =
+    let f = c .before .before in
+    let n = f .before .before in
+    let a = n .before .before .before in
+    waits (a .args .t .now) _ _ _ _ (a .pre .1) _ _ (n .newest-vector .ensures) (f .filter-vector .ensures) _ (c .before .conflict .ensures)
+    (c .if1 .taken) (a .pre .0)
+
+cast-if2 : tie.Need-cast-if2
+cast-if2 c = search needs
+
+live-count-requires : tie.Need-live-count-requires
+live-count-requires c κs = search needs
+
+same-length-2 : tie.Need-same-length-2
+same-length-2 c = search needs
+
+returns-2 : tie.Need-returns-2
+returns-2 c =
+    let g = c .before .before .before in
+    let f = g .before .before in
+    let n = f .before .before in
+    let a = n .before .before .before in
+    no-place-free (a .args .t .now) _ _ _ _ (a .pre .1) _ _ (n .newest-vector .ensures) (f .filter-vector .ensures) _ (g .before .conflict .ensures)
+    (g .if1 .left) _ (c .before .live-count .ensures) (c .if2 .taken) (a .pre .0)
+
+merge-vector-requires : tie.Need-merge-vector-requires
+merge-vector-requires c κs = search needs
+
+begin-interval-requires : tie.Need-begin-interval-requires
+begin-interval-requires c κs = search needs
+
+same-length-3 : tie.Need-same-length-3
+same-length-3 c = search needs
+
+returns-3 : tie.Need-returns-3
+returns-3 c =
+    let m = c .before .before .before in
+    let l = m .before .before .before in
+    let g = l .before .before in
+    let f = g .before .before in
+    let n = f .before .before in
+    let a = n .before .before .before in
+    begins (a .args .t .now) _ _ _ _ (a .pre .1) _ _ (n .newest-vector .ensures) (f .filter-vector .ensures) _ (g .before .conflict .ensures)
+    (g .if1 .left) _ (l .live-count .ensures) (m .before .before .if2 .left) _ (m .merge-vector .ensures) _ _ (c .before .before .begin-interval .ensures)
+
+pub deliver-spared-spec : {M : Type 1} → statement M
+deliver-spared-spec =
+    tie.close
+    (tie.spec
+    newest-vector-requires
+    filter-vector-requires
+    conflict-requires
+    same-length
+    returns
+    cast-if2
+    live-count-requires
+    same-length-2
+    returns-2
+    merge-vector-requires
+    begin-interval-requires
+    same-length-3
+    returns-3)

@@ -1,0 +1,188 @@
+-- A controller of the house, its live chain, and the ranges of their words: what code that goes along the chain counts on. A
+-- change of words that it does not look at keeps it.
+use mathlib.Core.Path.{_≡_, refl, sym, ap, _∙_, subst}
+use mathlib.Core.Bool.{Bool, true, false, _||_, or-true, true≢false}
+use mathlib.Core.List.{List}
+use Prim.Native.Nat.{ℕ, _≤_, _<_}
+use native.Mathlib.Omega.{arith}
+use borrow.Author.Tests.{le-leb}
+use Rattle.base.specs.Choice.{_==_, _≤?_, _<?_, cond-ind}
+use Rattle.base.specs.Cases.{firstOf}
+use Rattle.table.specs.Field.{Field, State, OfHead, OfController, Known, End, OfPlace, OfMessage, Size, Incarnation, LiveCount, StableCount, Sender, Receiver, PairIncarnation, PairNumber, MessagePairIncarnation, MessagePairNumber, word, placeHead, messageHead}
+use Rattle.table.specs.Change.{put, put-ind, putStates, states-ind}
+use Rattle.table.specs.Layout.{controllers, places, messages}
+use Rattle.table.specs.Words.{state, words, agree-words}
+use Rattle.table.specs.Numbering.{used, numbering, numbers-kept, used-agree}
+use Rattle.rules.specs.Limits.{lastIncarnation}
+use Rattle.rules.specs.Vector.{placeVector, messageVector}
+use Rattle.rules.specs.Shared.{logged, loggedTo, causesIn, causes}
+use Rattle.rules.specs.Steps.{noted, messageRefusals}
+use Rattle.laws.specs.Facts.{Near, Form, form, below-8, controllerForm, placeForm, messageForm, message-near}
+use Rattle.laws.specs.Records.{placeVector-of, messageVector-of}
+use Rattle.laws.specs.Allowed.{messageAllowed}
+use Rattle.laws.specs.Agree.{incarnation-same, live-same, placeVector-same, messageVector-same}
+use Rattle.laws.specs.Answering.{Lent}
+
+pub record Chain (σ : State) (c : ℕ) : Type 0 where
+  pub named : c < controllers
+  pub incarnation-le : σ (Incarnation c) ≤ lastIncarnation
+  pub live-pos : 1 ≤ σ (LiveCount c)
+  pub live-le : σ (LiveCount c) ≤ places
+  pub near : (p : ℕ) → p < σ (LiveCount c) → Near (placeVector σ c p)
+  pub used-le : used σ ≤ messages
+  pub message-near : (r : ℕ) → r < messages → Near (messageVector σ r)
+
+-- a controller of a state in form has it
+pub chain-form : (σ : State) (c : ℕ) → Form σ → c < σ Size → Chain σ c
+chain-form σ c f h =
+    let k = controllerForm f c h in
+    record {
+      named = below-8 f c h;
+      incarnation-le = k .incarnation-le;
+      live-pos = k .live-pos;
+      live-le = k .live-le;
+      near = λ p q. placeForm f c p h q .vector .near;
+      used-le = f .used-le;
+      message-near = message-near f;
+    }
+
+pub chain-of : (t : List ℕ) (c : ℕ) → Lent t → c < state t Size → Chain (state t) c
+chain-of t c l h = chain-form (state t) c (form (state t) (l .good)) h
+
+-- the words that it looks at: those of numbering, incarnations and live counts, and all vectors
+abbrev pub onChain : Field → Bool
+onChain (OfHead k) = true
+onChain (OfController c k) = (k == word (Incarnation c)) || (k == word (LiveCount c))
+onChain (Known holder owner i) = false
+onChain (End holder owner i) = false
+onChain (OfPlace c p k) = placeHead ≤? k
+onChain (OfMessage r k) = numbering (OfMessage r k) || (messageHead ≤? k)
+
+numbering-on : (f : Field) → numbering f ≡ true → onChain f ≡ true
+numbering-on (OfHead k) e = refl
+numbering-on (OfController c k) e = absurd (true≢false (sym e))
+numbering-on (Known holder owner i) e = absurd (true≢false (sym e))
+numbering-on (End holder owner i) e = absurd (true≢false (sym e))
+numbering-on (OfPlace c p k) e = absurd (true≢false (sym e))
+numbering-on (OfMessage r k) e = ap (λ b. b || (messageHead ≤? k)) e
+
+-- a change that leaves these words keeps it
+pub chain-kept : (σ τ : State) (c : ℕ) → ((f : Field) → onChain f ≡ true → τ f ≡ σ f) → Chain σ c → Chain τ c
+chain-kept σ τ c h w =
+    let live : τ (LiveCount c) ≡ σ (LiveCount c) = h (LiveCount c) refl in
+    let own : τ (Incarnation c) ≡ σ (Incarnation c) = h (Incarnation c) refl in
+    let count : used τ ≡ used σ = numbers-kept τ σ (λ f e. h f (numbering-on f e)) .used-same in
+    record {
+      named = w .named;
+      incarnation-le = omega (arith, w .incarnation-le);
+      live-pos = omega (arith, w .live-pos);
+      live-le = omega (arith, w .live-le);
+      near = λ p l. subst Near (sym (vector-of p)) (w .near p (omega arith));
+      used-le = omega (arith, w .used-le);
+      message-near = λ r l. subst Near (sym (message-of r)) (w .message-near r l);
+    }
+  where
+    vector-of : (p : ℕ) → placeVector τ c p ≡ placeVector σ c p
+    vector-of p =
+        placeVector-of τ σ c p
+        (λ owner l. (h (PairIncarnation c p owner) (le-leb placeHead (word (PairIncarnation c p owner)) (omega arith)), h (PairNumber c p owner) (le-leb placeHead (word (PairNumber c p owner)) (omega arith))))
+
+    message-of : (r : ℕ) → messageVector τ r ≡ messageVector σ r
+    message-of r =
+        messageVector-of τ σ r
+        (λ owner l. (h (MessagePairIncarnation r owner) (past r (word (MessagePairIncarnation r owner)) (omega arith)), h (MessagePairNumber r owner) (past r (word (MessagePairNumber r owner)) (omega arith))))
+      where
+        past : (r k : ℕ) → messageHead ≤ k → (numbering (OfMessage r k) || (messageHead ≤? k)) ≡ true
+        past r k l = ap (λ b. numbering (OfMessage r k) || b) (le-leb messageHead k l) ∙ or-true (numbering (OfMessage r k))
+
+-- one other word was put, or states of messages were
+pub chain-put : (σ : State) (c : ℕ) (f : Field) (x : ℕ) → onChain f ≡ false → Chain σ c → Chain (put σ f x) c
+chain-put σ c f x n =
+    chain-kept σ _ c (put-ind (λ g y. onChain g ≡ true → y ≡ σ g) σ f x (λ e. absurd (true≢false (sym e ∙ n))) (λ g ne e. refl))
+
+pub chain-states : (σ : State) (c : ℕ) (s : ℕ → ℕ) → Chain σ c → Chain (putStates σ s) c
+chain-states σ c s =
+    chain-kept σ _ c (states-ind (λ g y. onChain g ≡ true → y ≡ σ g) σ s (λ r e. absurd (true≢false (sym e))) (λ g ne e. refl))
+
+-- a hearer has noted a crash
+pub chain-noted : (σ : State) (c hearer owner i : ℕ) → Chain σ c → Chain (noted σ hearer owner i) c
+unfolding noted
+chain-noted σ c hearer owner i w = chain-put _ c (Known hearer owner i) _ refl (chain-put σ c (End hearer owner i) _ refl w)
+
+-- a table with the words of σ has it where σ has
+pub chain-words : (σ : State) (c : ℕ) {t : List ℕ} → t ≡ words σ → Chain σ c → Chain (state t) c
+chain-words σ c {t} q w =
+    let e = agree-words σ q in
+    let live = live-same (state t) σ e c (w .named) in
+    let own = incarnation-same (state t) σ e c (w .named) in
+    record {
+      named = w .named;
+      incarnation-le = omega (arith, w .incarnation-le);
+      live-pos = omega (arith, w .live-pos);
+      live-le = omega (arith, w .live-le);
+      near = λ p l. subst Near (sym (placeVector-same (state t) σ e c p (w .named) (omega (arith, w .live-le)))) (w .near p (omega arith));
+      used-le = omega (arith, used-agree (state t) σ e, w .used-le);
+      message-near = λ r l. subst Near (sym (messageVector-same (state t) σ e r l)) (w .message-near r l);
+    }
+
+-- what starting anew at c after its k-th interval counts on
+pub record Starts (σ : State) (c k : ℕ) : Type 0 where
+  pub chain : Chain σ c
+  pub kept : 1 ≤ k
+  pub room : k < places
+  pub below : k ≤ σ (LiveCount c)
+  pub left : σ (Incarnation c) < lastIncarnation
+
+-- a change of words that it does not look at keeps what starting anew counts on
+pub starts-kept : (σ τ : State) (c k : ℕ) → ((f : Field) → onChain f ≡ true → τ f ≡ σ f) → Starts σ c k → Starts τ c k
+starts-kept σ τ c k h s =
+    let live : τ (LiveCount c) ≡ σ (LiveCount c) = h (LiveCount c) refl in
+    let own : τ (Incarnation c) ≡ σ (Incarnation c) = h (Incarnation c) refl in
+    record {
+      chain = chain-kept σ τ c h (s .chain);
+      kept = s .kept;
+      room = s .room;
+      below = omega (arith, s .below);
+      left = omega (arith, s .left);
+    }
+
+-- one other word was put, or states of messages were
+pub starts-put : (σ : State) (c k : ℕ) (f : Field) (x : ℕ) → onChain f ≡ false → Starts σ c k → Starts (put σ f x) c k
+starts-put σ c k f x n =
+    starts-kept σ _ c k (put-ind (λ g y. onChain g ≡ true → y ≡ σ g) σ f x (λ e. absurd (true≢false (sym e ∙ n))) (λ g ne e. refl))
+
+pub starts-states : (σ : State) (c k : ℕ) (s : ℕ → ℕ) → Starts σ c k → Starts (putStates σ s) c k
+starts-states σ c k s =
+    starts-kept σ _ c k (states-ind (λ g y. onChain g ≡ true → y ≡ σ g) σ s (λ r e. absurd (true≢false (sym e))) (λ g ne e. refl))
+
+-- a table with the words of σ has it where σ has
+pub starts-words : (σ : State) (c k : ℕ) {t : List ℕ} → t ≡ words σ → Starts σ c k → Starts (state t) c k
+starts-words σ c k {t} q s =
+    let e = agree-words σ q in
+    let live = live-same (state t) σ e c (s .chain .named) in
+    let own = incarnation-same (state t) σ e c (s .chain .named) in
+    record { chain = chain-words σ c q (s .chain); kept = s .kept; room = s .room; below = omega (arith, s .below); left = omega (arith, s .left) }
+
+-- causes got their states; intervals were logged, if any
+pub starts-causes : (σ : State) (c k j : ℕ) (s : ℕ → ℕ) → Starts σ c k → Starts (causes σ c j s) c k
+unfolding causes causesIn
+starts-causes σ c k j s = starts-states σ c k _
+
+pub starts-loggedTo : (σ : State) (c k j : ℕ) → Starts σ c k → Starts (loggedTo σ c j) c k
+unfolding loggedTo logged
+starts-loggedTo σ c k j s =
+    cond-ind (λ τ. Starts τ c k) (σ (StableCount c) <? j)
+    (λ e. starts-put _ c k (Known c c (σ (Incarnation c))) _ refl (starts-put σ c k (StableCount c) j refl s)) (λ e. s)
+
+-- R and D: the message in record r, which its refusals let pass
+pub record Taken (σ : State) (r : ℕ) : Type 0 where
+  pub record-lt : r < messages
+  pub sender-lt : σ (Sender r) < controllers
+  pub receiver : Chain σ (σ (Receiver r))
+
+pub taken : (t : List ℕ) (r wanted : ℕ) → Lent t → 0 ≡ firstOf (messageRefusals (state t) r wanted) → Taken (state t) r
+taken t r wanted l e =
+    let f = form (state t) (l .good) in
+    let a = messageAllowed (state t) r wanted e in
+    let k = messageForm f r (a .record-used) in
+    record { record-lt = omega (arith, f .used-le, a .record-used); sender-lt = below-8 f _ (k .sender-lt); receiver = chain-of t _ l (k .receiver-lt) }

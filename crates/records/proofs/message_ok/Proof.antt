@@ -1,0 +1,75 @@
+-- Each branch computes what the definition names there; vector and zeros stand together (message-vector, zeros-message).
+use Rattle.base.specs.Cases.{allOf}
+use Rattle.rules.specs.Limits.{house}
+use Rattle.rules.specs.Form.{vectorOk, messageOk}
+use Rattle.vector.specs.At.{message-vector}
+use Rattle.records.specs.Zeros.{zeros-message}
+use mathlib.Core.Path.{ap, _∙_}
+use borrow.Author.Tests.{lt-ltb, le-ltb}
+use borrow.Author.Needs.{needs}
+use Rattle.records.proofs.message_ok.Statement.{statement}
+use Rattle.records.proofs.message_ok.Tie as tie
+
+cast-if1 : tie.Need-cast-if1
+cast-if1 c = search needs
+
+records-used-requires : tie.Need-records-used-requires
+records-used-requires c κs = search needs
+
+message-state-requires : tie.Need-message-state-requires
+message-state-requires c κs = search needs
+
+sending-number-requires : tie.Need-sending-number-requires
+sending-number-requires c κs = search needs
+
+sender-requires : tie.Need-sender-requires
+sender-requires c κs = search needs
+
+receiver-requires : tie.Need-receiver-requires
+receiver-requires c κs = search needs
+
+sending-incarnation-requires : tie.Need-sending-incarnation-requires
+sending-incarnation-requires c κs = search needs
+
+message-vector-at-requires : tie.Need-message-vector-at-requires
+message-vector-at-requires c κs = search needs
+
+vector-ok-requires : tie.Need-vector-ok-requires
+vector-ok-requires c κs = search needs
+
+message-at-requires : tie.Need-message-at-requires
+message-at-requires c κs = search needs
+
+all-zero-requires : tie.Need-all-zero-requires
+all-zero-requires c κs = search needs
+
+returns : tie.Need-returns
+unfolding messageOk allOf
+returns c =
+    let v = c .vector-ok .ensures ∙ ap (vectorOk house _) (message-vector _ _ _ (c .before .message-vector-at .ensures)) in
+    let x = c .before .before .before in
+    let y = x .before .before .before in
+    let in-use = rw (y .before .before .records-used .ensures) at (y .before .if1 .taken) in
+    rw (lt-ltb _ _ in-use, v, c .before .before .sending-incarnation .ensures, x .receiver .ensures, x .before .sender .ensures, x .before .before .sending-number .ensures, y .message-state .ensures)
+
+returns-2 : tie.Need-returns-2
+unfolding messageOk
+returns-2 c = rw (le-ltb _ _ (rw (c .before .before .before .records-used .ensures) at (c .before .before .if1 .left))) (c .all-zero .ensures ∙ zeros-message _ _ _ (c .before .message-at .ensures))
+
+pub message-ok-spec : {M : Type 1} → statement M
+message-ok-spec =
+    tie.close
+    (tie.spec
+    cast-if1
+    records-used-requires
+    message-state-requires
+    sending-number-requires
+    sender-requires
+    receiver-requires
+    sending-incarnation-requires
+    message-vector-at-requires
+    vector-ok-requires
+    message-at-requires
+    all-zero-requires
+    returns
+    returns-2)

@@ -1,0 +1,211 @@
+-- The walk along the places of removed intervals that gives their causes a state.
+use mathlib.Core.Path.{_≡_, refl, sym, ap, _∙_}
+use mathlib.Core.Bool.{Bool, true, false, cond, _&&_, _||_, and-false, and-or-distrib-left}
+use mathlib.Core.List.{List}
+use mathlib.Core.Logic.{_≢_}
+use Prim.Native.Nat.{ℕ, _+_, _-_, _≤_, _<_}
+use native.Mathlib.Omega.{arith}
+use lib.ListN.{length}
+use borrow.Author.Tests.{lt-ltb, le-ltb, eq-eqb, ne-eqb}
+use Rattle.base.specs.Choice.{_==_, _<?_, le?}
+use Rattle.base.specs.Ranges.{anyb, anyb-zero, anyb-step}
+use Rattle.table.specs.Field.{Field, State, LiveCount, Cause, MessageState, MessagePairIncarnation, MessagePairNumber, word, owner, messageHead}
+use Rattle.table.specs.Change.{put, isState, putStates, states-ind, states-at}
+use Rattle.table.specs.Layout.{messages, tableWords}
+use Rattle.table.specs.Words.{state, words, words-state, words-same, Agree, agree-trans, agree-put, agree-states, agree-words, long-of, states-kept, states-more}
+use Rattle.table.specs.Numbering.{used, recordOf, messageOf, record-of-message, message-of-record, numbers-states, used-agree, message-agree}
+use Rattle.rules.specs.Vector.{Vector, messageVector, condemnedPair, condemned}
+use Rattle.rules.specs.Form.{stateLost, stateReleased, stateDropped}
+use Rattle.rules.specs.Shared.{causedIn, causesIn, causes, offeredAgain}
+use Rattle.laws.specs.Records.{messageVector-of}
+use Rattle.laws.specs.Agree.{offeredAgain-same}
+use Rattle.laws.specs.Chain.{Chain, chain-states, chain-words}
+
+-- the state that the cause in record r of an interval of c gets, which a crash lost or c undid
+abbrev pub lostOrOffered : State → ℕ → Bool → ℕ → ℕ
+lostOrOffered σ c crashed r = cond crashed stateLost (offeredAgain σ c r)
+
+-- what the code finds where nothing crashed, with the vector v of record r
+module _ (σ : State) (c r : ℕ) (crashed x : Bool) (v : Vector) (e : crashed ≡ false) (ev : v ≡ messageVector σ r) (ex : x ≡ condemned σ c v) where
+  pub gets-dropped : x ≡ true → stateDropped ≡ lostOrOffered σ c crashed r
+  unfolding offeredAgain
+  gets-dropped h = rw (e, ← ev, ← ex, h)
+
+  pub gets-released : x ≡ false → stateReleased ≡ lostOrOffered σ c crashed r
+  unfolding offeredAgain
+  gets-released h = rw (e, ← ev, ← ex, h)
+
+-- the state that record r has after causes got theirs
+abbrev settled : State → ℕ → ℕ → ℕ → (ℕ → ℕ) → ℕ → ℕ
+settled σ c k n s r = cond (causedIn σ c k n r) (s r) (σ (MessageState r))
+
+-- ONE PLACE
+-- record r is the cause of place p
+caused-one : (σ : State) (c p r : ℕ) → causedIn σ c p 1 r ≡ ((r <? used σ) && (σ (Cause c p) == messageOf σ r))
+unfolding causedIn
+caused-one σ c p r =
+    let e : p + 0 ≡ p = omega arith in
+    ap (λ b. (r <? used σ) && b) (sym (anyb-step _ 0 _ _ (anyb-zero _) refl)) ∙ ap (λ q. (r <? used σ) && (σ (Cause c q) == messageOf σ r)) e
+
+-- the record that is found for it is, where there is one
+caused-found : (σ : State) (c p : ℕ) → recordOf σ (σ (Cause c p)) < used σ → causedIn σ c p 1 (recordOf σ (σ (Cause c p))) ≡ true
+caused-found σ c p l =
+    let r = recordOf σ (σ (Cause c p)) in
+    caused-one σ c p r ∙ rw (lt-ltb r (used σ) l, eq-eqb (σ (Cause c p)) (messageOf σ r) (sym (message-of-record σ _ l)))
+
+-- and no other is
+caused-other : (σ : State) (c p r : ℕ) → (r < used σ → r ≢ recordOf σ (σ (Cause c p))) → causedIn σ c p 1 r ≡ false
+caused-other σ c p r ne =
+    caused-one σ c p r
+    ∙ le? (used σ) r (λ l. rw (le-ltb r (used σ) l))
+    (λ l. let h : σ (Cause c p) ≢ messageOf σ r = λ e. ne l (sym (ap (recordOf σ) e ∙ record-of-message σ r l)) in rw (lt-ltb r (used σ) l, ne-eqb _ _ h))
+
+-- The code looks for the cause m of place p, and finds n records in use: the state x of its record r is put ..
+pub settle-write : (t u : List ℕ) (c p m r n x : ℕ) (s : ℕ → ℕ) → m ≡ state t (Cause c p) → r ≡ recordOf (state t) m → n ≡ used (state t) → r < n →
+    x ≡ s r → u ≡ words (put (state t) (MessageState r) x) → u ≡ words (causesIn (state t) c p 1 s)
+unfolding causesIn
+settle-write t u c p m r n x s em er en l ex q =
+    let σ = state t in
+    let found : r ≡ recordOf σ (σ (Cause c p)) = er ∙ ap (recordOf σ) em in
+    let here : causedIn σ c p 1 r ≡ true = ap (causedIn σ c p 1) found ∙ caused-found σ c p (omega arith) in
+    let own : ℕ → ℕ = λ i. σ (MessageState i) in
+    let put-own = agree-put σ (putStates σ own) (MessageState r) x (states-kept σ own (λ i. refl)) in
+    q ∙ words-same _ _ (agree-trans _ _ _ put-own (states-more σ own _ r x (rw here ex) (λ i ne. rw (caused-other σ c p i (λ _ e. ne (e ∙ sym found))))))
+
+-- .. or, where it has none, no word is
+pub settle-keep : (t : List ℕ) (c p m r n : ℕ) (s : ℕ → ℕ) → length t ≡ tableWords → m ≡ state t (Cause c p) → r ≡ recordOf (state t) m → n ≡ used (state t) → n ≤ r →
+    t ≡ words (causesIn (state t) c p 1 s)
+unfolding causesIn
+settle-keep t c p m r n s l em er en h =
+    let found = er ∙ ap (recordOf (state t)) em in
+    words-state t l ∙ words-same _ _ (states-kept (state t) _ (λ i. rw (caused-other (state t) c p i (λ m e. absurd (omega arith)))))
+
+-- ONE PLACE MORE
+-- whether a record is one of the causes
+caused-opened : (σ : State) (c k n r : ℕ) → causedIn σ c k (n + 1) r ≡ (causedIn σ c k n r || ((r <? used σ) && (σ (Cause c (k + n)) == messageOf σ r)))
+unfolding causedIn
+caused-opened σ c k n r = ap (λ b. (r <? used σ) && b) (sym (anyb-step _ n _ _ refl refl)) ∙ and-or-distrib-left (r <? used σ) _ _
+
+caused-more : (σ : State) (c k p r : ℕ) → k ≤ p → causedIn σ c k (p + 1 - k) r ≡ (causedIn σ c k (p - k) r || causedIn σ c p 1 r)
+caused-more σ c k p r l =
+    let n : p + 1 - k ≡ p - k + 1 = omega arith in
+    let q : k + (p - k) ≡ p = omega arith in
+    ap (λ n. causedIn σ c k n r) n ∙ caused-opened σ c k (p - k) r
+    ∙ ap (λ q. causedIn σ c k (p - k) r || ((r <? used σ) && (σ (Cause c q) == messageOf σ r))) q ∙ ap (λ b. causedIn σ c k (p - k) r || b) (sym (caused-one σ c p r))
+
+-- a state that two tests in a row put
+cond-or : (a b : Bool) (x y : ℕ) → cond b x (cond a x y) ≡ cond (a || b) x y
+cond-or true true x y = refl
+cond-or true false x y = refl
+cond-or false b x y = refl
+
+-- states put over others
+states-over : (σ : State) (s u : ℕ → ℕ) → Agree (putStates (putStates σ s) u) (putStates σ u)
+unfolding putStates
+states-over σ s u g v = cond-over (isState g)
+  where
+    cond-over : (b : Bool) → cond b (u (owner g)) (cond b (s (owner g)) (σ g)) ≡ cond b (u (owner g)) (σ g)
+    cond-over true = refl
+    cond-over false = refl
+
+-- a cause is judged by words that settling does not write
+vector-states : (σ : State) (s : ℕ → ℕ) (r : ℕ) → messageVector (putStates σ s) r ≡ messageVector σ r
+vector-states σ s r =
+    messageVector-of (putStates σ s) σ r (λ owner l. (kept (MessagePairIncarnation r owner) (omega arith), kept (MessagePairNumber r owner) (omega arith)))
+  where
+    kept : (f : Field) → messageHead ≤ word f → putStates σ s f ≡ σ f
+    kept = states-ind (λ f y. messageHead ≤ word f → y ≡ σ f) σ s (λ r l. absurd (omega arith)) (λ f ne l. refl)
+
+offered-states : (σ : State) (s : ℕ → ℕ) (c r : ℕ) → offeredAgain (putStates σ s) c r ≡ offeredAgain σ c r
+unfolding offeredAgain condemned condemnedPair putStates
+offered-states σ s c r = ap (λ v. cond (condemned σ c v) stateDropped stateReleased) (vector-states σ s r)
+
+-- THE WALK
+-- Before place p the table has the words of `causesIn` up to it.
+pub record Walk (σ : State) (c k : ℕ) (crashed : Bool) (live : ℕ) (t : List ℕ) (p : ℕ) : Type 0 where
+  pub chain : Chain σ c
+  pub live-is : live ≡ σ (LiveCount c)
+  pub from : k ≤ p
+  pub bound : p ≤ live
+  pub done : t ≡ words (causesIn σ c k (p - k) (lostOrOffered σ c crashed))
+
+-- before the first place
+caused-none : (σ : State) (c k r : ℕ) → causedIn σ c k (k - k) r ≡ false
+unfolding causedIn
+caused-none σ c k r =
+    let e : k - k ≡ 0 = omega arith in
+    ap (λ n. (r <? used σ) && anyb n (λ (j : ℕ). σ (Cause c (k + j)) == messageOf σ r)) e ∙ ap (λ b. (r <? used σ) && b) (sym (anyb-zero _)) ∙ and-false (r <? used σ)
+
+pub walk-none : (t : List ℕ) (c k : ℕ) (crashed : Bool) (live : ℕ) → length t ≡ tableWords → Chain (state t) c → k ≤ state t (LiveCount c) → live ≡ state t (LiveCount c) →
+    Walk (state t) c k crashed live t k
+unfolding causesIn
+walk-none t c k crashed live l w b e =
+    record {
+      chain = w;
+      live-is = e;
+      from = omega arith;
+      bound = omega arith;
+      done = words-state t l ∙ words-same _ _ (states-kept (state t) _ (λ r. rw (caused-none (state t) c k r)));
+    }
+
+module _ {σ : State} {c k : ℕ} {crashed : Bool} {live : ℕ} {t : List ℕ} {p : ℕ} (w : Walk σ c k crashed live t p) where
+  abbrev gets : ℕ → ℕ
+  gets = lostOrOffered σ c crashed
+
+  abbrev so-far : ℕ → ℕ
+  so-far = settled σ c k (p - k) gets
+
+  agrees : Agree (state t) (putStates σ so-far)
+  unfolding causesIn
+  agrees = agree-words _ (w .done)
+
+  pub walk-long : length t ≡ tableWords
+  walk-long = long-of _ (w .done)
+
+  -- what settling place p asks for
+  pub walk-asks : p < live → (length t ≡ tableWords) × Chain (state t) c × (p < state t (LiveCount c))
+  unfolding causesIn putStates
+  walk-asks l =
+      let kept : state t (LiveCount c) ≡ σ (LiveCount c) = agrees (LiveCount c) (w .chain .named, omega arith) in
+      (walk-long, chain-words (putStates σ so-far) c (w .done) (chain-states σ c so-far (w .chain)), omega (arith, w .live-is))
+
+  module _ (l : p < live) (r : ℕ) (rl : r < messages) where
+    -- record r is the cause of place p, or not, as before the walk
+    caused-same : causedIn (state t) c p 1 r ≡ causedIn σ c p 1 r
+    unfolding putStates
+    caused-same =
+        let n = numbers-states σ so-far in
+        let u = used-agree (state t) _ agrees ∙ n .used-same in
+        let m = message-agree (state t) _ agrees r rl ∙ n .message r in
+        let x : state t (Cause c p) ≡ σ (Cause c p) = agrees (Cause c p) (w .chain .named, omega (arith, w .live-is, w .chain .live-le), omega arith) in
+        caused-one (state t) c p r ∙ (λ d. (r <? u d) && (x d == m d)) ∙ sym (caused-one σ c p r)
+
+    -- and it is judged as before the walk
+    gets-same : lostOrOffered (state t) c crashed r ≡ gets r
+    gets-same =
+        ap (cond crashed stateLost)
+        (offeredAgain-same (state t) _ agrees c r (w .chain .named) rl (walk-asks l .1 .message-near r rl) ∙ offered-states σ so-far c r)
+
+    -- so it has the state that it gets in a walk one place longer
+    settled-same : settled (state t) c p 1 (lostOrOffered (state t) c crashed) r ≡ settled σ c k (p + 1 - k) gets r
+    settled-same =
+        (λ d. cond (caused-same d) (gets-same d) (agrees (MessageState r) (rl, omega arith) d)) ∙ ap (cond (causedIn σ c p 1 r) (gets r)) (states-at σ so-far r)
+        ∙ cond-or (causedIn σ c k (p - k) r) (causedIn σ c p 1 r) (gets r) _ ∙ ap (λ b. cond b (gets r) (σ (MessageState r))) (sym (caused-more σ c k p r (w .from)))
+
+  -- place p is settled
+  pub walk-more : {u : List ℕ} → p < live → u ≡ words (causesIn (state t) c p 1 (lostOrOffered (state t) c crashed)) → Walk σ c k crashed live u (p + 1)
+  unfolding causesIn
+  walk-more l q =
+      let after = settled σ c k (p + 1 - k) gets in
+      record {
+        chain = w .chain;
+        live-is = w .live-is;
+        from = omega (arith, w .from);
+        bound = omega arith;
+        done = q ∙ words-same _ _ (agree-trans _ _ _ (agree-states (state t) _ _ after (settled-same l) agrees) (states-over σ so-far after));
+      }
+
+  -- after the last place
+  pub walk-all : live ≤ p → t ≡ words (causes σ c k gets)
+  unfolding causes
+  walk-all l = let e : p ≡ σ (LiveCount c) = omega (arith, w .live-is, w .bound) in w .done ∙ ap (λ p. words (causesIn σ c k (p - k) gets)) e

@@ -1,0 +1,85 @@
+// What removing intervals does to messages: their causes get a state, and held messages that they sent are dropped.
+ghost use mathlib.Core.Path.{_≡_};
+ghost use Prim.Native.Nat.{_-_, _≤_, _<_};
+ghost use lib.ListN.{length};
+ghost use Rattle.table.specs.Field.{LiveCount, MessageState};
+ghost use Rattle.table.specs.Change.{put};
+ghost use Rattle.table.specs.Layout.{controllers, messages, tableWords};
+ghost use Rattle.table.specs.Words.{state, words};
+ghost use Rattle.rules.specs.Shared.{causesIn, causes, orphaned, heldOrDropped, dropHeld};
+ghost use Rattle.laws.specs.Chain.{Chain};
+ghost use Rattle.removal.specs.Settling.{lostOrOffered};
+
+// The state of the cause in record r of an interval that c lost in a crash, or undid.
+pub fn fate_of(t: &[u32], c: usize, r: usize, crashed: bool) -> u32
+    requires { ⌜ (length (now t) ≡ tableWords) × Chain (state (now t)) c × (r < messages) ⌝ }
+    ensures { λ x. ⌜ x ≡ lostOrOffered (state (now (t .entry))) c crashed r ⌝ }
+{
+    if crashed {
+        return table::LOST;
+    }
+    let v = vector::message_vector(t, r);
+    if vector::condemned_vector(t, c, v) {
+        table::DROPPED
+    } else {
+        table::RELEASED
+    }
+}
+
+// The cause of the interval in place p of c, if it has a record, gets its state.
+pub fn settle_cause(t: &mut [u32], c: usize, p: usize, crashed: bool)
+    requires { ⌜ (length (now t) ≡ tableWords) × Chain (state (now t)) c × (p < state (now t) (LiveCount c)) ⌝ }
+    ensures { λ _. ⌜ now (t .exit) ≡ words (causesIn (state (now (t .entry))) c p 1 (lostOrOffered (state (now (t .entry))) c crashed)) ⌝ }
+{
+    let m = table::cause(t, c, p);
+    let r = table::find_record(t, m);
+    if r < table::records_used(t) as usize {
+        let x = fate_of(t, c, r, crashed);
+        table::set_message_state(t, r, x);
+    }
+}
+
+// The causes of the intervals of c from place k on get their states.
+pub fn settle_causes(t: &mut [u32], c: usize, k: usize, crashed: bool)
+    requires { ⌜ (length (now t) ≡ tableWords) × Chain (state (now t)) c × (k ≤ state (now t) (LiveCount c)) ⌝ }
+    ensures { λ _. ⌜ now (t .exit) ≡ words (causes (state (now (t .entry))) c k (lostOrOffered (state (now (t .entry))) c crashed)) ⌝ }
+{
+    let live = table::live_count(t, c) as usize;
+    let mut p = k;
+    while p < live {
+        settle_cause(t, c, p, crashed);
+        p += 1;
+    }
+}
+
+// Whether the message in record r is held, from c and with a sending number above x.
+pub fn orphaned(t: &[u32], c: usize, x: u32, r: usize) -> bool
+    requires { ⌜ (length (now t) ≡ tableWords) × (r < messages) ⌝ }
+    ensures { λ b. ⌜ b ≡ orphaned (state (now (t .entry))) c x r ⌝ }
+{
+    (table::message_state(t, r) == table::HELD)
+        & ((table::sender(t, r) as usize == c) & (x < table::sending_number(t, r)))
+}
+
+// Then it is dropped.
+pub fn drop_one(t: &mut [u32], c: usize, x: u32, r: usize)
+    requires { ⌜ (length (now t) ≡ tableWords) × (r < messages) ⌝ }
+    ensures { λ _. ⌜ now (t .exit) ≡ words (put (state (now (t .entry))) (MessageState r) (heldOrDropped (state (now (t .entry))) c x r)) ⌝ }
+{
+    if orphaned(t, c, x, r) {
+        table::set_message_state(t, r, table::DROPPED);
+    }
+}
+
+// Held messages from c with a sending number above that of the k-th interval are dropped.
+pub fn drop_held(t: &mut [u32], c: usize, k: u32)
+    requires { ⌜ (length (now t) ≡ tableWords) × (c < controllers) ⌝ }
+    ensures { λ _. ⌜ now (t .exit) ≡ words (dropHeld (state (now (t .entry))) c k) ⌝ }
+{
+    let x = table::number_of(t, c, k);
+    let mut r = 0;
+    while r < table::MESSAGES {
+        drop_one(t, c, x, r);
+        r += 1;
+    }
+}

@@ -1,0 +1,22 @@
+-- The latest checkpoint has a number of the first k places (flagged-le), so that the difference is the one of the definition.
+use native.Mathlib.Omega.{arith}
+use borrow.Author.Needs.{needs}
+use Rattle.table.specs.Words.{state}
+use Rattle.restart.specs.Anew.{flagged-le, replay-is}
+use Rattle.restart.proofs.replay.Statement.{statement}
+use Rattle.restart.proofs.replay.Tie as tie
+
+number-of-requires : tie.Need-number-of-requires
+number-of-requires c κs = search needs
+
+latest-flagged-requires : tie.Need-latest-flagged-requires
+latest-flagged-requires c κs = search needs
+
+sub-result : tie.Need-sub-result
+sub-result c = let s = c .before .before .before .args in omega (arith, c .latest-flagged .ensures, c .before .number-of .ensures, flagged-le (state (s .t .now)) (s .c) (s .k))
+
+returns : tie.Need-returns
+returns c = search replay-is
+
+pub replay-spec : {M : Type 1} → statement M
+replay-spec = tie.close (tie.spec number-of-requires latest-flagged-requires sub-result returns)

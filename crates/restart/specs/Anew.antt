@@ -1,0 +1,64 @@
+-- The replay figure, and what starting anew writes, one call after the other.
+use mathlib.Core.Path.{_≡_, refl, sym, ap, ap₂, _∙_, subst}
+use mathlib.Core.List.{List}
+use Prim.Native.Nat.{ℕ, zero, suc, _+_, _-_, _≤_, _<_, zero-le}
+use native.Mathlib.Omega.{arith}
+use lib.ListN.{set}
+use Rattle.base.specs.Choice.{_==_, cond-ind}
+use Rattle.table.specs.Field.{State, Known, OfPlace, Incarnation, LiveCount, StableCount, Flag}
+use Rattle.table.specs.Change.{put, putPart, clearPlaces}
+use Rattle.table.specs.Layout.{controllers}
+use Rattle.table.specs.Words.{state, words, Agree, agree-put, agree-words, called, then-put, then-part}
+use Rattle.table.specs.Numbering.{numberOf, number-from}
+use Rattle.rules.specs.Vector.{Vector, pair, placeVector, filtered}
+use Rattle.rules.specs.Shared.{placeRecord, newVector, placed, entered, restarted, dropHeld, startAnew, latestFlagged, replayed}
+use Rattle.laws.specs.Facts.{Near}
+use Rattle.laws.specs.Agree.{agree-dropHeld, agree-entered}
+use Rattle.laws.specs.Chain.{Starts}
+
+-- the latest checkpoint among the first k places has a number of theirs
+pub flagged-le : (σ : State) (c k : ℕ) → latestFlagged σ c k ≤ numberOf σ c k
+unfolding latestFlagged
+flagged-le σ c zero = zero-le
+flagged-le σ c (suc p) =
+    cond-ind (λ x. x ≤ numberOf σ c (suc p)) (σ (Flag c p) == 1) (λ e. omega (arith, number-from σ c (p + 1), number-from σ c (suc p)))
+    (λ e. omega (arith, flagged-le σ c p, number-from σ c p, number-from σ c (suc p)))
+
+-- the replay figure from its two numbers
+pub replay-is : (σ : State) (c k x y : ℕ) → x ≡ numberOf σ c k → y ≡ latestFlagged σ c k → x - y ≡ replayed σ c k
+unfolding replayed
+replay-is σ c k x y e q = ap₂ (λ x y. x - y) e q
+
+-- the kept vector is near, and the new one is made of it
+pub kept-near : (σ : State) (c k : ℕ) (v : Vector) → Starts σ c k → v ≡ placeVector σ c (k - 1) → Near v
+kept-near σ c k v s e = subst Near (sym e) (s .chain .near (k - 1) (omega (arith, s .kept, s .below)))
+
+pub new-vector-is : (σ : State) (c k own x : ℕ) (v w : Vector) → v ≡ placeVector σ c (k - 1) → w ≡ filtered σ c v → own ≡ σ (Incarnation c) → x ≡ numberOf σ c (k + 1) →
+    set w c (pair (own + 1) x) ≡ newVector σ c k
+unfolding newVector
+new-vector-is σ c k own x v w ev ew eo ex = rw (ew, ev, eo, ex)
+
+-- places from k on were freed, and place k written
+pub places : (t t₁ t₂ : List ℕ) (c k live i x : ℕ) (v : Vector) → live ≡ state t (LiveCount c) → t₁ ≡ words (clearPlaces (state t) c k live) →
+    t₂ ≡ words (putPart (state t₁) (OfPlace c k 0) 0 (placeRecord i x 0 0 v)) → t₂ ≡ words (placed (state t) c k i x v)
+unfolding placed
+places t t₁ t₂ c k live i x v e e₁ e₂ = then-part _ (OfPlace c k 0) 0 _ (e₁ ∙ ap (λ n. words (clearPlaces (state t) c k n)) e) e₂
+
+-- four words were put
+pub enters : (t t₁ t₂ t₃ t₄ : List ℕ) (c k i x : ℕ) → t₁ ≡ words (put (state t) (Incarnation c) i) → t₂ ≡ words (put (state t₁) (LiveCount c) k) →
+    t₃ ≡ words (put (state t₂) (StableCount c) k) → t₄ ≡ words (put (state t₃) (Known c c i) x) → t₄ ≡ words (entered (state t) c k i x)
+unfolding entered
+enters t t₁ t₂ t₃ t₄ c k i x e₁ e₂ e₃ e₄ = then-put _ (Known c c i) x (then-put _ (StableCount c) k (then-put _ (LiveCount c) k e₁ e₂) e₃) e₄
+
+-- the place is written, and the incarnation entered
+pub begins : (t t₁ t₂ : List ℕ) (c k own x : ℕ) (v : Vector) → own ≡ state t (Incarnation c) → x ≡ numberOf (state t) c (k + 1) → v ≡ newVector (state t) c k →
+    t₁ ≡ words (placed (state t) c k (own + 1) x v) → t₂ ≡ words (entered (state t₁) c (k + 1) (own + 1) x) → t₂ ≡ words (restarted (state t) c k)
+unfolding restarted
+begins t t₁ t₂ c k own x v eo ex ev e₁ e₂ =
+    called (λ σ. entered σ c (k + 1) (own + 1) x) _ e₁ e₂ (agree-entered _ _ (agree-words _ e₁) c (k + 1) refl refl)
+    ∙ (λ d. words (entered (placed (state t) c k (eo d + 1) (ex d) (ev d)) c (k + 1) (eo d + 1) (ex d)))
+
+-- the new incarnation has begun, and held messages are dropped
+pub starts : (t t₁ t₂ : List ℕ) (c k : ℕ) → c < controllers → t₁ ≡ words (restarted (state t) c k) → t₂ ≡ words (dropHeld (state t₁) c k) → t₂ ≡ words (startAnew (state t) c k)
+unfolding startAnew
+starts t t₁ t₂ c k cl e₁ e₂ = called (λ σ. dropHeld σ c k) _ e₁ e₂ (agree-dropHeld _ _ (agree-words _ e₁) c k cl)
