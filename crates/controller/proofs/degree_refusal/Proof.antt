@@ -5,9 +5,6 @@ use borrow.Author.Needs.{needs}
 use Rattle.controller.proofs.degree_refusal.Statement.{statement}
 use Rattle.controller.proofs.degree_refusal.Tie as tie
 
-size-requires : tie.Need-size-requires
-size-requires c κs = search needs
-
 returns : tie.Need-returns
 unfolding firstOf
 returns c = rw (← (c .before .size .ensures), le-leb _ _ (c .if1 .taken))
@@ -21,4 +18,5 @@ unfolding firstOf
 returns-3 c = rw (← (c .before .before .size .ensures), lt-leb _ _ (c .before .if1 .left), le-ltb _ _ (c .if2 .left))
 
 pub degree-refusal-spec : {M : Type 1} → statement M
-degree-refusal-spec = tie.close (tie.spec size-requires returns returns-2 returns-3)
+degree-refusal-spec = tie.close (tie.spec
+    (λ c κs. search needs) returns returns-2 returns-3)

@@ -6,21 +6,12 @@ use borrow.Author.Needs.{needs}
 use Rattle.controller.proofs.log.Statement.{statement}
 use Rattle.controller.proofs.log.Tie as tie
 
-log-refusal-requires : tie.Need-log-refusal-requires
-log-refusal-requires c κs = search needs
-
-same-length : tie.Need-same-length
-same-length c = search needs
-
 returns : tie.Need-returns
 unfolding stepLog
 returns c = search refused
 
 log-oldest-requires : tie.Need-log-oldest-requires
 log-oldest-requires c κs = search (log-chain, log-some)
-
-same-length-2 : tie.Need-same-length-2
-same-length-2 c = search needs
 
 returns-2 : tie.Need-returns-2
 unfolding stepLog
@@ -29,4 +20,5 @@ returns-2 c = search (granted-by, leaves)
 pub log-spec : {M : Type 1} → statement M
 log-spec =
     tie.close
-    (tie.spec log-refusal-requires same-length returns log-oldest-requires same-length-2 returns-2)
+    (tie.spec
+    (λ c κs. search needs) (λ c. search needs) returns log-oldest-requires (λ c. search needs) returns-2)

@@ -6,9 +6,6 @@ use borrow.Author.Needs.{needs}
 use Rattle.controller.proofs.log_refusal.Statement.{statement}
 use Rattle.controller.proofs.log_refusal.Tie as tie
 
-size-requires : tie.Need-size-requires
-size-requires c κs = search needs
-
 returns : tie.Need-returns
 unfolding firstOf
 returns c = rw (← (c .before .size .ensures), le-leb _ _ (c .if1 .taken))
@@ -38,10 +35,4 @@ pub log-refusal-spec : {M : Type 1} → statement M
 log-refusal-spec =
     tie.close
     (tie.spec
-    size-requires
-    returns
-    live-count-requires
-    stable-count-requires
-    sub-if2
-    returns-2
-    returns-3)
+    (λ c κs. search needs) returns live-count-requires stable-count-requires sub-if2 returns-2 returns-3)

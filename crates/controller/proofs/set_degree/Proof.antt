@@ -6,21 +6,12 @@ use borrow.Author.Needs.{needs}
 use Rattle.controller.proofs.set_degree.Statement.{statement}
 use Rattle.controller.proofs.set_degree.Tie as tie
 
-degree-refusal-requires : tie.Need-degree-refusal-requires
-degree-refusal-requires c κs = search needs
-
-same-length : tie.Need-same-length
-same-length c = search needs
-
 returns : tie.Need-returns
 unfolding stepDegree
 returns c = search refused
 
 set-degree-requires : tie.Need-set-degree-requires
 set-degree-requires c κs = search degree-named
-
-same-length-2 : tie.Need-same-length-2
-same-length-2 c = search needs
 
 returns-2 : tie.Need-returns-2
 unfolding stepDegree
@@ -30,9 +21,4 @@ pub set-degree-spec : {M : Type 1} → statement M
 set-degree-spec =
     tie.close
     (tie.spec
-    degree-refusal-requires
-    same-length
-    returns
-    set-degree-requires
-    same-length-2
-    returns-2)
+    (λ c κs. search needs) (λ c. search needs) returns set-degree-requires (λ c. search needs) returns-2)

@@ -6,21 +6,12 @@ use borrow.Author.Needs.{needs}
 use Rattle.controller.proofs.tell.Statement.{statement}
 use Rattle.controller.proofs.tell.Tie as tie
 
-tell-refusal-requires : tie.Need-tell-refusal-requires
-tell-refusal-requires c κs = search needs
-
-same-length : tie.Need-same-length
-same-length c = search needs
-
 returns : tie.Need-returns
 unfolding stepTell
 returns c = search refused
 
 store-row-requires : tie.Need-store-row-requires
 store-row-requires c κs = search (tell-owner, tell-holder)
-
-same-length-2 : tie.Need-same-length-2
-same-length-2 c = search needs
 
 returns-2 : tie.Need-returns-2
 unfolding stepTell
@@ -29,4 +20,5 @@ returns-2 c = search (granted-by, leaves)
 pub tell-spec : {M : Type 1} → statement M
 tell-spec =
     tie.close
-    (tie.spec tell-refusal-requires same-length returns store-row-requires same-length-2 returns-2)
+    (tie.spec
+    (λ c κs. search needs) (λ c. search needs) returns store-row-requires (λ c. search needs) returns-2)

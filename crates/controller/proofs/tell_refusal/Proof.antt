@@ -5,9 +5,6 @@ use borrow.Author.Needs.{needs}
 use Rattle.controller.proofs.tell_refusal.Statement.{statement}
 use Rattle.controller.proofs.tell_refusal.Tie as tie
 
-size-requires : tie.Need-size-requires
-size-requires c κs = search needs
-
 returns : tie.Need-returns
 unfolding firstOf
 returns c = rw (← (c .before .size .ensures), c .if1 .taken)
@@ -21,4 +18,5 @@ unfolding firstOf
 returns-3 c = rw (← (c .before .before .size .ensures), c .before .if1 .left, ne-eqb _ _ (c .if2 .left))
 
 pub tell-refusal-spec : {M : Type 1} → statement M
-tell-refusal-spec = tie.close (tie.spec size-requires returns returns-2 returns-3)
+tell-refusal-spec = tie.close (tie.spec
+    (λ c κs. search needs) returns returns-2 returns-3)

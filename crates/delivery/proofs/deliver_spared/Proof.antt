@@ -12,18 +12,6 @@ use Rattle.vector.proofs.conflict.Reads as conflict-reads
 use Rattle.vector.proofs.filter_vector.Reads as filter-vector-reads
 use Rattle.vector.proofs.merge_vector.Reads as merge-vector-reads
 
-newest-vector-requires : tie.Need-newest-vector-requires
-newest-vector-requires c κs = search needs
-
-filter-vector-requires : tie.Need-filter-vector-requires
-filter-vector-requires c κs = search needs
-
-conflict-requires : tie.Need-conflict-requires
-conflict-requires c κs = search needs
-
-same-length : tie.Need-same-length
-same-length c = search needs
-
 returns : tie.Need-returns
 returns c =
     let f = c .before .before in
@@ -31,15 +19,6 @@ returns c =
     let a = n .before .before .before in
     waits (a .args .t .now) _ _ _ _ (a .pre .1) _ _ (n .newest-vector .ensures) (f .filter-vector .ensures) _ (c .before .conflict .ensures)
     (c .if1 .taken) (a .pre .0)
-
-cast-if2 : tie.Need-cast-if2
-cast-if2 c = search needs
-
-live-count-requires : tie.Need-live-count-requires
-live-count-requires c κs = search needs
-
-same-length-2 : tie.Need-same-length-2
-same-length-2 c = search needs
 
 returns-2 : tie.Need-returns-2
 returns-2 c =
@@ -49,15 +28,6 @@ returns-2 c =
     let a = n .before .before .before in
     no-place-free (a .args .t .now) _ _ _ _ (a .pre .1) _ _ (n .newest-vector .ensures) (f .filter-vector .ensures) _ (g .before .conflict .ensures)
     (g .if1 .left) _ (c .before .live-count .ensures) (c .if2 .taken) (a .pre .0)
-
-merge-vector-requires : tie.Need-merge-vector-requires
-merge-vector-requires c κs = search needs
-
-begin-interval-requires : tie.Need-begin-interval-requires
-begin-interval-requires c κs = search needs
-
-same-length-3 : tie.Need-same-length-3
-same-length-3 c = search needs
 
 returns-3 : tie.Need-returns-3
 returns-3 c =
@@ -74,16 +44,6 @@ pub deliver-spared-spec : {M : Type 1} → statement M
 deliver-spared-spec =
     tie.close
     (tie.spec
-    newest-vector-requires
-    filter-vector-requires
-    conflict-requires
-    same-length
-    returns
-    cast-if2
-    live-count-requires
-    same-length-2
-    returns-2
-    merge-vector-requires
-    begin-interval-requires
-    same-length-3
-    returns-3)
+    (λ c κs. search needs) (λ c κs. search needs) (λ c κs. search needs) (λ c. search needs) returns
+    (λ c. search needs) (λ c κs. search needs) (λ c. search needs) returns-2 (λ c κs. search needs)
+    (λ c κs. search needs) (λ c. search needs) returns-3)

@@ -19,15 +19,6 @@ abbrev μ-loop : tie.MeasureT-loop
 loop-holds : tie.Need-loop-holds Inv-loop μ-loop
 loop-holds c = (search needs, allb-zero _)
 
-controller-ok-requires : tie.Need-controller-ok-requires Inv-loop μ-loop
-controller-ok-requires c κs = search needs
-
-add-c : tie.Need-add-c Inv-loop μ-loop
-add-c c = search needs
-
-loop-less : tie.Need-loop-less Inv-loop μ-loop
-loop-less c = search needs
-
 loop-again : tie.Need-loop-again Inv-loop μ-loop
 loop-again c = (search needs, allb-step _ _ _ _ (c .before .before .loop .inv .1) (c .controller-ok .ensures))
 
@@ -37,4 +28,5 @@ returns c = allb-end _ _ _ _ (c .before .loop .inv .1) (c .before .loop .inv .0)
 pub controllers-ok-spec : {M : Type 1} → statement M
 controllers-ok-spec =
     tie.close
-    (tie.spec Inv-loop μ-loop loop-holds controller-ok-requires add-c loop-less loop-again returns)
+    (tie.spec
+    Inv-loop μ-loop loop-holds (λ c κs. search needs) (λ c. search needs) (λ c. search needs) loop-again returns)

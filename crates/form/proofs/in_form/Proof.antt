@@ -7,36 +7,6 @@ use borrow.Author.Needs.{needs}
 use Rattle.form.proofs.in_form.Statement.{statement}
 use Rattle.form.proofs.in_form.Tie as tie
 
-size-requires : tie.Need-size-requires
-size-requires c κs = search needs
-
-cast-result : tie.Need-cast-result
-cast-result c = search needs
-
-records-used-requires : tie.Need-records-used-requires
-records-used-requires c κs = search needs
-
-cast-result-2 : tie.Need-cast-result-2
-cast-result-2 c = search needs
-
-sub-all-zero : tie.Need-sub-all-zero
-sub-all-zero c = search needs
-
-all-zero-requires : tie.Need-all-zero-requires
-all-zero-requires c κs = search needs
-
-controllers-ok-requires : tie.Need-controllers-ok-requires
-controllers-ok-requires c κs = search needs
-
-all-rows-ok-requires : tie.Need-all-rows-ok-requires
-all-rows-ok-requires c κs = search needs
-
-all-places-ok-requires : tie.Need-all-places-ok-requires
-all-places-ok-requires c κs = search needs
-
-messages-ok-requires : tie.Need-messages-ok-requires
-messages-ok-requires c κs = search needs
-
 returns : tie.Need-returns
 unfolding inForm allOf
 returns c =
@@ -47,14 +17,6 @@ pub in-form-spec : {M : Type 1} → statement M
 in-form-spec =
     tie.close
     (tie.spec
-    size-requires
-    cast-result
-    records-used-requires
-    cast-result-2
-    sub-all-zero
-    all-zero-requires
-    controllers-ok-requires
-    all-rows-ok-requires
-    all-places-ok-requires
-    messages-ok-requires
-    returns)
+    (λ c κs. search needs) (λ c. search needs) (λ c κs. search needs) (λ c. search needs) (λ c. search needs)
+    (λ c κs. search needs) (λ c κs. search needs) (λ c κs. search needs) (λ c κs. search needs)
+    (λ c κs. search needs) returns)

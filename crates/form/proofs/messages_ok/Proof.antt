@@ -18,38 +18,11 @@ Inv-loop t n sent ok₀ r₀ ok r = (r ≤ sent) × (sent ≡ min (used (state t
 abbrev μ-loop : tie.MeasureT-loop
 μ-loop t n sent ok₀ r₀ ok r = sent - r
 
-records-used-requires : tie.Need-records-used-requires Inv-loop μ-loop
-records-used-requires c κs = search needs
-
-at-most-requires : tie.Need-at-most-requires Inv-loop μ-loop
-at-most-requires c κs = search needs
-
 loop-holds : tie.Need-loop-holds Inv-loop μ-loop
 loop-holds c = (search needs, rw (c .before .records-used .ensures) at (c .at-most .ensures), allb-zero _)
 
-message-ok-requires : tie.Need-message-ok-requires Inv-loop μ-loop
-message-ok-requires c κs = search needs
-
-add-r : tie.Need-add-r Inv-loop μ-loop
-add-r c = search needs
-
-loop-less : tie.Need-loop-less Inv-loop μ-loop
-loop-less c = search needs
-
 loop-again : tie.Need-loop-again Inv-loop μ-loop
 loop-again c = (search needs, c .before .before .loop .inv .1, allb-step _ _ _ _ (c .before .before .loop .inv .2) (c .message-ok .ensures))
-
-sub-free : tie.Need-sub-free Inv-loop μ-loop
-sub-free c = search needs
-
-mul-free : tie.Need-mul-free Inv-loop μ-loop
-mul-free c = search needs
-
-message-at-requires : tie.Need-message-at-requires Inv-loop μ-loop
-message-at-requires c κs = search needs
-
-all-zero-requires : tie.Need-all-zero-requires Inv-loop μ-loop
-all-zero-requires c κs = search needs
 
 returns : tie.Need-returns Inv-loop μ-loop
 returns c =
@@ -60,17 +33,6 @@ pub messages-ok-spec : {M : Type 1} → statement M
 messages-ok-spec =
     tie.close
     (tie.spec
-    Inv-loop
-    μ-loop
-    records-used-requires
-    at-most-requires
-    loop-holds
-    message-ok-requires
-    add-r
-    loop-less
-    loop-again
-    sub-free
-    mul-free
-    message-at-requires
-    all-zero-requires
-    returns)
+    Inv-loop μ-loop (λ c κs. search needs) (λ c κs. search needs) loop-holds (λ c κs. search needs)
+    (λ c. search needs) (λ c. search needs) loop-again (λ c. search needs) (λ c. search needs)
+    (λ c κs. search needs) (λ c κs. search needs) returns)

@@ -18,38 +18,11 @@ Inv-loop t n c live ok₀ p₀ ok p = (p ≤ live) × (live ≡ min (state t (Li
 abbrev μ-loop : tie.MeasureT-loop
 μ-loop t n c live ok₀ p₀ ok p = live - p
 
-live-count-requires : tie.Need-live-count-requires Inv-loop μ-loop
-live-count-requires c κs = search needs
-
-at-most-requires : tie.Need-at-most-requires Inv-loop μ-loop
-at-most-requires c κs = search needs
-
 loop-holds : tie.Need-loop-holds Inv-loop μ-loop
 loop-holds c = (search needs, rw (c .before .live-count .ensures) at (c .at-most .ensures), allb-zero _)
 
-place-ok-requires : tie.Need-place-ok-requires Inv-loop μ-loop
-place-ok-requires c κs = search needs
-
-add-p : tie.Need-add-p Inv-loop μ-loop
-add-p c = search needs
-
-loop-less : tie.Need-loop-less Inv-loop μ-loop
-loop-less c = search needs
-
 loop-again : tie.Need-loop-again Inv-loop μ-loop
 loop-again c = (search needs, c .before .before .loop .inv .1, allb-step _ _ _ _ (c .before .before .loop .inv .2) (c .place-ok .ensures))
-
-sub-free : tie.Need-sub-free Inv-loop μ-loop
-sub-free c = search needs
-
-mul-free : tie.Need-mul-free Inv-loop μ-loop
-mul-free c = search needs
-
-place-at-requires : tie.Need-place-at-requires Inv-loop μ-loop
-place-at-requires c κs = search needs
-
-all-zero-requires : tie.Need-all-zero-requires Inv-loop μ-loop
-all-zero-requires c κs = search needs
 
 returns : tie.Need-returns Inv-loop μ-loop
 returns c =
@@ -60,17 +33,6 @@ pub places-ok-spec : {M : Type 1} → statement M
 places-ok-spec =
     tie.close
     (tie.spec
-    Inv-loop
-    μ-loop
-    live-count-requires
-    at-most-requires
-    loop-holds
-    place-ok-requires
-    add-p
-    loop-less
-    loop-again
-    sub-free
-    mul-free
-    place-at-requires
-    all-zero-requires
-    returns)
+    Inv-loop μ-loop (λ c κs. search needs) (λ c κs. search needs) loop-holds (λ c κs. search needs)
+    (λ c. search needs) (λ c. search needs) loop-again (λ c. search needs) (λ c. search needs)
+    (λ c κs. search needs) (λ c κs. search needs) returns)

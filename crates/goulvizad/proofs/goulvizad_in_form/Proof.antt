@@ -10,9 +10,6 @@ returns : tie.Need-returns
 unfolding formNumber
 returns c = rw (ne-eqb _ _ (c .if1 .taken))
 
-in-form-requires : tie.Need-in-form-requires
-in-form-requires c κs = search needs
-
 returns-2 : tie.Need-returns-2
 unfolding formNumber
 returns-2 c = rw (eq-eqb _ _ (c .before .before .if1 .left), sym (c .before .in-form .ensures) ∙ c .if2 .taken)
@@ -22,4 +19,5 @@ unfolding formNumber
 returns-3 c = rw (eq-eqb _ _ (c .before .before .if1 .left), sym (c .before .in-form .ensures) ∙ c .if2 .left)
 
 pub goulvizad-in-form-spec : {M : Type 1} → statement M
-goulvizad-in-form-spec = tie.close (tie.spec returns in-form-requires returns-2 returns-3)
+goulvizad-in-form-spec = tie.close (tie.spec
+    returns (λ c κs. search needs) returns-2 returns-3)

@@ -8,27 +8,12 @@ use Rattle.goulvizad.proofs.goulvizad_step.Tie as tie
 returns : tie.Need-returns
 returns c = wrong-values _ _ _ _ _ _ (c .if1 .taken)
 
-step-of-requires : tie.Need-step-of-requires
-step-of-requires c κs = search needs
-
-enum-known-x : tie.Need-enum-known-x
-enum-known-x c = search needs
-
 enum-told : tie.Need-enum-told
 enum-told c = search needs
 
 returns-2 : tie.Need-returns-2
 unfolding taken
 returns-2 c = letter-taken _ _ _ _ _ _ (c .before .before .before .if1 .left) (sym (c .before .before .step-of .ensures) ∙ c .enum-told .given .1) refl
-
-take-step-requires : tie.Need-take-step-requires
-take-step-requires c κs = search needs
-
-same-length : tie.Need-same-length
-same-length c = search needs
-
-same-length-2 : tie.Need-same-length-2
-same-length-2 c = search needs
 
 returns-3 : tie.Need-returns-3
 returns-3 c =
@@ -40,12 +25,5 @@ pub goulvizad-step-spec : {M : Type 1} → statement M
 goulvizad-step-spec =
     tie.close
     (tie.spec
-    returns
-    step-of-requires
-    enum-known-x
-    enum-told
-    returns-2
-    take-step-requires
-    same-length
-    same-length-2
-    returns-3)
+    returns (λ c κs. search needs) (λ c. search needs) enum-told returns-2 (λ c κs. search needs)
+    (λ c. search needs) (λ c. search needs) returns-3)

@@ -6,25 +6,10 @@ use lib.ListN.{length}
 use Rattle.goulvizad.proofs.take_step.Statement.{statement}
 use Rattle.goulvizad.proofs.take_step.Tie as tie
 
-step-requires : tie.Need-step-requires
-step-requires c κs = search needs
-
-report-requires : tie.Need-report-requires
-report-requires c κs = search needs
-
-slice-aggregate-copy-words : tie.Need-slice-aggregate-copy-words
-slice-aggregate-copy-words c = search needs
-
 copy-words-requires : tie.Need-copy-words-requires
 copy-words-requires c κs =
     let reported = c .before .before .before in
     reported .before .before .before .before .before .before .before .pre ∙ sym (ap length (reported .report .ensures .1) ∙ value-count _)
-
-same-length : tie.Need-same-length
-same-length c = search needs
-
-same-length-2 : tie.Need-same-length-2
-same-length-2 c = search needs
 
 returns : tie.Need-returns
 returns c =
@@ -35,10 +20,5 @@ pub take-step-spec : {M : Type 1} → statement M
 take-step-spec =
     tie.close
     (tie.spec
-    step-requires
-    report-requires
-    slice-aggregate-copy-words
-    copy-words-requires
-    same-length
-    same-length-2
-    returns)
+    (λ c κs. search needs) (λ c κs. search needs) (λ c. search needs) copy-words-requires (λ c. search needs)
+    (λ c. search needs) returns)

@@ -22,9 +22,6 @@ abbrev μ-places : tie.MeasureT-places
 live-count-requires : tie.Need-live-count-requires Inv-loop μ-loop Inv-places μ-places
 live-count-requires c κs = let s = c .before .pre in (s .0, s .1 .named)
 
-cast-live : tie.Need-cast-live Inv-loop μ-loop Inv-places μ-places
-cast-live c = search needs
-
 places-holds : tie.Need-places-holds Inv-loop μ-loop Inv-places μ-places
 places-holds c = let s = c .before .before .pre in come-first _ _ _ (s .0) (s .1) (c .live-count .ensures)
 
@@ -36,35 +33,16 @@ place-vector-requires c κs =
 loop-holds : tie.Need-loop-holds Inv-loop μ-loop Inv-places μ-places
 loop-holds c = judged-first _ _ _ _ _ (c .before .before .places .inv) (c .before .if1 .left) (c .place-vector .ensures)
 
-mul-condemned-pair : tie.Need-mul-condemned-pair Inv-loop μ-loop Inv-places μ-places
-mul-condemned-pair c = search needs
-
-array-copy-out-condemned-pair :
-    tie.Need-array-copy-out-condemned-pair Inv-loop μ-loop Inv-places μ-places
-array-copy-out-condemned-pair c = search needs
-
 condemned-pair-requires : tie.Need-condemned-pair-requires Inv-loop μ-loop Inv-places μ-places
 condemned-pair-requires c κs =
     let w = c .before .before .loop .inv in
     let l = c .before .loop-test .taken in
     (w .come .long, w .come .chain .named, l, w .near _ l)
 
-add-owner : tie.Need-add-owner Inv-loop μ-loop Inv-places μ-places
-add-owner c = search needs
-
-loop-less : tie.Need-loop-less Inv-loop μ-loop Inv-places μ-places
-loop-less c = search needs
-
 loop-again : tie.Need-loop-again Inv-loop μ-loop Inv-places μ-places
 loop-again c =
     let l = c .before .before .before in
     judged-more _ _ _ _ _ _ _ (l .before .loop .inv) (l .loop-test .taken) (c .before .condemned-pair .ensures) (c .if2 .left)
-
-add-p : tie.Need-add-p Inv-loop μ-loop Inv-places μ-places
-add-p c = search needs
-
-places-less : tie.Need-places-less Inv-loop μ-loop Inv-places μ-places
-places-less c = search needs
 
 places-again : tie.Need-places-again Inv-loop μ-loop Inv-places μ-places
 places-again c = judged-clear _ _ _ _ _ _ (c .before .loop .inv) (c .loop-test .left)
@@ -81,23 +59,6 @@ pub lowest-condemned-spec : {M : Type 1} → statement M
 lowest-condemned-spec =
     tie.close
     (tie.spec
-    Inv-loop
-    μ-loop
-    Inv-places
-    μ-places
-    live-count-requires
-    cast-live
-    places-holds
-    place-vector-requires
-    loop-holds
-    mul-condemned-pair
-    array-copy-out-condemned-pair
-    condemned-pair-requires
-    add-owner
-    loop-less
-    loop-again
-    add-p
-    places-less
-    places-again
-    returns
-    returns-2)
+    Inv-loop μ-loop Inv-places μ-places live-count-requires (λ c. search needs) places-holds place-vector-requires
+    loop-holds (λ c. search needs) (λ c. search needs) condemned-pair-requires (λ c. search needs)
+    (λ c. search needs) loop-again (λ c. search needs) (λ c. search needs) places-again returns returns-2)

@@ -5,30 +5,6 @@ use borrow.Author.Needs.{needs}
 use Rattle.interval.proofs.write_place.Statement.{statement}
 use Rattle.interval.proofs.write_place.Tie as tie
 
-place-at-requires : tie.Need-place-at-requires
-place-at-requires c κs = search needs
-
-add-to : tie.Need-add-to
-add-to c = search needs
-
-mul-write-interval : tie.Need-mul-write-interval
-mul-write-interval c = search needs
-
-sub-write-interval : tie.Need-sub-write-interval
-sub-write-interval c = search needs
-
-part-write-interval-start : tie.Need-part-write-interval-start
-part-write-interval-start c = search needs
-
-part-write-interval-end : tie.Need-part-write-interval-end
-part-write-interval-end c = search needs
-
-write-interval-requires : tie.Need-write-interval-requires
-write-interval-requires c κs = search needs
-
-same-length : tie.Need-same-length
-same-length c = search needs
-
 returns : tie.Need-returns
 returns c =
     let s = c .before .before .before .before in
@@ -39,12 +15,5 @@ pub write-place-spec : {M : Type 1} → statement M
 write-place-spec =
     tie.close
     (tie.spec
-    place-at-requires
-    add-to
-    mul-write-interval
-    sub-write-interval
-    part-write-interval-start
-    part-write-interval-end
-    write-interval-requires
-    same-length
-    returns)
+    (λ c κs. search needs) (λ c. search needs) (λ c. search needs) (λ c. search needs) (λ c. search needs)
+    (λ c. search needs) (λ c κs. search needs) (λ c. search needs) returns)

@@ -12,16 +12,10 @@ use Rattle.machine.proofs.host_refusal.Tie as tie
 returns : tie.Need-returns
 returns c = refuses _ _ _ (omega arith) (too-short _ _ (c .if1 .taken))
 
-looks-at-form-requires : tie.Need-looks-at-form-requires
-looks-at-form-requires c κs = search needs
-
 returns-2 : tie.Need-returns-2
 returns-2 c =
     passes _ _
     (record { long = c .before .before .if1 .left; good = λ e. absurd (true≢false (sym e ∙ sym (c .before .looks-at-form .ensures) ∙ not-true _ (c .if2 .taken))) })
-
-in-form-requires : tie.Need-in-form-requires
-in-form-requires c κs = search needs
 
 returns-3 : tie.Need-returns-3
 returns-3 c =
@@ -37,4 +31,5 @@ returns-4 c =
 pub host-refusal-spec : {M : Type 1} → statement M
 host-refusal-spec =
     tie.close
-    (tie.spec returns looks-at-form-requires returns-2 in-form-requires returns-3 returns-4)
+    (tie.spec
+    returns (λ c κs. search needs) returns-2 (λ c κs. search needs) returns-3 returns-4)

@@ -4,20 +4,11 @@ use borrow.Author.Needs.{needs}
 use Rattle.machine.proofs.step.Statement.{statement}
 use Rattle.machine.proofs.step.Tie as tie
 
-host-refusal-requires : tie.Need-host-refusal-requires
-host-refusal-requires c κs = search needs
-
-same-length : tie.Need-same-length
-same-length c = search needs
-
 returns : tie.Need-returns
 returns c = c .before .host-refusal .ensures .refused (c .if1 .taken)
 
 perform-requires : tie.Need-perform-requires
 perform-requires c κs = c .before .before .host-refusal .ensures .passed (c .before .if1 .left)
-
-same-length-2 : tie.Need-same-length-2
-same-length-2 c = search needs
 
 returns-2 : tie.Need-returns-2
 returns-2 c =
@@ -27,4 +18,5 @@ returns-2 c =
 pub step-spec : {M : Type 1} → statement M
 step-spec =
     tie.close
-    (tie.spec host-refusal-requires same-length returns perform-requires same-length-2 returns-2)
+    (tie.spec
+    (λ c κs. search needs) (λ c. search needs) returns perform-requires (λ c. search needs) returns-2)

@@ -6,12 +6,6 @@ use borrow.Author.Needs.{needs}
 use Rattle.message.proofs.message_refusal.Statement.{statement}
 use Rattle.message.proofs.message_refusal.Tie as tie
 
-records-used-requires : tie.Need-records-used-requires
-records-used-requires c κs = search needs
-
-cast-if1 : tie.Need-cast-if1
-cast-if1 c = search needs
-
 returns : tie.Need-returns
 unfolding firstOf
 returns c = rw (← (c .before .records-used .ensures), le-leb _ _ (c .if1 .taken))
@@ -32,4 +26,5 @@ returns-3 c =
 pub message-refusal-spec : {M : Type 1} → statement M
 message-refusal-spec =
     tie.close
-    (tie.spec records-used-requires cast-if1 returns message-state-requires returns-2 returns-3)
+    (tie.spec
+    (λ c κs. search needs) (λ c. search needs) returns message-state-requires returns-2 returns-3)

@@ -10,18 +10,6 @@ use Rattle.table.proofs.live_count.Reads as live-count-reads
 use Rattle.vector.proofs.filter_vector.Reads as filter-vector-reads
 use Rattle.vector.proofs.place_vector.Reads as place-vector-reads
 
-live-count-requires : tie.Need-live-count-requires
-live-count-requires c κs = search needs
-
-cast-live : tie.Need-cast-live
-cast-live c = search needs
-
-sub-place-vector : tie.Need-sub-place-vector
-sub-place-vector c = search needs
-
-place-vector-requires : tie.Need-place-vector-requires
-place-vector-requires c κs = search needs
-
 filter-vector-requires : tie.Need-filter-vector-requires
 filter-vector-requires c κs = search newest-near
 
@@ -32,9 +20,5 @@ pub newest-vector-spec : {M : Type 1} → statement M
 newest-vector-spec =
     tie.close
     (tie.spec
-    live-count-requires
-    cast-live
-    sub-place-vector
-    place-vector-requires
-    filter-vector-requires
+    (λ c κs. search needs) (λ c. search needs) (λ c. search needs) (λ c κs. search needs) filter-vector-requires
     returns)

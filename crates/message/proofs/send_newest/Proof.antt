@@ -15,44 +15,8 @@ use Rattle.table.proofs.place_number.Reads as place-number-reads
 use Rattle.table.proofs.records_used.Reads as records-used-reads
 use Rattle.table.proofs.set_sent_count.Reads as set-sent-count-reads
 
-live-count-requires : tie.Need-live-count-requires
-live-count-requires c κs = search needs
-
-cast-newest : tie.Need-cast-newest
-cast-newest c = search needs
-
-sub-newest : tie.Need-sub-newest
-sub-newest c = search needs
-
-place-incarnation-requires : tie.Need-place-incarnation-requires
-place-incarnation-requires c κs = search needs
-
-place-number-requires : tie.Need-place-number-requires
-place-number-requires c κs = search needs
-
-newest-vector-requires : tie.Need-newest-vector-requires
-newest-vector-requires c κs = search needs
-
-records-used-requires : tie.Need-records-used-requires
-records-used-requires c κs = search needs
-
-cast-r : tie.Need-cast-r
-cast-r c = search needs
-
-last-given-requires : tie.Need-last-given-requires
-last-given-requires c κs = search needs
-
 add-m : tie.Need-add-m
 add-m c = search next-fits
-
-write-held-requires : tie.Need-write-held-requires
-write-held-requires c κs = search needs
-
-set-sent-count-requires : tie.Need-set-sent-count-requires
-set-sent-count-requires c κs = search needs
-
-same-length : tie.Need-same-length
-same-length c = search needs
 
 returns : tie.Need-returns
 returns c =
@@ -72,17 +36,6 @@ pub send-newest-spec : {M : Type 1} → statement M
 send-newest-spec =
     tie.close
     (tie.spec
-    live-count-requires
-    cast-newest
-    sub-newest
-    place-incarnation-requires
-    place-number-requires
-    newest-vector-requires
-    records-used-requires
-    cast-r
-    last-given-requires
-    add-m
-    write-held-requires
-    set-sent-count-requires
-    same-length
-    returns)
+    (λ c κs. search needs) (λ c. search needs) (λ c. search needs) (λ c κs. search needs) (λ c κs. search needs)
+    (λ c κs. search needs) (λ c κs. search needs) (λ c. search needs) (λ c κs. search needs) add-m
+    (λ c κs. search needs) (λ c κs. search needs) (λ c. search needs) returns)

@@ -5,9 +5,6 @@ use borrow.Author.Needs.{needs}
 use Rattle.message.proofs.send_refusal.Statement.{statement}
 use Rattle.message.proofs.send_refusal.Tie as tie
 
-size-requires : tie.Need-size-requires
-size-requires c κs = search needs
-
 returns : tie.Need-returns
 unfolding firstOf
 returns c = rw (← (c .before .size .ensures), c .if1 .taken)
@@ -15,12 +12,6 @@ returns c = rw (← (c .before .size .ensures), c .if1 .taken)
 returns-2 : tie.Need-returns-2
 unfolding firstOf
 returns-2 c = rw (← (c .before .before .size .ensures), c .before .if1 .left, eq-eqb _ _ (c .if2 .taken))
-
-cast-if3 : tie.Need-cast-if3
-cast-if3 c = search needs
-
-records-used-requires : tie.Need-records-used-requires
-records-used-requires c κs = search needs
 
 returns-3 : tie.Need-returns-3
 unfolding firstOf
@@ -37,4 +28,5 @@ returns-4 c =
 pub send-refusal-spec : {M : Type 1} → statement M
 send-refusal-spec =
     tie.close
-    (tie.spec size-requires returns returns-2 cast-if3 records-used-requires returns-3 returns-4)
+    (tie.spec
+    (λ c κs. search needs) returns returns-2 (λ c. search needs) (λ c κs. search needs) returns-3 returns-4)

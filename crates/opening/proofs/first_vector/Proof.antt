@@ -4,14 +4,9 @@ use borrow.Author.Needs.{needs}
 use Rattle.opening.proofs.first_vector.Statement.{statement}
 use Rattle.opening.proofs.first_vector.Tie as tie
 
-mul-v : tie.Need-mul-v
-mul-v c = search needs
-
-array-set-from-v : tie.Need-array-set-from-v
-array-set-from-v c = search needs
-
 returns : tie.Need-returns
 returns c = own-stored _ (c .pre)
 
 pub first-vector-spec : {M : Type 1} → statement M
-first-vector-spec = tie.close (tie.spec mul-v array-set-from-v returns)
+first-vector-spec = tie.close (tie.spec
+    (λ c. search needs) (λ c. search needs) returns)

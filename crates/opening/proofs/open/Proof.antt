@@ -7,18 +7,12 @@ use mathlib.Core.Path.{sym, _∙_}
 use Rattle.opening.proofs.open.Statement.{statement}
 use Rattle.opening.proofs.open.Tie as tie
 
-open-refusal-requires : tie.Need-open-refusal-requires
-open-refusal-requires c κs = search needs
-
 returns : tie.Need-returns
 unfolding stepOpen
 returns c = refused _ _ _ _ (c .before .before .before .pre) (c .before .open-refusal .ensures) (c .if1 .taken)
 
 open-house-requires : tie.Need-open-house-requires
 open-house-requires c κs = (search needs, openAllowed _ _ (sym (c .before .if1 .left) ∙ c .before .before .open-refusal .ensures))
-
-same-length : tie.Need-same-length
-same-length c = search needs
 
 returns-2 : tie.Need-returns-2
 unfolding stepOpen
@@ -28,4 +22,5 @@ returns-2 c =
 
 pub open-spec : {M : Type 1} → statement M
 open-spec =
-    tie.close (tie.spec open-refusal-requires returns open-house-requires same-length returns-2)
+    tie.close (tie.spec
+    (λ c κs. search needs) returns open-house-requires (λ c. search needs) returns-2)

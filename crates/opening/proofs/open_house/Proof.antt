@@ -15,12 +15,6 @@ Inv-loop t₀ n k c₀ t c = (c ≤ n) × (t ≡ words (openedTo n k c))
 abbrev μ-loop : tie.MeasureT-loop
 μ-loop t₀ n k c₀ t c = n - c
 
-clear-requires : tie.Need-clear-requires Inv-loop μ-loop
-clear-requires c κs = search needs
-
-set-size-requires : tie.Need-set-size-requires Inv-loop μ-loop
-set-size-requires c κs = search needs
-
 loop-holds : tie.Need-loop-holds Inv-loop μ-loop
 loop-holds c =
     let s = c .before .before .before .before .before .before in
@@ -28,12 +22,6 @@ loop-holds c =
 
 open-controller-requires : tie.Need-open-controller-requires Inv-loop μ-loop
 open-controller-requires c κs = (long-of _ (c .before .before .loop .inv .1), omega arith)
-
-add-c : tie.Need-add-c Inv-loop μ-loop
-add-c c = search needs
-
-loop-less : tie.Need-loop-less Inv-loop μ-loop
-loop-less c = search needs
 
 loop-again : tie.Need-loop-again Inv-loop μ-loop
 loop-again c = (search needs, opened-next _ _ _ _ _ (c .before .before .before .before .before .loop .inv .1) (c .before .before .open-controller .ensures))
@@ -48,14 +36,5 @@ pub open-house-spec : {M : Type 1} → statement M
 open-house-spec =
     tie.close
     (tie.spec
-    Inv-loop
-    μ-loop
-    clear-requires
-    set-size-requires
-    loop-holds
-    open-controller-requires
-    add-c
-    loop-less
-    loop-again
-    same-length
-    returns)
+    Inv-loop μ-loop (λ c κs. search needs) (λ c κs. search needs) loop-holds open-controller-requires
+    (λ c. search needs) (λ c. search needs) loop-again same-length returns)

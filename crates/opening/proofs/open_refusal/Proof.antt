@@ -4,9 +4,6 @@ use borrow.Author.Needs.{needs}
 use Rattle.opening.proofs.open_refusal.Statement.{statement}
 use Rattle.opening.proofs.open_refusal.Tie as tie
 
-cast-if1 : tie.Need-cast-if1
-cast-if1 c = search needs
-
 returns : tie.Need-returns
 returns c = hit _ _ _ (c .if1 .taken)
 
@@ -14,4 +11,5 @@ returns-2 : tie.Need-returns-2
 returns-2 c = skip _ _ _ _ (c .if1 .left) none
 
 pub open-refusal-spec : {M : Type 1} → statement M
-open-refusal-spec = tie.close (tie.spec cast-if1 returns returns-2)
+open-refusal-spec = tie.close (tie.spec
+    (λ c. search needs) returns returns-2)

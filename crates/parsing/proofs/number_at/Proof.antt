@@ -32,20 +32,11 @@ ended c = ⊎-elim (λ w. field-none _ _ (w .left)) (λ w. field-space _ _ (w .0
 returns : tie.Need-returns Inv-loop μ-loop
 returns c = number-none _ _ (c .if1 .taken)
 
-shared-slice-read-if2 : tie.Need-shared-slice-read-if2 Inv-loop μ-loop
-shared-slice-read-if2 c = search needs
-
 returns-2 : tie.Need-returns-2 Inv-loop μ-loop
 returns-2 c = number-letter _ _ (c .before .before .if1 .left) (c .if2 .taken)
 
-add-i : tie.Need-add-i Inv-loop μ-loop
-add-i c = search needs
-
 loop-holds : tie.Need-loop-holds Inv-loop μ-loop
 loop-holds c = reader-start _ _ (c .before .before .if1 .left) (c .if2 .left)
-
-shared-slice-read-b : tie.Need-shared-slice-read-b Inv-loop μ-loop
-shared-slice-read-b c = search needs
 
 sub-if4 : tie.Need-sub-if4 Inv-loop μ-loop
 sub-if4 c = omega (arith, c .before .before .before .loop .inv .starts)
@@ -90,24 +81,5 @@ pub number-at-spec : {M : Type 1} → statement M
 number-at-spec =
     tie.close
     (tie.spec
-    Inv-loop
-    μ-loop
-    returns
-    shared-slice-read-if2
-    returns-2
-    add-i
-    loop-holds
-    shared-slice-read-b
-    sub-if4
-    returns-3
-    mul-v
-    sub-v
-    cast-v
-    add-v
-    add-i-2
-    loop-less
-    loop-again
-    add-if5
-    returns-4
-    cast-value
-    returns-5)
+    Inv-loop μ-loop returns (λ c. search needs) returns-2 (λ c. search needs) loop-holds (λ c. search needs)
+    sub-if4 returns-3 mul-v sub-v cast-v add-v add-i-2 loop-less loop-again add-if5 returns-4 cast-value returns-5)

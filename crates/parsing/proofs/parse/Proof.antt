@@ -27,23 +27,11 @@ returns-2 c = line-long (c .before .before .loop .inv) (c .before .loop-test .ta
 number-at-requires : tie.Need-number-at-requires Inv-loop μ-loop
 number-at-requires c κs = tt
 
-enum-known-v : tie.Need-enum-known-v Inv-loop μ-loop
-enum-known-v c = search needs
-
 enum-told : tie.Need-enum-told Inv-loop μ-loop
 enum-told c = search needs
 
 returns-3 : tie.Need-returns-3 Inv-loop μ-loop
 returns-3 c = let turn = c .before .before .before .before in line-broken (turn .before .loop .inv) (turn .loop-test .taken) (sym (c .before .before .number-at .ensures) ∙ c .enum-told .given .1)
-
-mul-ns : tie.Need-mul-ns Inv-loop μ-loop
-mul-ns c = search needs
-
-array-write-ns : tie.Need-array-write-ns Inv-loop μ-loop
-array-write-ns c = search needs
-
-add-n : tie.Need-add-n Inv-loop μ-loop
-add-n c = search needs
 
 loop-less : tie.Need-loop-less Inv-loop μ-loop
 loop-less c = let turn = c .before .before .before .before .before in line-less (turn .before .loop .inv) (turn .loop-test .taken) (sym (c .before .before .before .number-at .ensures) ∙ c .before .v .given .1)
@@ -56,15 +44,6 @@ shared-slice-read-letter c = omega (arith, c .before .before .loop .inv .inside)
 
 cast-step-of : tie.Need-cast-step-of Inv-loop μ-loop
 cast-step-of c = omega (arith, c .shared-slice-known2 .given 0)
-
-array-read-step-of : tie.Need-array-read-step-of Inv-loop μ-loop
-array-read-step-of c = search needs
-
-array-read-step-of-2 : tie.Need-array-read-step-of-2 Inv-loop μ-loop
-array-read-step-of-2 c = search needs
-
-array-read-step-of-3 : tie.Need-array-read-step-of-3 Inv-loop μ-loop
-array-read-step-of-3 c = search needs
 
 step-of-requires : tie.Need-step-of-requires Inv-loop μ-loop
 step-of-requires c κs = tt
@@ -79,25 +58,7 @@ pub parse-spec : {M : Type 1} → statement M
 parse-spec =
     tie.close
     (tie.spec
-    Inv-loop
-    μ-loop
-    returns
-    loop-holds
-    returns-2
-    number-at-requires
-    enum-known-v
-    enum-told
-    returns-3
-    mul-ns
-    array-write-ns
-    add-n
-    loop-less
-    loop-again
-    shared-slice-read-letter
-    cast-step-of
-    array-read-step-of
-    array-read-step-of-2
-    array-read-step-of-3
-    step-of-requires
-    with-numbers-requires
-    returns-4)
+    Inv-loop μ-loop returns loop-holds returns-2 number-at-requires (λ c. search needs) enum-told returns-3
+    (λ c. search needs) (λ c. search needs) (λ c. search needs) loop-less loop-again shared-slice-read-letter
+    cast-step-of (λ c. search needs) (λ c. search needs) (λ c. search needs) step-of-requires
+    with-numbers-requires returns-4)

@@ -6,18 +6,12 @@ use borrow.Author.Needs.{needs}
 use Rattle.parsing.proofs.with_numbers.Statement.{statement}
 use Rattle.parsing.proofs.with_numbers.Tie as tie
 
-enum-known-asked : tie.Need-enum-known-asked
-enum-known-asked c = search needs
-
 enum-told : tie.Need-enum-told
 enum-told c = search needs
 
 returns : tie.Need-returns
 unfolding withNumbers
 returns c = rw (c .enum-told .given .1)
-
-numbers-of-requires : tie.Need-numbers-of-requires
-numbers-of-requires c κs = search needs
 
 returns-2 : tie.Need-returns-2
 unfolding withNumbers
@@ -29,4 +23,5 @@ returns-3 c = rw (c .before .before .before .asked .given .1, ne-eqb _ _ (λ e. 
 
 pub with-numbers-spec : {M : Type 1} → statement M
 with-numbers-spec =
-    tie.close (tie.spec enum-known-asked enum-told returns numbers-of-requires returns-2 returns-3)
+    tie.close (tie.spec
+    (λ c. search needs) enum-told returns (λ c κs. search needs) returns-2 returns-3)

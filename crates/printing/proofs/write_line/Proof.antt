@@ -28,12 +28,6 @@ write-word-requires c κs = omega (arith, c .before .before .before .before .pre
 loop-holds : tie.Need-loop-holds Inv-loop μ-loop
 loop-holds c = listing-start _ _ _
 
-mul-write-number : tie.Need-mul-write-number Inv-loop μ-loop
-mul-write-number c = search needs
-
-shared-slice-read-write-number : tie.Need-shared-slice-read-write-number Inv-loop μ-loop
-shared-slice-read-write-number c = search needs
-
 write-number-requires : tie.Need-write-number-requires Inv-loop μ-loop
 write-number-requires c κs = let turn = c .before .before .before in omega (arith, listing-room (turn .loop .inv) (room (turn .before)))
 
@@ -66,17 +60,5 @@ pub write-line-spec : {M : Type 1} → statement M
 write-line-spec =
     tie.close
     (tie.spec
-    Inv-loop
-    μ-loop
-    write-word-requires
-    loop-holds
-    mul-write-number
-    shared-slice-read-write-number
-    write-number-requires
-    add-i
-    loop-less
-    loop-again
-    slice-write-out
-    add-result
-    same-length
-    returns)
+    Inv-loop μ-loop write-word-requires loop-holds (λ c. search needs) (λ c. search needs) write-number-requires
+    add-i loop-less loop-again slice-write-out add-result same-length returns)

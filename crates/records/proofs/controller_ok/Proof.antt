@@ -8,27 +8,6 @@ use borrow.Author.Needs.{needs}
 use Rattle.records.proofs.controller_ok.Statement.{statement}
 use Rattle.records.proofs.controller_ok.Tie as tie
 
-live-count-requires : tie.Need-live-count-requires
-live-count-requires c κs = search needs
-
-stable-count-requires : tie.Need-stable-count-requires
-stable-count-requires c κs = search needs
-
-degree-requires : tie.Need-degree-requires
-degree-requires c κs = search needs
-
-incarnation-requires : tie.Need-incarnation-requires
-incarnation-requires c κs = search needs
-
-cast-result : tie.Need-cast-result
-cast-result c = search needs
-
-controller-at-requires : tie.Need-controller-at-requires
-controller-at-requires c κs = search needs
-
-all-zero-requires : tie.Need-all-zero-requires
-all-zero-requires c κs = search needs
-
 returns : tie.Need-returns
 unfolding controllerOk allOf
 returns c =
@@ -43,12 +22,5 @@ pub controller-ok-spec : {M : Type 1} → statement M
 controller-ok-spec =
     tie.close
     (tie.spec
-    live-count-requires
-    stable-count-requires
-    degree-requires
-    incarnation-requires
-    cast-result
-    controller-at-requires
-    all-zero-requires
-    returns
-    returns-2)
+    (λ c κs. search needs) (λ c κs. search needs) (λ c κs. search needs) (λ c κs. search needs)
+    (λ c. search needs) (λ c κs. search needs) (λ c κs. search needs) returns returns-2)

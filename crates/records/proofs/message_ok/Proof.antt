@@ -10,39 +10,6 @@ use borrow.Author.Needs.{needs}
 use Rattle.records.proofs.message_ok.Statement.{statement}
 use Rattle.records.proofs.message_ok.Tie as tie
 
-cast-if1 : tie.Need-cast-if1
-cast-if1 c = search needs
-
-records-used-requires : tie.Need-records-used-requires
-records-used-requires c κs = search needs
-
-message-state-requires : tie.Need-message-state-requires
-message-state-requires c κs = search needs
-
-sending-number-requires : tie.Need-sending-number-requires
-sending-number-requires c κs = search needs
-
-sender-requires : tie.Need-sender-requires
-sender-requires c κs = search needs
-
-receiver-requires : tie.Need-receiver-requires
-receiver-requires c κs = search needs
-
-sending-incarnation-requires : tie.Need-sending-incarnation-requires
-sending-incarnation-requires c κs = search needs
-
-message-vector-at-requires : tie.Need-message-vector-at-requires
-message-vector-at-requires c κs = search needs
-
-vector-ok-requires : tie.Need-vector-ok-requires
-vector-ok-requires c κs = search needs
-
-message-at-requires : tie.Need-message-at-requires
-message-at-requires c κs = search needs
-
-all-zero-requires : tie.Need-all-zero-requires
-all-zero-requires c κs = search needs
-
 returns : tie.Need-returns
 unfolding messageOk allOf
 returns c =
@@ -60,16 +27,6 @@ pub message-ok-spec : {M : Type 1} → statement M
 message-ok-spec =
     tie.close
     (tie.spec
-    cast-if1
-    records-used-requires
-    message-state-requires
-    sending-number-requires
-    sender-requires
-    receiver-requires
-    sending-incarnation-requires
-    message-vector-at-requires
-    vector-ok-requires
-    message-at-requires
-    all-zero-requires
-    returns
-    returns-2)
+    (λ c. search needs) (λ c κs. search needs) (λ c κs. search needs) (λ c κs. search needs)
+    (λ c κs. search needs) (λ c κs. search needs) (λ c κs. search needs) (λ c κs. search needs)
+    (λ c κs. search needs) (λ c κs. search needs) (λ c κs. search needs) returns returns-2)

@@ -10,45 +10,6 @@ use borrow.Author.Needs.{needs}
 use Rattle.records.proofs.place_ok.Statement.{statement}
 use Rattle.records.proofs.place_ok.Tie as tie
 
-cast-q : tie.Need-cast-q
-cast-q c = search needs
-
-live-count-requires : tie.Need-live-count-requires
-live-count-requires c κs = search needs
-
-flag-requires : tie.Need-flag-requires
-flag-requires c κs = search needs
-
-place-incarnation-requires : tie.Need-place-incarnation-requires
-place-incarnation-requires c κs = search needs
-
-place-number-requires : tie.Need-place-number-requires
-place-number-requires c κs = search needs
-
-add-number-of : tie.Need-add-number-of
-add-number-of c = search needs
-
-number-of-requires : tie.Need-number-of-requires
-number-of-requires c κs = search needs
-
-cause-requires : tie.Need-cause-requires
-cause-requires c κs = search needs
-
-last-given-requires : tie.Need-last-given-requires
-last-given-requires c κs = search needs
-
-place-vector-at-requires : tie.Need-place-vector-at-requires
-place-vector-at-requires c κs = search needs
-
-vector-ok-requires : tie.Need-vector-ok-requires
-vector-ok-requires c κs = search needs
-
-place-at-requires : tie.Need-place-at-requires
-place-at-requires c κs = search needs
-
-all-zero-requires : tie.Need-all-zero-requires
-all-zero-requires c κs = search needs
-
 returns : tie.Need-returns
 unfolding placeOk allOf
 returns c =
@@ -66,18 +27,7 @@ pub place-ok-spec : {M : Type 1} → statement M
 place-ok-spec =
     tie.close
     (tie.spec
-    cast-q
-    live-count-requires
-    flag-requires
-    place-incarnation-requires
-    place-number-requires
-    add-number-of
-    number-of-requires
-    cause-requires
-    last-given-requires
-    place-vector-at-requires
-    vector-ok-requires
-    place-at-requires
-    all-zero-requires
-    returns
-    returns-2)
+    (λ c. search needs) (λ c κs. search needs) (λ c κs. search needs) (λ c κs. search needs)
+    (λ c κs. search needs) (λ c. search needs) (λ c κs. search needs) (λ c κs. search needs)
+    (λ c κs. search needs) (λ c κs. search needs) (λ c κs. search needs) (λ c κs. search needs)
+    (λ c κs. search needs) returns returns-2)

@@ -30,23 +30,8 @@ Inv-loop t n holder owner most ok₀ i₀ ok i = (i ≤ incarnations) × (ok ≡
 abbrev μ-loop : tie.MeasureT-loop
 μ-loop t n holder owner most ok₀ i₀ ok i = incarnations - i
 
-highest-known-requires : tie.Need-highest-known-requires Inv-loop μ-loop
-highest-known-requires c κs = search needs
-
 loop-holds : tie.Need-loop-holds Inv-loop μ-loop
 loop-holds c = (search needs, allb-zero _)
-
-known-requires : tie.Need-known-requires Inv-loop μ-loop
-known-requires c κs = search needs
-
-end-requires : tie.Need-end-requires Inv-loop μ-loop
-end-requires c κs = search needs
-
-add-i : tie.Need-add-i Inv-loop μ-loop
-add-i c = search needs
-
-loop-less : tie.Need-loop-less Inv-loop μ-loop
-loop-less c = search needs
 
 loop-again : tie.Need-loop-again Inv-loop μ-loop
 loop-again c = (search needs, allb-step _ _ _ _ (c .before .before .before .loop .inv .1) (both-within _ (c .before .known .ensures) (c .end .ensures)))
@@ -59,13 +44,5 @@ pub row-ok-spec : {M : Type 1} → statement M
 row-ok-spec =
     tie.close
     (tie.spec
-    Inv-loop
-    μ-loop
-    highest-known-requires
-    loop-holds
-    known-requires
-    end-requires
-    add-i
-    loop-less
-    loop-again
-    returns)
+    Inv-loop μ-loop (λ c κs. search needs) loop-holds (λ c κs. search needs) (λ c κs. search needs)
+    (λ c. search needs) (λ c. search needs) loop-again returns)

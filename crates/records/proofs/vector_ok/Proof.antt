@@ -20,42 +20,6 @@ abbrev μ-loop : tie.MeasureT-loop
 loop-holds : tie.Need-loop-holds Inv-loop μ-loop
 loop-holds c = (search needs, allb-zero _)
 
-mul-pair-ok : tie.Need-mul-pair-ok Inv-loop μ-loop
-mul-pair-ok c = search needs
-
-add-pair-ok : tie.Need-add-pair-ok Inv-loop μ-loop
-add-pair-ok c = search needs
-
-mul-pair-ok-2 : tie.Need-mul-pair-ok-2 Inv-loop μ-loop
-mul-pair-ok-2 c = search needs
-
-shared-slice-read-pair-ok : tie.Need-shared-slice-read-pair-ok Inv-loop μ-loop
-shared-slice-read-pair-ok c = search needs
-
-mul-pair-ok-3 : tie.Need-mul-pair-ok-3 Inv-loop μ-loop
-mul-pair-ok-3 c = search needs
-
-add-pair-ok-2 : tie.Need-add-pair-ok-2 Inv-loop μ-loop
-add-pair-ok-2 c = search needs
-
-add-pair-ok-3 : tie.Need-add-pair-ok-3 Inv-loop μ-loop
-add-pair-ok-3 c = search needs
-
-mul-pair-ok-4 : tie.Need-mul-pair-ok-4 Inv-loop μ-loop
-mul-pair-ok-4 c = search needs
-
-shared-slice-read-pair-ok-2 : tie.Need-shared-slice-read-pair-ok-2 Inv-loop μ-loop
-shared-slice-read-pair-ok-2 c = search needs
-
-pair-ok-requires : tie.Need-pair-ok-requires Inv-loop μ-loop
-pair-ok-requires c κs = search needs
-
-add-owner : tie.Need-add-owner Inv-loop μ-loop
-add-owner c = search needs
-
-loop-less : tie.Need-loop-less Inv-loop μ-loop
-loop-less c = search needs
-
 loop-again : tie.Need-loop-again Inv-loop μ-loop
 loop-again c =
     let l = c .before .before .before .before in
@@ -69,20 +33,6 @@ pub vector-ok-spec : {M : Type 1} → statement M
 vector-ok-spec =
     tie.close
     (tie.spec
-    Inv-loop
-    μ-loop
-    loop-holds
-    mul-pair-ok
-    add-pair-ok
-    mul-pair-ok-2
-    shared-slice-read-pair-ok
-    mul-pair-ok-3
-    add-pair-ok-2
-    add-pair-ok-3
-    mul-pair-ok-4
-    shared-slice-read-pair-ok-2
-    pair-ok-requires
-    add-owner
-    loop-less
-    loop-again
-    returns)
+    Inv-loop μ-loop loop-holds (λ c. search needs) (λ c. search needs) (λ c. search needs) (λ c. search needs)
+    (λ c. search needs) (λ c. search needs) (λ c. search needs) (λ c. search needs) (λ c. search needs)
+    (λ c κs. search needs) (λ c. search needs) (λ c. search needs) loop-again returns)

@@ -6,12 +6,6 @@ use Rattle.recovery.specs.Crashing.{crashes}
 use Rattle.recovery.proofs.crash.Statement.{statement}
 use Rattle.recovery.proofs.crash.Tie as tie
 
-crash-refusal-requires : tie.Need-crash-refusal-requires
-crash-refusal-requires c κs = search needs
-
-same-length : tie.Need-same-length
-same-length c = search needs
-
 returns : tie.Need-returns
 unfolding stepCrash
 returns c = search refused
@@ -19,19 +13,9 @@ returns c = search refused
 crash-controller-requires : tie.Need-crash-controller-requires
 crash-controller-requires c κs = search crashes
 
-same-length-2 : tie.Need-same-length-2
-same-length-2 c = search needs
-
-returns-2 : tie.Need-returns-2
-returns-2 c = search needs
-
 pub crash-spec : {M : Type 1} → statement M
 crash-spec =
     tie.close
     (tie.spec
-    crash-refusal-requires
-    same-length
-    returns
-    crash-controller-requires
-    same-length-2
-    returns-2)
+    (λ c κs. search needs) (λ c. search needs) returns crash-controller-requires (λ c. search needs)
+    (λ c. search needs))

@@ -4,14 +4,8 @@ use Rattle.recovery.specs.Crashing.{crash-unknown, crash-named, crash-fu
 use Rattle.recovery.proofs.crash_refusal.Statement.{statement}
 use Rattle.recovery.proofs.crash_refusal.Tie as tie
 
-size-requires : tie.Need-size-requires
-size-requires c κs = search needs
-
 returns : tie.Need-returns
 returns c = search crash-unknown
-
-cast-if2 : tie.Need-cast-if2
-cast-if2 c = search needs
 
 stable-count-requires : tie.Need-stable-count-requires
 stable-count-requires c κs = search (needs, crash-named)
@@ -32,11 +26,5 @@ pub crash-refusal-spec : {M : Type 1} → statement M
 crash-refusal-spec =
     tie.close
     (tie.spec
-    size-requires
-    returns
-    cast-if2
-    stable-count-requires
-    returns-2
-    incarnation-requires
-    returns-3
-    returns-4)
+    (λ c κs. search needs) returns (λ c. search needs) stable-count-requires returns-2 incarnation-requires
+    returns-3 returns-4)

@@ -6,21 +6,12 @@ use Rattle.recovery.specs.Hearing.{hears, hear-granted}
 use Rattle.recovery.proofs.hear.Statement.{statement}
 use Rattle.recovery.proofs.hear.Tie as tie
 
-hear-refusal-requires : tie.Need-hear-refusal-requires
-hear-refusal-requires c κs = search needs
-
-same-length : tie.Need-same-length
-same-length c = search needs
-
 returns : tie.Need-returns
 unfolding stepHear
 returns c = search refused
 
 hear-crash-requires : tie.Need-hear-crash-requires
 hear-crash-requires c κs = search hears
-
-same-length-2 : tie.Need-same-length-2
-same-length-2 c = search needs
 
 returns-2 : tie.Need-returns-2
 returns-2 c = search hear-granted
@@ -29,9 +20,4 @@ pub hear-spec : {M : Type 1} → statement M
 hear-spec =
     tie.close
     (tie.spec
-    hear-refusal-requires
-    same-length
-    returns
-    hear-crash-requires
-    same-length-2
-    returns-2)
+    (λ c κs. search needs) (λ c. search needs) returns hear-crash-requires (λ c. search needs) returns-2)

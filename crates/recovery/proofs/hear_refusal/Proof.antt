@@ -4,9 +4,6 @@ use Rattle.recovery.specs.Hearing.{hear-unknown, hearer-named, owner-nam
 use Rattle.recovery.proofs.hear_refusal.Statement.{statement}
 use Rattle.recovery.proofs.hear_refusal.Tie as tie
 
-size-requires : tie.Need-size-requires
-size-requires c κs = search needs
-
 returns : tie.Need-returns
 returns c = search hear-unknown
 
@@ -32,11 +29,4 @@ pub hear-refusal-spec : {M : Type 1} → statement M
 hear-refusal-spec =
     tie.close
     (tie.spec
-    size-requires
-    returns
-    returns-2
-    end-requires
-    returns-3
-    end-requires-2
-    returns-4
-    returns-5)
+    (λ c κs. search needs) returns returns-2 end-requires returns-3 end-requires-2 returns-4 returns-5)

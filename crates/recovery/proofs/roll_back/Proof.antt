@@ -5,17 +5,11 @@ use Rattle.recovery.specs.Rolling.{kept-chain, kept-below, undone-starts
 use Rattle.recovery.proofs.roll_back.Statement.{statement}
 use Rattle.recovery.proofs.roll_back.Tie as tie
 
-log-rest-requires : tie.Need-log-rest-requires
-log-rest-requires c κs = search needs
-
 settle-causes-requires : tie.Need-settle-causes-requires
 settle-causes-requires c κs = (search needs, search kept-chain, search kept-below)
 
 start-anew-requires : tie.Need-start-anew-requires
 start-anew-requires c κs = (search needs, search undone-starts)
-
-same-length : tie.Need-same-length
-same-length c = search needs
 
 returns : tie.Need-returns
 returns c =
@@ -28,4 +22,5 @@ returns c =
 pub roll-back-spec : {M : Type 1} → statement M
 roll-back-spec =
     tie.close
-    (tie.spec log-rest-requires settle-causes-requires start-anew-requires same-length returns)
+    (tie.spec
+    (λ c κs. search needs) settle-causes-requires start-anew-requires (λ c. search needs) returns)

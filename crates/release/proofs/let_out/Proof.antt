@@ -4,18 +4,10 @@ use borrow.Author.Needs.{needs}
 use Rattle.release.proofs.let_out.Statement.{statement}
 use Rattle.release.proofs.let_out.Tie as tie
 
-store-vector-requires : tie.Need-store-vector-requires
-store-vector-requires c κs = search needs
-
-set-message-state-requires : tie.Need-set-message-state-requires
-set-message-state-requires c κs = search needs
-
-same-length : tie.Need-same-length
-same-length c = search needs
-
 returns : tie.Need-returns
 returns c = search writes-out
 
 pub let-out-spec : {M : Type 1} → statement M
 let-out-spec =
-    tie.close (tie.spec store-vector-requires set-message-state-requires same-length returns)
+    tie.close (tie.spec
+    (λ c κs. search needs) (λ c κs. search needs) (λ c. search needs) returns)

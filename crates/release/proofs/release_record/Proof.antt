@@ -5,32 +5,8 @@ use borrow.Author.Needs.{needs}
 use Rattle.release.proofs.release_record.Statement.{statement}
 use Rattle.release.proofs.release_record.Tie as tie
 
-sender-requires : tie.Need-sender-requires
-sender-requires c κs = search needs
-
-cast-sender : tie.Need-cast-sender
-cast-sender c = search needs
-
-message-vector-requires : tie.Need-message-vector-requires
-message-vector-requires c κs = search needs
-
 filter-vector-requires : tie.Need-filter-vector-requires
 filter-vector-requires c κs = search (needs, taken-near)
-
-mask-of-requires : tie.Need-mask-of-requires
-mask-of-requires c κs = search needs
-
-degree-requires : tie.Need-degree-requires
-degree-requires c κs = search needs
-
-within-degree-requires : tie.Need-within-degree-requires
-within-degree-requires c κs = search needs
-
-let-out-requires : tie.Need-let-out-requires
-let-out-requires c κs = search needs
-
-same-length : tie.Need-same-length
-same-length c = search needs
 
 returns : tie.Need-returns
 returns c =
@@ -42,9 +18,6 @@ returns c =
     let a = s .before .before .before .args in
     released (a .t .now) (a .m) _ _ _ (k .mask-of .ensures) _ _ (k .before .filter-vector .ensures) (v .message-vector .ensures) (s .sender .ensures) _ _
     (d .within-degree .ensures) (d .before .degree .ensures) (l .before .before .if1 .taken) _ (l .let-out .ensures)
-
-same-length-2 : tie.Need-same-length-2
-same-length-2 c = search needs
 
 returns-2 : tie.Need-returns-2
 returns-2 c =
@@ -60,15 +33,6 @@ pub release-record-spec : {M : Type 1} → statement M
 release-record-spec =
     tie.close
     (tie.spec
-    sender-requires
-    cast-sender
-    message-vector-requires
-    filter-vector-requires
-    mask-of-requires
-    degree-requires
-    within-degree-requires
-    let-out-requires
-    same-length
-    returns
-    same-length-2
-    returns-2)
+    (λ c κs. search needs) (λ c. search needs) (λ c κs. search needs) filter-vector-requires
+    (λ c κs. search needs) (λ c κs. search needs) (λ c κs. search needs) (λ c κs. search needs)
+    (λ c. search needs) returns (λ c. search needs) returns-2)

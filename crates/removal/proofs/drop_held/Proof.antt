@@ -15,26 +15,11 @@ Inv-loop t₀ c k x r₀ t r = (r ≤ messages) × (length t ≡ tableWords) × 
 abbrev μ-loop : tie.MeasureT-loop
 μ-loop t₀ c k x r₀ t r = messages - r
 
-number-of-requires : tie.Need-number-of-requires Inv-loop μ-loop
-number-of-requires c κs = search needs
-
 loop-holds : tie.Need-loop-holds Inv-loop μ-loop
 loop-holds c = search (needs, drop-none)
 
-drop-one-requires : tie.Need-drop-one-requires Inv-loop μ-loop
-drop-one-requires c κs = search needs
-
-add-r : tie.Need-add-r Inv-loop μ-loop
-add-r c = search needs
-
-loop-less : tie.Need-loop-less Inv-loop μ-loop
-loop-less c = search needs
-
 loop-again : tie.Need-loop-again Inv-loop μ-loop
 loop-again c = search (needs, drop-more)
-
-same-length : tie.Need-same-length Inv-loop μ-loop
-same-length c = search needs
 
 returns : tie.Need-returns Inv-loop μ-loop
 returns c = search (drop-all)
@@ -43,13 +28,5 @@ pub drop-held-spec : {M : Type 1} → statement M
 drop-held-spec =
     tie.close
     (tie.spec
-    Inv-loop
-    μ-loop
-    number-of-requires
-    loop-holds
-    drop-one-requires
-    add-r
-    loop-less
-    loop-again
-    same-length
-    returns)
+    Inv-loop μ-loop (λ c κs. search needs) loop-holds (λ c κs. search needs) (λ c. search needs)
+    (λ c. search needs) loop-again (λ c. search needs) returns)

@@ -9,9 +9,6 @@ use Rattle.removal.proofs.fate_of.Tie as tie
 returns : tie.Need-returns
 returns c = search needs
 
-message-vector-requires : tie.Need-message-vector-requires
-message-vector-requires c κs = search needs
-
 condemned-vector-requires : tie.Need-condemned-vector-requires
 condemned-vector-requires c κs = let s = c .before .before .before .pre in (s .0, s .1 .named, subst Near (sym (c .message-vector .ensures)) (s .1 .message-near _ (s .2)))
 
@@ -24,4 +21,5 @@ returns-3 c = search gets-released
 pub fate-of-spec : {M : Type 1} → statement M
 fate-of-spec =
     tie.close
-    (tie.spec returns message-vector-requires condemned-vector-requires returns-2 returns-3)
+    (tie.spec
+    returns (λ c κs. search needs) condemned-vector-requires returns-2 returns-3)

@@ -13,23 +13,11 @@ Inv-loop t₀ c k crashed live p₀ t p = Walk (state t₀) c k crashed live t p
 abbrev μ-loop : tie.MeasureT-loop
 μ-loop t₀ c k crashed live p₀ t p = live - p
 
-live-count-requires : tie.Need-live-count-requires Inv-loop μ-loop
-live-count-requires c κs = search needs
-
-cast-live : tie.Need-cast-live Inv-loop μ-loop
-cast-live c = search needs
-
 loop-holds : tie.Need-loop-holds Inv-loop μ-loop
 loop-holds c = search walk-none
 
 settle-cause-requires : tie.Need-settle-cause-requires Inv-loop μ-loop
 settle-cause-requires c κs = walk-asks (c .before .before .loop .inv) (c .before .loop-test .taken)
-
-add-p : tie.Need-add-p Inv-loop μ-loop
-add-p c = search needs
-
-loop-less : tie.Need-loop-less Inv-loop μ-loop
-loop-less c = search needs
 
 loop-again : tie.Need-loop-again Inv-loop μ-loop
 loop-again c = walk-more (c .before .before .before .before .before .loop .inv) (c .before .before .before .before .loop-test .taken) (c .before .before .settle-cause .ensures)
@@ -44,14 +32,5 @@ pub settle-causes-spec : {M : Type 1} → statement M
 settle-causes-spec =
     tie.close
     (tie.spec
-    Inv-loop
-    μ-loop
-    live-count-requires
-    cast-live
-    loop-holds
-    settle-cause-requires
-    add-p
-    loop-less
-    loop-again
-    same-length
-    returns)
+    Inv-loop μ-loop (λ c κs. search needs) (λ c. search needs) loop-holds settle-cause-requires
+    (λ c. search needs) (λ c. search needs) loop-again same-length returns)

@@ -6,12 +6,6 @@ use Rattle.restart.specs.Anew.{flagged-le, replay-is}
 use Rattle.restart.proofs.replay.Statement.{statement}
 use Rattle.restart.proofs.replay.Tie as tie
 
-number-of-requires : tie.Need-number-of-requires
-number-of-requires c κs = search needs
-
-latest-flagged-requires : tie.Need-latest-flagged-requires
-latest-flagged-requires c κs = search needs
-
 sub-result : tie.Need-sub-result
 sub-result c = let s = c .before .before .before .args in omega (arith, c .latest-flagged .ensures, c .before .number-of .ensures, flagged-le (state (s .t .now)) (s .c) (s .k))
 
@@ -19,4 +13,5 @@ returns : tie.Need-returns
 returns c = search replay-is
 
 pub replay-spec : {M : Type 1} → statement M
-replay-spec = tie.close (tie.spec number-of-requires latest-flagged-requires sub-result returns)
+replay-spec = tie.close (tie.spec
+    (λ c κs. search needs) (λ c κs. search needs) sub-result returns)

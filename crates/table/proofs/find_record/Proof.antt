@@ -6,20 +6,8 @@ use borrow.Author.Needs.{needs}
 use Rattle.table.proofs.find_record.Statement.{statement}
 use Rattle.table.proofs.find_record.Tie as tie
 
-last-given-requires : tie.Need-last-given-requires
-last-given-requires c κs = search needs
-
 sub-result : tie.Need-sub-result
 sub-result c = leb-true _ _ (and-left _ _ (c .if1 .taken))
-
-cast-result : tie.Need-cast-result
-cast-result c = search needs
-
-records-used-requires : tie.Need-records-used-requires
-records-used-requires c κs = search needs
-
-cast-result-2 : tie.Need-cast-result-2
-cast-result-2 c = search needs
 
 returns : tie.Need-returns
 returns c = record-found _ _ _ (c .before .last-given .ensures) (c .if1 .taken)
@@ -31,10 +19,5 @@ pub find-record-spec : {M : Type 1} → statement M
 find-record-spec =
     tie.close
     (tie.spec
-    last-given-requires
-    sub-result
-    cast-result
-    records-used-requires
-    cast-result-2
-    returns
+    (λ c κs. search needs) sub-result (λ c. search needs) (λ c κs. search needs) (λ c. search needs) returns
     returns-2)

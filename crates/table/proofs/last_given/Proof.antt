@@ -5,12 +5,10 @@ use borrow.Author.Needs.{needs}
 use Rattle.table.proofs.last_given.Statement.{statement}
 use Rattle.table.proofs.last_given.Tie as tie
 
-shared-slice-read-result : tie.Need-shared-slice-read-result
-shared-slice-read-result c = search needs
-
 returns : tie.Need-returns
 unfolding lastGiven
 returns c = refl
 
 pub last-given-spec : {M : Type 1} → statement M
-last-given-spec = tie.close (tie.spec shared-slice-read-result returns)
+last-given-spec = tie.close (tie.spec
+    (λ c. search needs) returns)

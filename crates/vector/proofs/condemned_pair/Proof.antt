@@ -4,21 +4,6 @@ use borrow.Author.Needs.{needs}
 use Rattle.vector.proofs.condemned_pair.Statement.{statement}
 use Rattle.vector.proofs.condemned_pair.Tie as tie
 
-array-read-end : tie.Need-array-read-end
-array-read-end c = search needs
-
-cast-end : tie.Need-cast-end
-cast-end c = search needs
-
-end-requires : tie.Need-end-requires
-end-requires c κs = search needs
-
-array-read-result : tie.Need-array-read-result
-array-read-result c = search needs
-
-array-read-result-2 : tie.Need-array-read-result-2
-array-read-result-2 c = search needs
-
 returns : tie.Need-returns
 unfolding condemnedPair
 returns c = rw (c .end .ensures)
@@ -26,4 +11,5 @@ returns c = rw (c .end .ensures)
 pub condemned-pair-spec : {M : Type 1} → statement M
 condemned-pair-spec =
     tie.close
-    (tie.spec array-read-end cast-end end-requires array-read-result array-read-result-2 returns)
+    (tie.spec
+    (λ c. search needs) (λ c. search needs) (λ c κs. search needs) (λ c. search needs) (λ c. search needs) returns)

@@ -18,20 +18,8 @@ abbrev μ-loop : tie.MeasureT-loop
 loop-holds : tie.Need-loop-holds Inv-loop μ-loop
 loop-holds c = (search needs, anyb-zero _)
 
-mul-condemned-pair : tie.Need-mul-condemned-pair Inv-loop μ-loop
-mul-condemned-pair c = search needs
-
-array-copy-out-condemned-pair : tie.Need-array-copy-out-condemned-pair Inv-loop μ-loop
-array-copy-out-condemned-pair c = search needs
-
 condemned-pair-requires : tie.Need-condemned-pair-requires Inv-loop μ-loop
 condemned-pair-requires c κs = (search needs, search needs, search needs, c .before .before .before .before .pre .2 _ (c .before .loop-test .taken))
-
-add-owner : tie.Need-add-owner Inv-loop μ-loop
-add-owner c = search needs
-
-loop-less : tie.Need-loop-less Inv-loop μ-loop
-loop-less c = search needs
 
 loop-again : tie.Need-loop-again Inv-loop μ-loop
 loop-again c = (search needs, anyb-step _ _ _ _ (c .before .before .before .loop .inv .1) (c .condemned-pair .ensures))
@@ -44,13 +32,5 @@ pub condemned-vector-spec : {M : Type 1} → statement M
 condemned-vector-spec =
     tie.close
     (tie.spec
-    Inv-loop
-    μ-loop
-    loop-holds
-    mul-condemned-pair
-    array-copy-out-condemned-pair
-    condemned-pair-requires
-    add-owner
-    loop-less
-    loop-again
-    returns)
+    Inv-loop μ-loop loop-holds (λ c. search needs) (λ c. search needs) condemned-pair-requires (λ c. search needs)
+    (λ c. search needs) loop-again returns)

@@ -17,27 +17,6 @@ abbrev μ-loop : tie.MeasureT-loop
 loop-holds : tie.Need-loop-holds Inv-loop μ-loop
 loop-holds c = (search needs, anyb-zero _)
 
-mul-conflict-pair : tie.Need-mul-conflict-pair Inv-loop μ-loop
-mul-conflict-pair c = search needs
-
-array-copy-out-conflict-pair : tie.Need-array-copy-out-conflict-pair Inv-loop μ-loop
-array-copy-out-conflict-pair c = search needs
-
-mul-conflict-pair-2 : tie.Need-mul-conflict-pair-2 Inv-loop μ-loop
-mul-conflict-pair-2 c = search needs
-
-array-copy-out-conflict-pair-2 : tie.Need-array-copy-out-conflict-pair-2 Inv-loop μ-loop
-array-copy-out-conflict-pair-2 c = search needs
-
-conflict-pair-requires : tie.Need-conflict-pair-requires Inv-loop μ-loop
-conflict-pair-requires c κs = search needs
-
-add-owner : tie.Need-add-owner Inv-loop μ-loop
-add-owner c = search needs
-
-loop-less : tie.Need-loop-less Inv-loop μ-loop
-loop-less c = search needs
-
 loop-again : tie.Need-loop-again Inv-loop μ-loop
 loop-again c = (search needs, anyb-step _ _ _ _ (c .before .before .before .before .loop .inv .1) (c .conflict-pair .ensures))
 
@@ -49,15 +28,5 @@ pub conflict-spec : {M : Type 1} → statement M
 conflict-spec =
     tie.close
     (tie.spec
-    Inv-loop
-    μ-loop
-    loop-holds
-    mul-conflict-pair
-    array-copy-out-conflict-pair
-    mul-conflict-pair-2
-    array-copy-out-conflict-pair-2
-    conflict-pair-requires
-    add-owner
-    loop-less
-    loop-again
-    returns)
+    Inv-loop μ-loop loop-holds (λ c. search needs) (λ c. search needs) (λ c. search needs) (λ c. search needs)
+    (λ c κs. search needs) (λ c. search needs) (λ c. search needs) loop-again returns)

@@ -5,18 +5,6 @@ use borrow.Author.Needs.{needs}
 use Rattle.vector.proofs.filter_pair.Statement.{statement}
 use Rattle.vector.proofs.filter_pair.Tie as tie
 
-array-read-if1 : tie.Need-array-read-if1
-array-read-if1 c = search needs
-
-array-read-known : tie.Need-array-read-known
-array-read-known c = search needs
-
-cast-known : tie.Need-cast-known
-cast-known c = search needs
-
-known-requires : tie.Need-known-requires
-known-requires c κs = search needs
-
 returns : tie.Need-returns
 unfolding filterPair knownStable
 returns c = simp (le-leb _ _ (rw (c .before .known .ensures) at (c .if1 .taken)))
@@ -28,4 +16,5 @@ returns-2 c = simp (lt-leb _ _ (rw (c .before .known .ensures) at (c .if1 .left)
 pub filter-pair-spec : {M : Type 1} → statement M
 filter-pair-spec =
     tie.close
-    (tie.spec array-read-if1 array-read-known cast-known known-requires returns returns-2)
+    (tie.spec
+    (λ c. search needs) (λ c. search needs) (λ c. search needs) (λ c κs. search needs) returns returns-2)

@@ -19,26 +19,8 @@ abbrev μ-loop : tie.MeasureT-loop
 loop-holds : tie.Need-loop-holds Inv-loop μ-loop
 loop-holds c = filled-none _ _ _ _ refl
 
-mul-filter-pair : tie.Need-mul-filter-pair Inv-loop μ-loop
-mul-filter-pair c = search needs
-
-array-copy-out-filter-pair : tie.Need-array-copy-out-filter-pair Inv-loop μ-loop
-array-copy-out-filter-pair c = search needs
-
 filter-pair-requires : tie.Need-filter-pair-requires Inv-loop μ-loop
 filter-pair-requires c κs = (search needs, search needs, search needs, c .before .before .before .before .pre .2 _ (c .before .loop-test .taken))
-
-mul-w : tie.Need-mul-w Inv-loop μ-loop
-mul-w c = search needs
-
-array-set-from-w : tie.Need-array-set-from-w Inv-loop μ-loop
-array-set-from-w c = search needs
-
-add-owner : tie.Need-add-owner Inv-loop μ-loop
-add-owner c = search needs
-
-loop-less : tie.Need-loop-less Inv-loop μ-loop
-loop-less c = search needs
 
 loop-again : tie.Need-loop-again Inv-loop μ-loop
 loop-again c = filled-more _ _ _ _ _ _ (c .before .before .before .loop .inv) (c .before .before .loop-test .taken) (c .filter-pair .ensures)
@@ -51,15 +33,5 @@ pub filter-vector-spec : {M : Type 1} → statement M
 filter-vector-spec =
     tie.close
     (tie.spec
-    Inv-loop
-    μ-loop
-    loop-holds
-    mul-filter-pair
-    array-copy-out-filter-pair
-    filter-pair-requires
-    mul-w
-    array-set-from-w
-    add-owner
-    loop-less
-    loop-again
-    returns)
+    Inv-loop μ-loop loop-holds (λ c. search needs) (λ c. search needs) filter-pair-requires (λ c. search needs)
+    (λ c. search needs) (λ c. search needs) (λ c. search needs) loop-again returns)

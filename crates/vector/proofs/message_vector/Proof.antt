@@ -5,14 +5,9 @@ use borrow.Author.Needs.{needs}
 use Rattle.vector.proofs.message_vector.Statement.{statement}
 use Rattle.vector.proofs.message_vector.Tie as tie
 
-message-vector-at-requires : tie.Need-message-vector-at-requires
-message-vector-at-requires c κs = search needs
-
-vector-at-requires : tie.Need-vector-at-requires
-vector-at-requires c κs = search needs
-
 returns : tie.Need-returns
 returns c = c .vector-at .ensures ∙ message-vector _ _ _ (c .before .message-vector-at .ensures)
 
 pub message-vector-spec : {M : Type 1} → statement M
-message-vector-spec = tie.close (tie.spec message-vector-at-requires vector-at-requires returns)
+message-vector-spec = tie.close (tie.spec
+    (λ c κs. search needs) (λ c κs. search needs) returns)

@@ -5,14 +5,9 @@ use borrow.Author.Needs.{needs}
 use Rattle.vector.proofs.place_vector.Statement.{statement}
 use Rattle.vector.proofs.place_vector.Tie as tie
 
-place-vector-at-requires : tie.Need-place-vector-at-requires
-place-vector-at-requires c κs = search needs
-
-vector-at-requires : tie.Need-vector-at-requires
-vector-at-requires c κs = search needs
-
 returns : tie.Need-returns
 returns c = c .vector-at .ensures ∙ place-vector _ _ _ _ (c .before .place-vector-at .ensures)
 
 pub place-vector-spec : {M : Type 1} → statement M
-place-vector-spec = tie.close (tie.spec place-vector-at-requires vector-at-requires returns)
+place-vector-spec = tie.close (tie.spec
+    (λ c κs. search needs) (λ c κs. search needs) returns)
