@@ -7,8 +7,8 @@ use lib.ListN.{length, take, drop}
 use Rattle.table.specs.Field.{State, OfMessage, SentCount, LiveCount, PlaceIncarnation, PlaceNumber}
 use Rattle.table.specs.Change.{put, putPart}
 use Rattle.table.specs.Layout.{messages, messageWords, tableWords, position}
-use Rattle.table.specs.Words.{state, words, words-state, fits-message, lent-part, then-put}
-use Rattle.table.specs.Numbering.{used, lastGiven, nextMessage, posted}
+use Rattle.table.specs.Words.{state, words, words-state, fits-message, lent-part}
+use Rattle.table.specs.Numbering.{used, lastGiven, nextMessage, posted-words}
 use Rattle.rules.specs.Vector.{Vector, placeVector, filtered}
 use Rattle.rules.specs.Form.{stateHeld}
 use Rattle.rules.specs.Shared.{newestPlace}
@@ -36,6 +36,6 @@ pub writes-sent : (t u w : List ℕ) (sender receiver payload live i x r m : ℕ
     v ≡ filtered (state t) sender (placeVector (state t) sender (newestPlace (state t) sender)) → r ≡ used (state t) → m ≡ lastGiven (state t) →
     u ≡ words (putPart (state t) (OfMessage r 0) 0 (messageRecord stateHeld sender receiver i x payload v)) → w ≡ words (put (state u) SentCount (m + 1)) →
     out (Sent (m + 1)) w ≡ written (after (Sent (nextMessage (state t))) (sent (state t) sender receiver payload))
-unfolding sent posted
+unfolding sent
 writes-sent t u w sender receiver payload live i x r m v le ie xe ve re me ue we =
-    rw (← me, ← re, ← ve, ← le, ← ie, ← xe) (ap (out (Sent (m + 1))) (then-put _ SentCount (m + 1) ue we))
+    rw (← me, ← ve, ← le, ← ie, ← xe) (ap (out (Sent (m + 1))) (posted-words t u w r m _ re me ue we))

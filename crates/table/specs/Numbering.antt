@@ -12,7 +12,7 @@ use Rattle.base.specs.Choice.{_==_, _≤?_, _<?_, and-left, and-right, cond-ind
 use Rattle.table.specs.Field.{Field, State, OfHead, OfController, Known, End, OfPlace, OfMessage, Size, SentCount, region, word, wordOf, alike, alike-word, same, messageHead, spareFrom}
 use Rattle.table.specs.Change.{put, put-ind, put-same, putPart, part-ind, clearPlaces, clear-ind, putStates, states-ind}
 use Rattle.table.specs.Layout.{controllers, messages, headWords}
-use Rattle.table.specs.Words.{Agree, agree-value, agree-part-to}
+use Rattle.table.specs.Words.{state, words, Agree, agree-value, agree-part-to, then-put}
 
 -- "Place p has number p + 1": the number of the k-th live interval of c, counted from 1. Place p holds the (p + 1)-th.
 unfoldable pub numberOf : State → ℕ → ℕ → ℕ
@@ -46,6 +46,10 @@ messageOf σ r = r + 1
 abbrev pub present : State → ℕ → Bool
 present σ m = recordOf σ m <? used σ
 
+-- a message with the words w is put into the first unused record, and the next number is given
+unfoldable pub posted : State → List ℕ → State
+posted σ w = put (putPart σ (OfMessage (used σ) 0) 0 w) SentCount (nextMessage σ)
+
 -- LAWS OF INTERVAL NUMBERS
 module _ (σ : State) (c : ℕ) where
   -- they follow each other; order and differences of numbers are those of counts
@@ -71,6 +75,42 @@ module _ (σ : State) (c : ℕ) where
   pub place-lt : (k x : ℕ) → 1 ≤ k → x ≤ numberOf σ c k → placeOf σ c x < k
   unfolding placeOf
   place-lt k x h l = omega (arith, number-from k, number-from 1)
+
+  -- q intervals further on
+  pub number-add : (k q : ℕ) → numberOf σ c (k + q) ≡ numberOf σ c k + q
+  number-add k q = omega (arith, number-from (k + q), number-from k)
+
+  -- numbers are compared as their counts are
+  pub number-ltb : (j k : ℕ) → (numberOf σ c j <? numberOf σ c k) ≡ (j <? k)
+  number-ltb j k =
+      let p = number-from j in
+      let q = number-from k in
+      le? (j + 1) k (λ l. lt-ltb (numberOf σ c j) (numberOf σ c k) (omega arith) ∙ sym (lt-ltb j k (omega arith)))
+      (λ l. le-ltb (numberOf σ c j) (numberOf σ c k) (omega arith) ∙ sym (le-ltb j k (omega arith)))
+
+  -- the place of the next number
+  pub place-next : (k : ℕ) → placeOf σ c (numberOf σ c k + 1) ≡ k
+  place-next k = ap (placeOf σ c) (sym (number-next k)) ∙ place-of-number k
+
+  -- the place of the k-th interval, which the rules write k - 1
+  pub place-of-count : (k : ℕ) → 1 ≤ k → placeOf σ c (numberOf σ c k) ≡ k - 1
+  unfolding placeOf
+  place-of-count k h = omega (arith, number-from k, number-from 1)
+
+  -- numbers from that of the (k + 1)-th interval on do not stand in the first k places
+  pub place-ge : (k x : ℕ) → numberOf σ c (k + 1) ≤ x → k ≤ placeOf σ c x
+  unfolding placeOf
+  place-ge k x h = omega (arith, number-from (k + 1), number-from 1)
+
+-- places follow from numbers
+pub place-from : (σ τ : State) (c x : ℕ) → numberOf σ c 1 ≡ numberOf τ c 1 → placeOf σ c x ≡ placeOf τ c x
+unfolding placeOf
+place-from σ τ c x e = ap (λ n. x - n) e
+
+-- in a house whose head has 0 in its spare words, numbers are counts
+pub number-fresh : (σ : State) (c k : ℕ) → ((k : ℕ) → spareFrom ≤ k → σ (OfHead k) ≡ 0) → numberOf σ c k ≡ k
+unfolding numberOf
+number-fresh σ c k h = refl
 
 -- LAWS OF MESSAGE NUMBERS
 module _ (σ : State) where
@@ -117,36 +157,93 @@ module _ (σ : State) where
   unfolding recordOf used lastGiven
   given-present m p l = rw (le-leb 1 m p, le-leb m (σ SentCount) l) (omega arith)
 
--- a message put into the first free record: one more is in use, its number was given last, and the others stand where they stood
-module _ (σ : State) (w : List ℕ) where
-  unfoldable pub posted : State
-  posted = put (putPart σ (OfMessage (used σ) 0) 0 w) SentCount (nextMessage σ)
+-- one record, one message
+pub record-one : (σ : State) (m n : ℕ) → recordOf σ m < used σ → recordOf σ n < used σ → recordOf σ m ≡ recordOf σ n → m ≡ n
+record-one σ m n l u e = sym (message-of-record σ m l) ∙ ap (messageOf σ) e ∙ message-of-record σ n u
 
-  posted-count : posted SentCount ≡ nextMessage σ
+-- where no message was sent, no number was given, and no record is in use
+pub none-given : (σ : State) → σ SentCount ≡ 0 → lastGiven σ ≡ 0
+unfolding lastGiven
+none-given σ e = e
+
+pub none-used : (σ : State) → σ SentCount ≡ 0 → used σ ≡ 0
+unfolding used
+none-used σ e = e
+
+-- A MESSAGE PUT INTO ITS RECORD
+-- one more is in use, its number was given last, and the others stand where they stood
+module _ (σ : State) (w : List ℕ) where
+  posted-count : (posted σ w) SentCount ≡ nextMessage σ
   unfolding posted
   posted-count = put-same _ SentCount (nextMessage σ)
 
-  pub posted-used : used posted ≡ used σ + 1
+  pub posted-used : used (posted σ w) ≡ used σ + 1
   unfolding used lastGiven
   posted-used = posted-count
 
-  pub posted-last : lastGiven posted ≡ nextMessage σ
+  pub posted-last : lastGiven (posted σ w) ≡ nextMessage σ
   unfolding lastGiven
   posted-last = posted-count
 
-  pub posted-new : recordOf posted (nextMessage σ) ≡ used σ
+  pub posted-new : recordOf (posted σ w) (nextMessage σ) ≡ used σ
   unfolding recordOf used lastGiven
-  posted-new = rw (le-leb 1 (σ SentCount + 1) (omega arith), le-leb (σ SentCount + 1) (posted SentCount) (omega (arith, posted-count))) (omega arith)
+  posted-new = rw (le-leb 1 (σ SentCount + 1) (omega arith), le-leb (σ SentCount + 1) ((posted σ w) SentCount) (omega (arith, posted-count))) (omega arith)
 
-  pub posted-record : (m : ℕ) → recordOf σ m < used σ → recordOf posted m ≡ recordOf σ m
+  pub posted-record : (m : ℕ) → recordOf σ m < used σ → recordOf (posted σ w) m ≡ recordOf σ m
   unfolding recordOf used lastGiven
   posted-record m l =
       let p = there σ m l in
-      rw (le-leb 1 m (p .0), le-leb m (σ SentCount) (p .1), le-leb m (posted SentCount) (omega (arith, posted-count, p .1)))
+      rw (le-leb 1 m (p .0), le-leb m (σ SentCount) (p .1), le-leb m ((posted σ w) SentCount) (omega (arith, posted-count, p .1)))
 
-  pub posted-number : (c k : ℕ) → numberOf posted c k ≡ numberOf σ c k
+  pub posted-number : (c k : ℕ) → numberOf (posted σ w) c k ≡ numberOf σ c k
   unfolding numberOf
   posted-number c k = refl
+
+-- as code writes it: the record r, and then the last number given
+pub posted-words : (t u y : List ℕ) (r m : ℕ) (w : List ℕ) → r ≡ used (state t) → m ≡ lastGiven (state t) →
+    u ≡ words (putPart (state t) (OfMessage r 0) 0 w) → y ≡ words (put (state u) SentCount (m + 1)) → y ≡ words (posted (state t) w)
+unfolding posted
+posted-words t u y r m w re me ue ye = rw (← re, ← me) (then-put _ SentCount (m + 1) ue ye)
+
+-- word by word
+module _ (σ : State) (w : List ℕ) where
+  -- a fact of every word, from its cases: the words of the new record, the head's, which may become any number, and all others
+  pub posted-ind : (P : Field → ℕ → Type 0) → ((k : ℕ) → k < length w → P (OfMessage (used σ) k) (getD w k 0)) → ((k y : ℕ) → k < headWords → P (OfHead k) y) →
+      ((g : Field) → ((k : ℕ) → k < length w → g ≢ OfMessage (used σ) k) → P g (σ g)) → (g : Field) → P g (posted σ w g)
+  unfolding posted
+  posted-ind P p n q =
+      put-ind P _ SentCount (nextMessage σ) (n (word SentCount) (nextMessage σ) (omega arith))
+      (λ g _. part-ind P σ (OfMessage (used σ) 0) 0 w (λ k h. subst (λ j. P (OfMessage (used σ) j) (getD w k 0)) (sym (from k)) (p k h))
+      (λ g o. q g (λ k h e. o k h (e ∙ ap (OfMessage (used σ)) (sym (from k))))) g)
+    where
+      from : (k : ℕ) → 0 + k ≡ k
+      from k = omega arith
+
+  -- a word of the new record
+  pub posted-at : (k : ℕ) → k < length w → posted σ w (OfMessage (used σ) k) ≡ getD w k 0
+  posted-at k h =
+      posted-ind (λ g y. g ≡ OfMessage (used σ) k → y ≡ getD w k 0) (λ j _ e. ap (λ i. getD w i 0) (cc))
+      (λ j y _ e. let z : _≡_ {A = ℕ} 0 1 = cc in absurd (omega arith)) (λ g o e. absurd (o k h e)) (OfMessage (used σ) k) refl
+
+  -- a word outside it and outside the head
+  pub posted-kept : (g : Field) → (region g == region SentCount) ≡ false → alike g (OfMessage (used σ) 0) ≡ false → posted σ w g ≡ σ g
+  posted-kept =
+      posted-ind (λ g y. (region g == region SentCount) ≡ false → alike g (OfMessage (used σ) 0) ≡ false → y ≡ σ g)
+      (λ k _ _ a. absurd (true≢false (sym (alike-word (OfMessage (used σ) 0) k) ∙ a))) (λ k y _ n. absurd (true≢false n)) (λ g _ _ _. refl)
+
+  -- a message that was not there, and is not the new one, is not there then
+  pub posted-missing : (m : ℕ) → m ≢ nextMessage σ → used σ ≤ recordOf σ m → used (posted σ w) ≤ recordOf (posted σ w) m
+  posted-missing m ne h =
+      le? (recordOf (posted σ w) m + 1) (used (posted σ w))
+      (λ l. let here : recordOf (posted σ w) m < used (posted σ w) = omega arith in
+      let last = posted-last σ w in
+      absurd (omega (arith, given-present σ m (present-pos (posted σ w) m here) (omega (arith, present-given (posted σ w) m here)))))
+      (λ l. omega arith)
+
+  -- the number of controllers
+  pub posted-size : posted σ w Size ≡ σ Size
+  unfolding posted put same putPart
+  posted-size = refl
 
 -- UNTOUCHED BY OTHER WORDS
 -- the words that numbering looks at
@@ -227,100 +324,9 @@ module _ (σ τ : State) (e : Agree σ τ) where
   unfolding messageOf
   message-agree r l = refl
 
--- in a house whose head has 0 in its spare words, numbers are counts
-pub number-fresh : (σ : State) (c k : ℕ) → ((k : ℕ) → spareFrom ≤ k → σ (OfHead k) ≡ 0) → numberOf σ c k ≡ k
-unfolding numberOf
-number-fresh σ c k h = refl
-
--- FURTHER LAWS OF INTERVAL NUMBERS
-module _ (σ : State) (c : ℕ) where
-  -- q intervals further on
-  pub number-add : (k q : ℕ) → numberOf σ c (k + q) ≡ numberOf σ c k + q
-  number-add k q = omega (arith, number-from σ c (k + q), number-from σ c k)
-
-  -- numbers are compared as their counts are
-  pub number-ltb : (j k : ℕ) → (numberOf σ c j <? numberOf σ c k) ≡ (j <? k)
-  number-ltb j k =
-      let p = number-from σ c j in
-      let q = number-from σ c k in
-      le? (j + 1) k (λ l. lt-ltb (numberOf σ c j) (numberOf σ c k) (omega arith) ∙ sym (lt-ltb j k (omega arith)))
-      (λ l. le-ltb (numberOf σ c j) (numberOf σ c k) (omega arith) ∙ sym (le-ltb j k (omega arith)))
-
-  -- the place of the next number
-  pub place-next : (k : ℕ) → placeOf σ c (numberOf σ c k + 1) ≡ k
-  place-next k = ap (placeOf σ c) (sym (number-next σ c k)) ∙ place-of-number σ c k
-
-  -- the place of the k-th interval, which the rules write k - 1
-  pub place-of-count : (k : ℕ) → 1 ≤ k → placeOf σ c (numberOf σ c k) ≡ k - 1
-  unfolding placeOf
-  place-of-count k h = omega (arith, number-from σ c k, number-from σ c 1)
-
-  -- numbers from that of the (k + 1)-th interval on do not stand in the first k places
-  pub place-ge : (k x : ℕ) → numberOf σ c (k + 1) ≤ x → k ≤ placeOf σ c x
-  unfolding placeOf
-  place-ge k x h = omega (arith, number-from σ c (k + 1), number-from σ c 1)
-
--- places follow from numbers
-pub place-from : (σ τ : State) (c x : ℕ) → numberOf σ c 1 ≡ numberOf τ c 1 → placeOf σ c x ≡ placeOf τ c x
-unfolding placeOf
-place-from σ τ c x e = ap (λ n. x - n) e
-
 -- numbering looks at no word of a message's vector
 pub numbering-vector : (r k : ℕ) → messageHead ≤ k → numbering (OfMessage r k) ≡ false
 numbering-vector r k l = refl
-
--- one record, one message
-pub record-one : (σ : State) (m n : ℕ) → recordOf σ m < used σ → recordOf σ n < used σ → recordOf σ m ≡ recordOf σ n → m ≡ n
-record-one σ m n l u e = sym (message-of-record σ m l) ∙ ap (messageOf σ) e ∙ message-of-record σ n u
-
--- where no message was sent, no number was given, and no record is in use
-pub none-given : (σ : State) → σ SentCount ≡ 0 → lastGiven σ ≡ 0
-unfolding lastGiven
-none-given σ e = e
-
-pub none-used : (σ : State) → σ SentCount ≡ 0 → used σ ≡ 0
-unfolding used
-none-used σ e = e
-
--- A MESSAGE PUT INTO ITS RECORD, WORD BY WORD
-module _ (σ : State) (w : List ℕ) where
-  -- a fact of every word, from its cases: the words of the new record, the head's, which may become any number, and all others
-  pub posted-ind : (P : Field → ℕ → Type 0) → ((k : ℕ) → k < length w → P (OfMessage (used σ) k) (getD w k 0)) → ((k y : ℕ) → k < headWords → P (OfHead k) y) →
-      ((g : Field) → ((k : ℕ) → k < length w → g ≢ OfMessage (used σ) k) → P g (σ g)) → (g : Field) → P g (posted σ w g)
-  unfolding posted
-  posted-ind P p n q =
-      put-ind P _ SentCount (nextMessage σ) (n (word SentCount) (nextMessage σ) (omega arith))
-      (λ g _. part-ind P σ (OfMessage (used σ) 0) 0 w (λ k h. subst (λ j. P (OfMessage (used σ) j) (getD w k 0)) (sym (from k)) (p k h))
-      (λ g o. q g (λ k h e. o k h (e ∙ ap (OfMessage (used σ)) (sym (from k))))) g)
-    where
-      from : (k : ℕ) → 0 + k ≡ k
-      from k = omega arith
-
-  -- a word of the new record
-  pub posted-at : (k : ℕ) → k < length w → posted σ w (OfMessage (used σ) k) ≡ getD w k 0
-  posted-at k h =
-      posted-ind (λ g y. g ≡ OfMessage (used σ) k → y ≡ getD w k 0) (λ j _ e. ap (λ i. getD w i 0) (cc))
-      (λ j y _ e. let z : _≡_ {A = ℕ} 0 1 = cc in absurd (omega arith)) (λ g o e. absurd (o k h e)) (OfMessage (used σ) k) refl
-
-  -- a word outside it and outside the head
-  pub posted-kept : (g : Field) → (region g == region SentCount) ≡ false → alike g (OfMessage (used σ) 0) ≡ false → posted σ w g ≡ σ g
-  posted-kept =
-      posted-ind (λ g y. (region g == region SentCount) ≡ false → alike g (OfMessage (used σ) 0) ≡ false → y ≡ σ g)
-      (λ k _ _ a. absurd (true≢false (sym (alike-word (OfMessage (used σ) 0) k) ∙ a))) (λ k y _ n. absurd (true≢false n)) (λ g _ _ _. refl)
-
-  -- a message that was not there, and is not the new one, is not there then
-  pub posted-missing : (m : ℕ) → m ≢ nextMessage σ → used σ ≤ recordOf σ m → used (posted σ w) ≤ recordOf (posted σ w) m
-  posted-missing m ne h =
-      le? (recordOf (posted σ w) m + 1) (used (posted σ w))
-      (λ l. let here : recordOf (posted σ w) m < used (posted σ w) = omega arith in
-      let last = posted-last σ w in
-      absurd (omega (arith, given-present σ m (present-pos (posted σ w) m here) (omega (arith, present-given (posted σ w) m here)))))
-      (λ l. omega arith)
-
-  -- the number of controllers
-  pub posted-size : posted σ w Size ≡ σ Size
-  unfolding posted put same putPart
-  posted-size = refl
 
 -- messages with the same words, put into states with the same words
 pub posted-agree : (σ τ : State) → Agree σ τ → {v w : List ℕ} → v ≡ w → Agree (posted σ v) (posted τ w)
