@@ -86,10 +86,10 @@ messageRecord st sender receiver i x payload v = (st ∷ sender ∷ receiver ∷
 -- S s r p: "message held, with the newest vector of s filtered for s." It is put into the first unused record.
 unfoldable pub sent : State → ℕ → ℕ → ℕ → State
 sent σ sender receiver payload =
-    let newest = newestPlace σ sender in
-    let i = σ (PlaceIncarnation sender newest) in
-    let x = σ (PlaceNumber sender newest) in
-    let v = filtered σ sender (placeVector σ sender newest) in
+    let p = newestPlace σ sender in
+    let i = σ (PlaceIncarnation sender p) in
+    let x = σ (PlaceNumber sender p) in
+    let v = filtered σ sender (placeVector σ sender p) in
     posted σ (messageRecord stateHeld sender receiver i x payload v)
 
 -- "6 the two controllers of S or T are equal"; "11 128 messages were sent since opening"
