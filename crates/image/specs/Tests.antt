@@ -1,11 +1,11 @@
 -- The tests of deliveries, releases and hearings, in terms of the model.
-use mathlib.Core.Path.{_≡_, refl, sym, ap, _∙_, subst}
+use mathlib.Core.Path.{_≡_, sym, ap, _∙_, subst}
 use mathlib.Core.Bool.{true, false}
 use Prim.Native.Nat.{ℕ, _+_, _≤_, _<_}
 use native.Mathlib.Omega.{arith}
 use lib.ListN.{length}
 use Rattle.base.specs.Choice.{le?}
-use Rattle.table.specs.Field.{State, OfHead, Known, End, Size, LiveCount, Sender, same}
+use Rattle.table.specs.Field.{State, OfHead, End, Size, LiveCount, Sender, same}
 use Rattle.table.specs.Change.{put}
 use Rattle.table.specs.Layout.{controllers, headWords}
 use Rattle.table.specs.Numbering.{numberOf, placeOf, used, recordOf, number-from, place-lt, place-next, place-ge, Numbered, number-fresh}

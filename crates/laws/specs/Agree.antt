@@ -1,20 +1,20 @@
 -- Rules look only at words of the table: on states with the same words they give the same, and leave the same words.
 use mathlib.Core.Path.{_≡_, refl, ap, ap₂, _∙_}
-use mathlib.Core.Bool.{Bool, cond, not, _&&_}
+use mathlib.Core.Bool.{cond, not, _&&_}
 use Prim.Native.Nat.{ℕ, zero, suc, _+_, _-_, _≤_, _<_, max}
 use native.Mathlib.Omega.{arith}
 use lib.ListN.{set}
 use Rattle.base.specs.Choice.{_==_, _≤?_, _<?_}
 use Rattle.base.specs.Ranges.{anyb, first, anyb-same, first-same}
 use Rattle.base.specs.Lists.{tab-same}
-use Rattle.table.specs.Field.{State, Known, End, OfPlace, OfMessage, Incarnation, LiveCount, StableCount, PlaceIncarnation, PlaceNumber, Cause, Flag, MessageState, Sender, SendingNumber, messageHead}
+use Rattle.table.specs.Field.{State, Known, End, OfPlace, Incarnation, LiveCount, StableCount, PlaceIncarnation, PlaceNumber, Cause, Flag, MessageState, Sender, SendingNumber}
 use Rattle.table.specs.Layout.{controllers, incarnations, places, messages, valid-pair, valid-message-pair}
-use Rattle.table.specs.Words.{Agree, agree-put, agree-put-to, agree-value, agree-part, agree-part-to, agree-values, agree-clear-to, agree-cond, agree-states}
-use Rattle.table.specs.Numbering.{numberOf, used, messageOf, number-same, used-agree, message-agree, posted-agree}
-use Rattle.rules.specs.Vector.{Pair, Vector, pair, noPair, incarnation, number, empty, pairOf, placeVector, messageVector, flat, knownStable, filterPair, filtered, condemnedPair, condemned}
+use Rattle.table.specs.Words.{Agree, agree-put, agree-put-to, agree-value, agree-part-to, agree-values, agree-clear-to, agree-cond, agree-states}
+use Rattle.table.specs.Numbering.{numberOf, messageOf, number-same, used-agree, message-agree, posted-agree}
+use Rattle.rules.specs.Vector.{Pair, Vector, pair, noPair, incarnation, number, empty, pairOf, placeVector, messageVector, knownStable, filterPair, filtered, condemnedPair, condemned}
 use Rattle.rules.specs.Form.{stateHeld, stateReleased, stateDelivered, stateDropped}
-use Rattle.rules.specs.Shared.{newestPlace, placeRecord, logged, loggedTo, causedIn, causesIn, causes, offeredAgain, newVector, placed, entered, restarted, orphaned, heldOrDropped, dropHeld, startAnew, latestFlagged, replayed}
-use Rattle.rules.specs.Steps.{messageRecord, sent, letOut, intervalAdded, toldRow, told, noted, lowestCondemned}
+use Rattle.rules.specs.Shared.{newestPlace, placeRecord, logged, loggedTo, causedIn, causesIn, causes, offeredAgain, newVector, placed, entered, restarted, heldOrDropped, dropHeld, startAnew, latestFlagged, replayed}
+use Rattle.rules.specs.Steps.{messageRecord, sent, intervalAdded, toldRow, told, noted, lowestCondemned}
 use Rattle.laws.specs.Facts.{Near}
 use Rattle.laws.specs.Records.{placeVector-of, messageVector-of}
 

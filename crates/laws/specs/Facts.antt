@@ -9,8 +9,8 @@ use Rattle.base.specs.Choice.{_==_, _≤?_, _<?_, and-left, and-right, cond-ind
 use Rattle.base.specs.Ranges.{allb, allb-get}
 use Rattle.base.specs.Lists.{getD-tab}
 use Rattle.base.specs.Cases.{passed}
-use Rattle.table.specs.Field.{State, OfHead, OfController, Known, End, OfPlace, OfMessage, Size, Degree, Incarnation, LiveCount, StableCount, PlaceIncarnation, PlaceNumber, Cause, Flag, MessageState, Sender, Receiver, SendingIncarnation, SendingNumber, MessagePairIncarnation, word, spareFrom}
-use Rattle.table.specs.Layout.{controllers, incarnations, places, messages, headWords, controllerWords, placeWords, messageWords}
+use Rattle.table.specs.Field.{State, OfHead, Known, End, OfMessage, Size, Degree, Incarnation, LiveCount, StableCount, PlaceIncarnation, PlaceNumber, Cause, Flag, MessageState, Sender, Receiver, SendingIncarnation, SendingNumber, MessagePairIncarnation, word, spareFrom}
+use Rattle.table.specs.Layout.{controllers, incarnations, places, messages, headWords, messageWords}
 use Rattle.table.specs.Numbering.{numberOf, used, lastGiven}
 use Rattle.rules.specs.Limits.{house, lastIncarnation, lastNumber}
 use Rattle.rules.specs.Vector.{Pair, Vector, incarnation, number, pairOf, placeVector, messageVector}

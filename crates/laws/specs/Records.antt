@@ -1,12 +1,11 @@
 -- The words of a record: how many there are, and which changes leave the vectors.
-use mathlib.Core.Path.{_≡_, refl, ap, ap₂, _∙_}
-use mathlib.Core.Bool.{Bool, true, false, _||_, true≢false}
-use mathlib.Core.List.{List, [], _∷_}
+use mathlib.Core.Path.{_≡_, ap, ap₂, _∙_}
+use mathlib.Core.Bool.{_||_}
+use mathlib.Core.List.{[], _∷_}
 use Prim.Native.Nat.{ℕ, _+_, _*_, _<_}
-use native.Mathlib.Omega.{arith}
 use lib.ListN.{length, length-append}
 use Rattle.base.specs.Lists.{tab-same, length-tab}
-use Rattle.table.specs.Field.{Field, State, PairIncarnation, PairNumber, MessagePairIncarnation, MessagePairNumber, placeHead, messageHead}
+use Rattle.table.specs.Field.{State, PairIncarnation, PairNumber, MessagePairIncarnation, MessagePairNumber, placeHead, messageHead}
 use Rattle.table.specs.Layout.{controllers, placeWords, messageWords, vectorWords}
 use Rattle.rules.specs.Vector.{Vector, pair, placeVector, messageVector, flat}
 use Rattle.rules.specs.Shared.{placeRecord}

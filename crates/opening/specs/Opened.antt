@@ -17,22 +17,14 @@ use Rattle.table.specs.Layout.{controllers, controllerWords, placeWords, tableW
 use Rattle.table.specs.Words.{state, words, words-of, words-state, words-same, Agree, agree-words, agree-put, agree-part, lent-part, fits-controller, called, then-put, then-part}
 use Rattle.rules.specs.Vector.{Pair, Vector, pair, noPair}
 use Rattle.rules.specs.Shared.{placeRecord}
-use Rattle.rules.specs.Steps.{firstVector, openHouse}
+use Rattle.rules.specs.Steps.{firstController, firstPlace, firstVector, openHouse}
 use Rattle.laws.specs.Records.{length-place-record}
 use Rattle.interval.specs.Walks.{zeroWords, zero-at, length-zero}
-
--- degree k, incarnation 0, one live interval, which is stable
-unfoldable pub controllerRecord : ℕ → List ℕ
-controllerRecord k = k ∷ 0 ∷ 1 ∷ 1 ∷ []
-
--- interval (0,1), which no message caused, flagged
-abbrev firstPlace : Vector → List ℕ
-firstPlace v = placeRecord 0 1 0 1 v
 
 -- σ with controller c begun
 unfoldable pub beginsAt : State → ℕ → ℕ → State
 beginsAt σ c k =
-    let counted = putPart σ (OfController c 0) 0 (controllerRecord k) in
+    let counted = putPart σ (OfController c 0) 0 (firstController k) in
     putPart (put counted (Known c c 0) 1) (OfPlace c 0 0) 0 (firstPlace (firstVector c))
 
 -- O n k with only the controllers below c begun
@@ -40,8 +32,7 @@ unfoldable pub openedTo : ℕ → ℕ → ℕ → State
 openedTo n k c = put (openHouse c k) Size n
 
 -- the words stored one by one are a controller's record
-pub controller-stored : (d : List ℕ) (k : ℕ) → length d ≡ controllerWords → sets d 0 (k ∷ 0 ∷ 1 ∷ 1 ∷ []) ≡ controllerRecord k
-unfolding controllerRecord
+pub controller-stored : (d : List ℕ) (k : ℕ) → length d ≡ controllerWords → sets d 0 (k ∷ 0 ∷ 1 ∷ 1 ∷ []) ≡ firstController k
 controller-stored d k l =
     let h : List ℕ = k ∷ 0 ∷ 1 ∷ 1 ∷ [] in
     sets-eq h d 0 (omega arith) ∙ ap (λ (r : List ℕ). h ++ r) (drop-of-length-le d {i = controllerWords} (omega arith))
@@ -63,15 +54,14 @@ own-stored c h = tab-of noPair controllers _ (set none c own) (length-set none c
         (λ e. getD-set-other none c owner own noPair (eqb-false owner c e) ∙ getD-replicate controllers owner noPair noPair l)
 
 -- the part of the table with c's own words was lent and came back as ys
-pub controller-lent : (t ys : List ℕ) (c k from to : ℕ) → length t ≡ tableWords → c < controllers → ys ≡ controllerRecord k → from ≡ position (OfController c 0) →
-    to ≡ from + controllerWords → take from t ++ (ys ++ drop (to - from) (drop from t)) ≡ words (putPart (state t) (OfController c 0) 0 (controllerRecord k))
-unfolding controllerRecord
+pub controller-lent : (t ys : List ℕ) (c k from to : ℕ) → length t ≡ tableWords → c < controllers → ys ≡ firstController k → from ≡ position (OfController c 0) →
+    to ≡ from + controllerWords → take from t ++ (ys ++ drop (to - from) (drop from t)) ≡ words (putPart (state t) (OfController c 0) 0 (firstController k))
 controller-lent t ys c k from to l cl e f q =
     ap (λ from. take from t ++ (ys ++ drop (to - from) (drop from t))) f
-    ∙ lent-part (state t) (OfController c 0) 0 to t ys (controllerRecord k) (words-state t l) e (omega arith) (fits-controller c (controllerRecord k) cl (omega arith))
+    ∙ lent-part (state t) (OfController c 0) 0 to t ys (firstController k) (words-state t l) e (omega arith) (fits-controller c (firstController k) cl (omega arith))
 
 -- then c's own known word was stored, and its place 0 was written
-pub begun-at : (t t₁ t₂ t₃ : List ℕ) (c k : ℕ) (v : Vector) → t₁ ≡ words (putPart (state t) (OfController c 0) 0 (controllerRecord k)) → t₂ ≡ words (put (state t₁) (Known c c 0) 1) →
+pub begun-at : (t t₁ t₂ t₃ : List ℕ) (c k : ℕ) (v : Vector) → t₁ ≡ words (putPart (state t) (OfController c 0) 0 (firstController k)) → t₂ ≡ words (put (state t₁) (Known c c 0) 1) →
     v ≡ firstVector c → t₃ ≡ words (putPart (state t₂) (OfPlace c 0 0) 0 (firstPlace v)) → t₃ ≡ words (beginsAt (state t) c k)
 unfolding beginsAt
 begun-at t t₁ t₂ t₃ c k v e q f h =
@@ -129,10 +119,10 @@ and-where x y false h = and-false x ∙ sym (and-false y)
 -- c's turn leaves the other words as they are
 turn-other : (n k c : ℕ) (g : Field) → Valid g → ((w : ℕ) → w < placeWords → g ≢ OfPlace c 0 w) → g ≢ Known c c 0 → ((w : ℕ) → w < controllerWords → g ≢ OfController c w) →
     openedTo n k c g ≡ openedTo n k (c + 1) g
-unfolding openedTo openHouse put same controllerRecord
+unfolding openedTo openHouse put same
 turn-other n k c (OfHead w) v place known own = head-put n k c w ∙ sym (head-put n k (c + 1) w)
 turn-other n k c (OfController d w) v place known own =
-    ap (λ b. cond b (getD (controllerRecord k) w 0) 0) (begun-other d c (λ e. own w (v .1) (ap (λ x. OfController x w) e)))
+    ap (λ b. cond b (getD (firstController k) w 0) 0) (begun-other d c (λ e. own w (v .1) (ap (λ x. OfController x w) e)))
 turn-other n k c (Known holder owner i) v place known own =
     ap (λ b. cond b 1 0)
     (and-where (holder <? c) (holder <? c + 1) ((holder == owner) && (i == 0))
@@ -146,8 +136,8 @@ turn-other n k c (OfPlace d p w) v place known own =
 turn-other n k c (OfMessage r w) v place known own = refl
 
 -- the opened state has the words that c's turn writes: the controller's words
-turn-controller : (n k c w : ℕ) → getD (controllerRecord k) w 0 ≡ openedTo n k (c + 1) (OfController c (0 + w))
-unfolding openedTo openHouse put same controllerRecord
+turn-controller : (n k c w : ℕ) → getD (firstController k) w 0 ≡ openedTo n k (c + 1) (OfController c (0 + w))
+unfolding openedTo openHouse put same
 turn-controller n k c w = simp (lt-ltb c (c + 1) (omega arith), zero-add)
 
 -- its own known word
@@ -162,11 +152,11 @@ turn-place n k c w = simp (lt-ltb c (c + 1) (omega arith), zero-add)
 
 -- c's turn takes the state with the controllers below c begun to the next one
 begins-next : (n k c : ℕ) → Agree (beginsAt (openedTo n k c) c k) (openedTo n k (c + 1))
-unfolding beginsAt controllerRecord
+unfolding beginsAt
 begins-next n k c =
     part-ind (λ g y. Valid g → y ≡ openedTo n k (c + 1) g) _ (OfPlace c 0 0) 0 place (λ w h v. turn-place n k c w)
     (λ g ne v. put-ind (λ g y. Valid g → NoPlace g → y ≡ openedTo n k (c + 1) g) _ (Known c c 0) 1 (λ v ne. turn-known n k c)
-    (λ g nk v ne. part-ind (λ g y. Valid g → NoPlace g → g ≢ Known c c 0 → y ≡ openedTo n k (c + 1) g) (openedTo n k c) (OfController c 0) 0 (controllerRecord k)
+    (λ g nk v ne. part-ind (λ g y. Valid g → NoPlace g → g ≢ Known c c 0 → y ≡ openedTo n k (c + 1) g) (openedTo n k c) (OfController c 0) 0 (firstController k)
     (λ w h v ne nk. turn-controller n k c w)
     (λ g no v ne nk. turn-other n k c g v (λ w l e. ne w (omega (arith, length-place-record 0 1 0 1 (firstVector c))) (e ∙ ap (OfPlace c 0) (sym (zero-add w)))) nk
     (λ w l e. no w l (e ∙ ap (OfController c) (sym (zero-add w))))) g v ne nk) g v ne)

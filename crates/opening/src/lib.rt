@@ -5,10 +5,10 @@ ghost use lib.ListN.{length};
 ghost use Rattle.base.specs.Cases.{firstOf};
 ghost use Rattle.table.specs.Layout.{controllers, controllerWords, tableWords};
 ghost use Rattle.table.specs.Words.{state, words};
-ghost use Rattle.rules.specs.Steps.{firstVector, openHouse, openRefusals, stepOpen};
+ghost use Rattle.rules.specs.Steps.{firstController, firstVector, openHouse, openRefusals, stepOpen};
 ghost use Rattle.rules.specs.Step.{out, written};
 ghost use Rattle.laws.specs.Allowed.{OpenAllowed};
-ghost use Rattle.opening.specs.Opened.{controllerRecord, beginsAt};
+ghost use Rattle.opening.specs.Opened.{beginsAt};
 use rules::Answer;
 use rules::refusal;
 use vector::Vector;
@@ -25,7 +25,7 @@ pub fn open_refusal(n: u32, k: u32) -> u32
 // A controller's record: degree k, incarnation 0, one live interval, which is stable.
 pub fn write_controller(d: &mut [u32], k: u32)
     requires { ⌜ length (now d) ≡ controllerWords ⌝ }
-    ensures { λ _. ⌜ now (d .exit) ≡ controllerRecord k ⌝ }
+    ensures { λ _. ⌜ now (d .exit) ≡ firstController k ⌝ }
 {
     d[table::DEGREE_WORD] = k;
     d[table::INCARNATION_WORD] = 0;

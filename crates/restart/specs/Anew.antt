@@ -8,7 +8,7 @@ use Rattle.base.specs.Choice.{_==_, cond-ind}
 use Rattle.table.specs.Field.{State, Known, OfPlace, Incarnation, LiveCount, StableCount, Flag}
 use Rattle.table.specs.Change.{put, putPart, clearPlaces}
 use Rattle.table.specs.Layout.{controllers}
-use Rattle.table.specs.Words.{state, words, Agree, agree-put, agree-words, called, then-put, then-part}
+use Rattle.table.specs.Words.{state, words, agree-words, called, then-put, then-part}
 use Rattle.table.specs.Numbering.{numberOf, number-from}
 use Rattle.rules.specs.Vector.{Vector, pair, placeVector, filtered}
 use Rattle.rules.specs.Shared.{placeRecord, newVector, placed, entered, restarted, dropHeld, startAnew, latestFlagged, replayed}

@@ -20,7 +20,7 @@ use Rattle.base.specs.Choice.{_==_, _≤?_, _<?_}
 use Rattle.base.specs.Ranges.{first}
 use Rattle.base.specs.Lists.{tab}
 use Rattle.base.specs.Cases.{Case, _⇒_, firstOf}
-use Rattle.table.specs.Field.{State, OfHead, OfController, Known, End, OfPlace, OfMessage, Size, Degree, Incarnation, LiveCount, StableCount, PlaceIncarnation, PlaceNumber, Flag, MessageState, Sender, Receiver, messageHead}
+use Rattle.table.specs.Field.{State, OfHead, OfController, Known, End, OfPlace, OfMessage, Size, Degree, Incarnation, LiveCount, StableCount, PlaceIncarnation, PlaceNumber, Flag, MessageState, Sender, Receiver, word, messageHead}
 use Rattle.table.specs.Change.{put, putPart}
 use Rattle.table.specs.Layout.{controllers, incarnations}
 use Rattle.table.specs.Numbering.{numberOf, used, nextMessage, recordOf, posted}
@@ -53,16 +53,22 @@ abbrev pub noController : State → ℕ → Bool
 noController σ c = σ Size ≤? c
 
 -- O n k: "n controllers, all with K = k; each has (0,1), flagged, stable, known to its owner, own pair (0,1) in its vector;
--- all else 0."
+-- all else 0." The words of each controller, of its first place, and the vector there:
+abbrev pub firstController : ℕ → List ℕ
+firstController k = k ∷ 0 ∷ 1 ∷ 1 ∷ []
+
+abbrev pub firstPlace : Vector → List ℕ
+firstPlace v = placeRecord 0 1 0 1 v
+
 abbrev pub firstVector : ℕ → Vector
 firstVector c = tab controllers (λ (owner : ℕ). cond (owner == c) (pair 0 1) noPair)
 
 unfoldable pub openHouse : ℕ → ℕ → State
-openHouse n k (OfHead w) = cond (w == 0) n 0
-openHouse n k (OfController c w) = cond (c <? n) (getD (k ∷ 0 ∷ 1 ∷ 1 ∷ []) w 0) 0
+openHouse n k (OfHead w) = cond (w == word Size) n 0
+openHouse n k (OfController c w) = cond (c <? n) (getD (firstController k) w 0) 0
 openHouse n k (Known holder owner i) = cond ((holder <? n) && ((holder == owner) && (i == 0))) 1 0
 openHouse n k (End holder owner i) = 0
-openHouse n k (OfPlace c p w) = cond ((c <? n) && (p == 0)) (getD (placeRecord 0 1 0 1 (firstVector c)) w 0) 0
+openHouse n k (OfPlace c p w) = cond ((c <? n) && (p == 0)) (getD (firstPlace (firstVector c)) w 0) 0
 openHouse n k (OfMessage r w) = 0
 
 -- "5 n not 1 to 8, or a degree above n"

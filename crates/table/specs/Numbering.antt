@@ -10,7 +10,7 @@ use lib.ListN.{length, getD}
 use borrow.Author.Tests.{leb-true, le-leb, lt-ltb, le-ltb}
 use Rattle.base.specs.Choice.{_==_, _≤?_, _<?_, and-left, and-right, cond-ind, le?}
 use Rattle.table.specs.Field.{Field, State, OfHead, OfController, Known, End, OfPlace, OfMessage, Size, SentCount, region, word, wordOf, alike, alike-word, same, messageHead, spareFrom}
-use Rattle.table.specs.Change.{put, put-ind, put-same, putPart, part-ind, clearPlaces, clear-ind, putStates, states-ind}
+use Rattle.table.specs.Change.{put, put-ind, put-same, putPart, part-ind, putStates, states-ind}
 use Rattle.table.specs.Layout.{controllers, messages, headWords}
 use Rattle.table.specs.Words.{state, words, Agree, agree-value, agree-part-to, then-put}
 

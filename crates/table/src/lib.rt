@@ -8,7 +8,7 @@ ghost use Rattle.table.specs.Field.{OfController, OfPlace, OfMessage, Kn
 ghost use Rattle.table.specs.Change.{put};
 ghost use Rattle.table.specs.Layout.{controllers, incarnations, places, messages, tableWords, position};
 ghost use Rattle.table.specs.Words.{state, words};
-ghost use Rattle.table.specs.Numbering.{numberOf, used, lastGiven, recordOf, messageOf};
+ghost use Rattle.table.specs.Numbering.{numberOf, used, lastGiven, recordOf};
 
 // How many there are of each.
 pub const CONTROLLERS: usize = 8;
