@@ -68,6 +68,13 @@ written-more {o} {r} {u} {q} {w} {a} {m} {n} f g h = record {
 pub written-length : {o r u : List ℕ} {a m : ℕ} → Written o a r u m → m ≤ length o → length u ≡ length o
 written-length {o} {r} {u} {a} {m} f h = ap length (f .stands) ∙ length-splice a o r (omega (arith, f .ends))
 
+-- what stands up to its end
+pub written-take : {o r u : List ℕ} {a m : ℕ} → Written o a r u m → a ≤ length o → take m u ≡ take a o ++ r
+unfolding splice
+written-take {o} {r} {u} {a} {m} f h =
+    ap₂ take (f .ends) (f .stands ∙ sym (append-assoc (take a o) r (drop (length r) (drop a o))))
+    ∙ take-at (take a o ++ r) (drop (length r) (drop a o)) (a + length r) (length-append (take a o) r ∙ ap (λ (k : ℕ). k + length r) (length-take-le a o h))
+
 -- nothing written
 pub written-none : (o : List ℕ) (a : ℕ) → Written o a [] o a
 written-none o a = record { stands = splice-none o a; ends = omega arith }

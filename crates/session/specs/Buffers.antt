@@ -1,0 +1,90 @@
+-- Laws of a session in its buffers, for the code that takes bytes. `o` is the buffer of answers before a line is written, `u`
+-- after it.
+use mathlib.Core.Path.{_≡_, refl, sym, ap, ap₂, _∙_, subst}
+use mathlib.Core.Bool.{Bool, true, false, cond}
+use mathlib.Core.List.{List, [], _∷_, _++_, foldl, foldl-append}
+use mathlib.Core.Logic.{_≢_}
+use Prim.Native.Nat.{ℕ, suc, _+_, _≤_, _<_}
+use native.Mathlib.Omega.{arith}
+use native.Mathlib.Numerals.{add-one}
+use lib.ListN.{length, getD, set, take, length-append}
+use lib.Seq.{take-all, take-suc, take-suc-set, take-append-le, length-take-le}
+use borrow.Author.Tests.{eq-eqb, ne-eqb}
+use Rattle.rules.specs.Step.{Out, out, step}
+use Rattle.rules.specs.declared.Answer.{Answer}
+use Rattle.rules.specs.declared.Command.{Command}
+use Rattle.lines.specs.Lines.{lineFeed, parse, answerLine, badLine}
+use Rattle.lines.specs.declared.Parsed.{Parsed}
+use Rattle.lines.specs.declared.Parsed.the-variants.{Asks, Bad}
+use Rattle.printing.specs.Parts.{Short}
+use Rattle.printing.specs.Writing.{written-take}
+use Rattle.session.specs.Program.{reply, replyTo, firstTable}
+use Rattle.session.specs.Taking.{Session, session, begun, lineRoom, ended, taken, takenAll, finished, paid, after}
+
+-- a line that asked for x is answered by a
+pub ended-asked : (t l : List ℕ) {w o u : List ℕ} {at r : ℕ} {x : Command} {a : Answer} → parse l ≡ Asks x → out a w ≡ step t x → Short o at (answerLine a) u r → at ≤ length o →
+    session w [] (take r u) ≡ ended (session t l (take at o))
+unfolding ended reply replyTo
+ended-asked t l {w} p e f h = rw (p, sym e) (ap (session w []) (written-take (f .written) h))
+
+-- a line that asked for nothing is answered `bad`
+pub ended-bad : (t l : List ℕ) {o u : List ℕ} {at r : ℕ} → parse l ≡ Bad → Short o at badLine u r → at ≤ length o → session t [] (take r u) ≡ ended (session t l (take at o))
+unfolding ended reply replyTo
+ended-bad t l p f h = rw p (ap (session t []) (written-take (f .written) h))
+
+-- a line feed
+pub taken-feed : (s : Session) (b : ℕ) {r : Session} → b ≡ lineFeed → r ≡ ended s → r ≡ taken s b
+unfolding taken
+taken-feed s b e h = rw (eq-eqb b lineFeed e) h
+
+-- another byte, where there is room for it
+pub taken-more : (t line owed : List ℕ) (n b : ℕ) → b ≢ lineFeed → length line ≡ lineRoom → n < lineRoom →
+    session t (take (n + 1) (set line n b)) owed ≡ taken (session t (take n line) owed) b
+unfolding taken
+taken-more t line owed n b e l h =
+    let q : take (n + 1) (set line n b) ≡ take n line ++ b ∷ [] = ap (λ (k : ℕ). take k (set line n b)) (add-one n) ∙ take-suc-set line n b (omega arith) in
+    let z : length (take n line ++ b ∷ []) ≤ lineRoom = omega (arith, length-append (take n line) (b ∷ []), length-take-le n line (omega arith)) in
+    rw (ne-eqb b lineFeed e) (ap (λ (x : List ℕ). session t x owed) (q ∙ sym (take-all lineRoom (take n line ++ b ∷ []) z)))
+
+-- another byte, where there is none
+pub taken-full : (t line owed : List ℕ) (n b : ℕ) → b ≢ lineFeed → length line ≡ lineRoom → n ≤ lineRoom → lineRoom ≤ n →
+    session t (take n line) owed ≡ taken (session t (take n line) owed) b
+unfolding taken
+taken-full t line owed n b e l h k =
+    let z : length (take n line) ≡ n = length-take-le n line (omega arith) in
+    rw (ne-eqb b lineFeed e) (ap (λ (x : List ℕ). session t x owed) (sym (take-append-le lineRoom (take n line) (b ∷ []) (omega arith) ∙ take-all lineRoom (take n line) (omega arith))))
+
+-- the next byte of a read
+pub taken-next : (s : Session) (bytes : List ℕ) (i : ℕ) {r q : Session} → r ≡ takenAll s (take i bytes) → q ≡ taken r (getD bytes i 0) → i < length bytes →
+    q ≡ takenAll s (take (i + 1) bytes)
+taken-next s bytes i e f h =
+    f
+    ∙ ap (λ (x : Session). taken x (getD bytes i 0)) e
+    ∙ sym (ap (foldl taken s) (ap (λ (k : ℕ). take k bytes) (add-one i) ∙ take-suc bytes i 0 h) ∙ foldl-append taken s (take i bytes) (getD bytes i 0 ∷ []))
+
+-- all bytes of a read
+pub taken-whole : (s : Session) (bytes : List ℕ) (i : ℕ) {r : Session} → r ≡ takenAll s (take i bytes) → length bytes ≤ i → r ≡ takenAll s bytes
+taken-whole s bytes i e h = e ∙ ap (takenAll s) (take-all i bytes h)
+
+-- the end of the input, after n bytes of a line
+pub finished-none : (t line : List ℕ) (n : ℕ) → n ≡ 0 → session t [] [] ≡ finished (session t (take n line) [])
+unfolding finished
+finished-none t line n e = rw e
+
+pub finished-more : (t line : List ℕ) (n : ℕ) {r : Session} → n ≤ length line → n ≢ 0 → r ≡ ended (session t (take n line) []) → r ≡ finished (session t (take n line) [])
+unfolding finished
+finished-more t line n l e h = rw (length-take-le n line l, ne-eqb n 0 e) h
+
+-- The loop of the program: its table and the bytes of a line that hasn't ended are those after some reads.
+pub record Reached (t line : List ℕ) : Type 0 where
+  pub reads : List (List ℕ)
+  pub here : session t line [] ≡ after reads
+
+pub reached-first : Reached firstTable []
+reached-first = record { reads = []; here = refl }
+
+pub reached-next : {t l w k owed : List ℕ} (bytes : List ℕ) → Reached t l → session w k owed ≡ takenAll (session t l []) bytes → Reached w k
+reached-next bytes f e = record {
+  reads = f .reads ++ bytes ∷ [];
+  here = ap paid (e ∙ ap (λ (s : Session). takenAll s bytes) (f .here)) ∙ sym (foldl-append (λ (s : Session) (r : List ℕ). paid (takenAll s r)) begun (f .reads) (bytes ∷ []));
+}

@@ -1,0 +1,5 @@
+pub mod Program
+pub mod Taking
+pub mod Cutting
+pub mod Whole
+pub mod Buffers

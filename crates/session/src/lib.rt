@@ -1,0 +1,88 @@
+// The program between its reads and its writes: the bytes of its input become steps on the table and lines of answers.
+ghost use mathlib.Core.Path.{_≡_};
+ghost use mathlib.Core.List.{[]};
+ghost use Prim.Native.Nat.{_+_, _*_, _≤_};
+ghost use lib.ListN.{length, take};
+ghost use Rattle.printing.specs.Parts.{answerRoom};
+ghost use Rattle.session.specs.Taking.{session, lineRoom, ended, taken, takenAll, finished, held};
+use lines::LINE_FEED;
+use lines::LONGEST_LINE;
+use lines::Parsed;
+
+// Room for a line: a byte more than it may have only says that there were more.
+pub const LINE_ROOM: usize = LONGEST_LINE + 1;
+
+// How many bytes of a line that hasn't ended are there, and how many bytes of answers are owed.
+pub struct Progress {
+    pub line: usize,
+    pub owed: usize,
+}
+
+// A line of n bytes has ended: its answer goes behind the first `at` bytes of `out`. Says where it ends.
+fn end_line(t: &mut [u32], line: &[u8], n: usize, out: &mut [u8], at: usize) -> usize
+    requires { ⌜ (n ≤ length (now line)) × (at + answerRoom ≤ length (now out)) ⌝ }
+    ensures { λ r. ⌜ session (now (t .exit)) [] (take r (now (out .exit))) ≡ ended (held (now (t .entry)) (now (line .entry)) n (now (out .entry)) at) ⌝ }
+    ensures { λ r. ⌜ r ≤ at + answerRoom ⌝ }
+{
+    let Parsed::Asks(x) = parsing::parse(&line[..n]) else {
+        return printing::write_bad(out, at);
+    };
+    let a = machine::step(t, x);
+    printing::write_answer(out, at, a)
+}
+
+// One byte of input.
+fn take_byte(t: &mut [u32], line: &mut [u8], n: usize, b: u8, out: &mut [u8], at: usize) -> Progress
+    requires { ⌜ (length (now line) ≡ lineRoom) × (n ≤ lineRoom) × (at + answerRoom ≤ length (now out)) ⌝ }
+    ensures { λ r. ⌜ held (now (t .exit)) (now (line .exit)) (r .line) (now (out .exit)) (r .owed) ≡ taken (held (now (t .entry)) (now (line .entry)) n (now (out .entry)) at) b ⌝ }
+    ensures { λ r. ⌜ (r .line ≤ lineRoom) × (r .owed ≤ at + answerRoom) ⌝ }
+{
+    if b == LINE_FEED {
+        let owed = end_line(t, line, n, out, at);
+        return Progress {
+            line: 0,
+            owed: owed,
+        };
+    }
+    if LINE_ROOM <= n {
+        return Progress { line: n, owed: at };
+    }
+    line[n] = b;
+    Progress {
+        line: n + 1,
+        owed: at,
+    }
+}
+
+// The bytes of a read, after n bytes of a line that hasn't ended: their answers stand at the start of `out`.
+pub fn take_bytes(
+    t: &mut [u32],
+    line: &mut [u8],
+    n: usize,
+    bytes: &[u8],
+    out: &mut [u8],
+) -> Progress
+    requires { ⌜ (length (now line) ≡ lineRoom) × (n ≤ lineRoom) × (answerRoom * length (now bytes) ≤ length (now out)) ⌝ }
+    ensures { λ r. ⌜ held (now (t .exit)) (now (line .exit)) (r .line) (now (out .exit)) (r .owed) ≡ takenAll (session (now (t .entry)) (take n (now (line .entry))) []) (now (bytes .entry)) ⌝ }
+    ensures { λ r. ⌜ (r .line ≤ lineRoom) × (r .owed ≤ length (now (out .exit))) ⌝ }
+{
+    let mut p = Progress { line: n, owed: 0 };
+    let mut i = 0;
+    while i < bytes.len() {
+        p = take_byte(t, line, p.line, bytes[i], out, p.owed);
+        i += 1;
+    }
+    p
+}
+
+// The input has ended after n bytes of a line: a last line without line feed counts. Says how many bytes of `out` are owed.
+pub fn finish(t: &mut [u32], line: &[u8], n: usize, out: &mut [u8]) -> usize
+    requires { ⌜ (n ≤ length (now line)) × (answerRoom ≤ length (now out)) ⌝ }
+    ensures { λ r. ⌜ session (now (t .exit)) [] (take r (now (out .exit))) ≡ finished (session (now (t .entry)) (take n (now (line .entry))) []) ⌝ }
+    ensures { λ r. ⌜ r ≤ length (now (out .exit)) ⌝ }
+{
+    if n == 0 {
+        return 0;
+    }
+    end_line(t, line, n, out, 0)
+}
