@@ -1,16 +1,29 @@
 /*
- * The house recovery machine: one step function over one lent table.
+ * The house recovery machine: one step function over one lent table. README.md says what it is for,
+ * examples/recovery.c shows a crash and all that follows, docs/GUIDE.md leads through the rules, and
+ * crates/rules/specs has them.
  *
  * The caller owns the table and lends it for one call at a time. All that the machine knows stands in
  * it; nothing is kept between calls.
  *
  * For the length of a call
- * - each pointer is to as many words, aligned for uint32_t, as the length beside it says;
+ * - each pointer is to as many words, aligned for uint32_t, as the length beside it says; with length 0
+ *   it may be null;
  * - the table and the value buffer must not overlap;
- * - nobody else writes the table, nor reads it during goulvizad_step.
+ * - nobody else writes the table, nor reads it during goulvizad_step. Different tables, each call with
+ *   a value buffer of its own, may be used from several threads at once.
  *
  * A table that is saved or moved between calls is the same house. One that anybody else has written
- * to in between is looked at as it stands: in form it is taken for a house, else it is refused.
+ * to in between is looked at as it stands: in form it is taken for a house, else it is refused. It is in
+ * form when each word is in its range, and all that n, the live counts and the messages sent leave
+ * unused is 0 (crates/rules/specs/Form.antt). What 'O' and steps after it leave is in form; but form
+ * alone doesn't say that steps have led there.
+ *
+ * To build, first with Rattle's rt, then with any C compiler:
+ *     rt staticlib goulvizad
+ *     cc prog.c -Iinclude -Ltarget/staticlib -lgoulvizad
+ * The archive, target/staticlib/libgoulvizad.a, is for Linux on x86-64 with glibc 2.34 or newer, as
+ * Rattle's kit asks, and links only into x86-64 programs.
  */
 #ifndef GOULVIZAD_H
 #define GOULVIZAD_H
@@ -24,11 +37,12 @@ extern "C" {
 
 /* The lengths of the two buffers, in words of 32 bits. */
 #define GOULVIZAD_TABLE_WORDS 15152
-#define GOULVIZAD_VALUE_WORDS 5
+#define GOULVIZAD_VALUE_WORDS 6
 
 /*
- * The steps. A letter is given by its ASCII code ('O' and so on), its numbers as a, b and c in the
- * order of its line; those that it hasn't are not looked at. Controllers count from 0, messages from 1.
+ * The steps. A letter is given by its ASCII code ('O' and so on), its numbers as a, b, c and d in the
+ * order of its line. Those that it hasn't are not looked at; d is one that no step has yet. Controllers
+ * count from 0, messages from 1.
  *
  *   letter  a           b         c
  *   'O'     n           degree                 open a house of n controllers (1 to 8), degree 0 to n
@@ -44,8 +58,9 @@ extern "C" {
  */
 
 /*
- * What goulvizad_step returns, and the values that it writes. Zeros follow them, up to the fifth word.
- * A mask has 2 to the power c for each controller c that it names. Kept is the highest number that is kept.
+ * What goulvizad_step returns, and the values that it writes. Zeros follow them, up to the sixth word.
+ * A mask has 2 to the power c for each controller c that it names. Kept is the highest number that is
+ * kept.
  */
 enum {
     GOULVIZAD_DONE = 0,      /* no values: to O, K, L, C and T */
@@ -60,9 +75,12 @@ enum {
     GOULVIZAD_ROLLED = 9,    /* hearer, kept, undone, replayed */
     GOULVIZAD_REFUSED = 10,  /* number: one of the refusals below; no word of the table changed */
 
-    /* These two are no answers. They change nothing, neither the table nor the value buffer. */
-    GOULVIZAD_UNKNOWN_LETTER = 11, /* the letter is none of the ten */
-    GOULVIZAD_WRONG_VALUES = 12    /* the value buffer hasn't GOULVIZAD_VALUE_WORDS words */
+    /*
+     * These two are no answers, and change neither the table nor the value buffer. The length of the
+     * value buffer is looked at first, then the letter; both come before GOULVIZAD_LENGTH.
+     */
+    GOULVIZAD_UNKNOWN_LETTER = 100, /* the letter is none of the ten */
+    GOULVIZAD_WRONG_VALUES = 101    /* the value buffer hasn't GOULVIZAD_VALUE_WORDS words */
 };
 
 /*
@@ -93,11 +111,11 @@ enum {
 };
 
 /*
- * Does one step on the table, whatever its length and content, and whatever the numbers.
- * Returns one of the numbers above. A house begins with 'O', on a table with any content.
+ * Does one step on the table, whatever its length and content, and whatever the numbers. Returns a
+ * number of the first list above. A house begins with 'O', on a table with any content.
  */
 uint32_t goulvizad_step(uint32_t *table, size_t table_words, uint32_t letter, uint32_t a, uint32_t b,
-                        uint32_t c, uint32_t *values, size_t values_words);
+                        uint32_t c, uint32_t d, uint32_t *values, size_t values_words);
 
 /* 1 where the table has GOULVIZAD_TABLE_WORDS words and is in form, else 0. Writes nothing. */
 uint32_t goulvizad_in_form(const uint32_t *table, size_t table_words);

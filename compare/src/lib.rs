@@ -1,7 +1,7 @@
 //! Holds the proved house recovery machine against the reference, a second implementation of the same
 //! rules.
 //!
-//! - [`proved`]: the proved machine, through the C interface of its static library.
+//! - [`proved`]: the proved machine, through its binding for Rust, and so through the C interface.
 //! - [`house`]: the proved program, through its standard input and output.
 //! - [`agreement`]: the same step on both machines, and the first thing in which they differ.
 //! - [`coverage`]: what a comparison has come across, so that a test can ask for all of it.

@@ -1,87 +1,60 @@
-//! The header has the names and numbers that are used here, and with the library it serves a C program.
+//! With the header and the library the example for C is built by C and C++ compilers, every warning an
+//! error, and writes what is stored beside it.
 
-use compare::proved::returned;
-use reference::refusal;
 use std::env;
 use std::fs;
 use std::path::{Path, PathBuf};
 use std::process::{Command, Output};
 
-/// What a call returns, and the refusals, by the names of the header without their prefix.
-const NAMED: [(&str, u32); 26] = [
-    ("DONE", returned::DONE),
-    ("SENT", returned::SENT),
-    ("RELEASED", returned::RELEASED),
-    ("HELD", returned::HELD),
-    ("DELIVERED", returned::DELIVERED),
-    ("DROPPED", returned::DROPPED),
-    ("WAITS", returned::WAITS),
-    ("CRASHED", returned::CRASHED),
-    ("HEARD", returned::HEARD),
-    ("ROLLED", returned::ROLLED),
-    ("REFUSED", returned::REFUSED),
-    ("UNKNOWN_LETTER", returned::UNKNOWN_LETTER),
-    ("WRONG_VALUES", returned::WRONG_VALUES),
-    ("LENGTH", refusal::LENGTH),
-    ("FORM", refusal::FORM),
-    ("CONTROLLER", refusal::CONTROLLER),
-    ("MESSAGE", refusal::MESSAGE),
-    ("DEGREE", refusal::DEGREE),
-    ("SAME_CONTROLLER", refusal::SAME_CONTROLLER),
-    ("STATE", refusal::STATE),
-    ("LOG_COUNT", refusal::LOG_COUNT),
-    ("NO_SUCH_CRASH", refusal::NO_SUCH_CRASH),
-    ("ALREADY_HEARD", refusal::ALREADY_HEARD),
-    ("MESSAGES_USED_UP", refusal::MESSAGES_USED_UP),
-    ("PLACES_USED_UP", refusal::PLACES_USED_UP),
-    ("INCARNATIONS_USED_UP", refusal::INCARNATIONS_USED_UP),
-];
-
-/// The names and numbers of the header's enums, in order.
-fn in_header() -> Vec<(String, u32)> {
-    let header = Path::new(env!("CARGO_MANIFEST_DIR")).join("../include/goulvizad.h");
-    let header = fs::read_to_string(header).expect("a header beside this package");
-    let named = |line: &str| {
-        let (name, rest) = line.trim().strip_prefix("GOULVIZAD_")?.split_once(" = ")?;
-        let digits = rest.split(|byte: char| !byte.is_ascii_digit()).next()?;
-        Some((name.to_owned(), digits.parse().ok()?))
-    };
-    header.lines().filter_map(named).collect()
+fn repository() -> PathBuf {
+    Path::new(env!("CARGO_MANIFEST_DIR")).join("..")
 }
 
-#[test]
-fn the_header_has_the_same_names() {
-    let names = NAMED.map(|(name, number)| (name.to_owned(), number));
-    assert_eq!(in_header(), names);
+/// A compiler: the one that a variable names, or the usual one.
+fn compiler(variable: &str, usual: &str) -> Command {
+    Command::new(env::var_os(variable).unwrap_or_else(|| usual.into()))
 }
 
-/// Runs a command to its end.
+/// Runs a command to its end, which must be a quiet one.
 fn output(command: &mut Command) -> Output {
     let output = command.output();
-    output.unwrap_or_else(|error| panic!("{command:?}: {error}"))
+    let output = output.unwrap_or_else(|error| panic!("{command:?}: {error}"));
+    assert_eq!(String::from_utf8_lossy(&output.stderr), "", "{command:?}");
+    assert!(output.status.success(), "{command:?}");
+    output
 }
 
-/// Builds `c/listing.c` against the header and the library, with every warning an error.
-fn build() -> PathBuf {
-    let package = Path::new(env!("CARGO_MANIFEST_DIR"));
-    let program = Path::new(env!("CARGO_TARGET_TMPDIR")).join("listing");
-    let mut compiler = Command::new(env::var_os("CC").unwrap_or_else(|| "cc".into()));
-    compiler.args(["-std=c99", "-pedantic", "-Wall", "-Wextra", "-Werror"]);
-    compiler.arg("-I").arg(package.join("../include"));
-    compiler.arg(package.join("c/listing.c"));
+/// Builds `examples/recovery.c` and runs it.
+fn assert_told_as_stored(mut compiler: Command, standard: &str) {
+    let examples = repository().join("examples");
+    let program = Path::new(env!("CARGO_TARGET_TMPDIR")).join(format!("recovery_{standard}"));
+    compiler.arg(format!("-std={standard}"));
+    compiler.args(["-pedantic", "-Wall", "-Wextra", "-Werror"]);
+    compiler.arg("-I").arg(repository().join("include"));
+    compiler.arg(examples.join("recovery.c"));
     compiler.arg("-o").arg(&program);
     compiler.args(["-L", env!("GOULVIZAD_LIB_USED"), "-lgoulvizad"]);
-    let built = output(&mut compiler);
-    let complaints = String::from_utf8_lossy(&built.stderr);
-    assert!(built.status.success(), "{complaints}");
-    assert_eq!(complaints, "");
-    program
+    output(&mut compiler);
+    let told = String::from_utf8(output(&mut Command::new(program)).stdout);
+    let stored = fs::read_to_string(examples.join("recovery.out"));
+    assert_eq!(told.expect("ASCII"), stored.expect("a stored output"));
 }
 
 #[test]
-fn a_c_program_plays_listing_a() {
-    let played = output(&mut Command::new(build()));
-    assert_eq!(String::from_utf8_lossy(&played.stderr), "");
-    assert_eq!(played.stdout, b"16 steps as listed\n");
-    assert!(played.status.success());
+fn a_c_program_tells_a_recovery() {
+    for standard in ["c99", "c11"] {
+        assert_told_as_stored(compiler("CC", "cc"), standard);
+    }
+}
+
+/// As C++ too, where the machine has a compiler for it.
+#[test]
+fn a_cpp_program_tells_a_recovery() {
+    if compiler("CXX", "c++").arg("--version").output().is_err() {
+        println!("not checked: there is no C++ compiler here");
+        return;
+    }
+    let mut compiler = compiler("CXX", "c++");
+    compiler.args(["-x", "c++"]);
+    assert_told_as_stored(compiler, "c++11");
 }

@@ -2,12 +2,12 @@
 //! aren't looked at, and what stands in the values.
 
 use compare::effort;
-use compare::proved::returned::{DONE, REFUSED, UNKNOWN_LETTER, WRONG_VALUES};
-use compare::proved::{call, Call, VALUES};
+use goulvizad::raw::returned::{DONE, REFUSED, UNKNOWN_LETTER, WRONG_VALUES};
+use goulvizad::raw::{call, VALUE_WORDS};
 use reference::generate::{in_form_table, senseless, wrong_length, Profile, Random, Walk};
-use reference::lines;
 use reference::machine::{step, Answer, Command};
 use reference::table::WORDS;
+use reference::{lines, refusal};
 use std::collections::BTreeSet;
 
 const LETTERS: &[u8] = b"OKSRDLCTXH";
@@ -30,20 +30,58 @@ const NAMES: [&str; 11] = [
 /// What stands in a value buffer before a call; no answer has it.
 const UNTOUCHED: u32 = 0xA5A5_A5A5;
 
-/// A call that must give this number, or one of these, and change nothing.
-fn assert_rejected(words: &[u32], asked: Call, values: usize, numbers: &[u32]) {
+/// What a call asks for.
+#[derive(Clone, Copy, Debug)]
+struct Call {
+    /// The ASCII code of its letter.
+    letter: u32,
+    /// Its numbers in the order of its line, then zeros.
+    numbers: [u32; 4],
+    /// How many numbers its line has.
+    used: usize,
+}
+
+impl Call {
+    fn new(letter: u32, numbers: &[u32]) -> Self {
+        let used = numbers.len();
+        let mut call = Call {
+            letter,
+            numbers: [0; 4],
+            used,
+        };
+        call.numbers[..used].copy_from_slice(numbers);
+        call
+    }
+}
+
+impl From<Command> for Call {
+    /// Read off the line of the step.
+    fn from(command: Command) -> Self {
+        let line = lines::write(command);
+        let mut fields = line.split(' ');
+        let letter = fields.next().map(str::as_bytes);
+        let &[letter] = letter.expect("a first field") else {
+            panic!("no letter in {line:?}");
+        };
+        let numbers = fields.map(|field| field.parse().expect("a number"));
+        Call::new(letter.into(), &numbers.collect::<Vec<u32>>())
+    }
+}
+
+/// A call that must give this number and change nothing.
+fn assert_rejected(words: &[u32], asked: Call, values: usize, number: u32) {
     let mut table = words.to_vec();
     let mut values = vec![UNTOUCHED; values];
     let given = call(&mut table, asked.letter, asked.numbers, &mut values);
     let label = || format!("{asked:?} with {} values: {given}", values.len());
-    assert!(numbers.contains(&given), "{}", label());
+    assert_eq!(given, number, "{}", label());
     assert!(table == words, "{}: wrote to the table", label());
     let untouched = values.iter().all(|&value| value == UNTOUCHED);
     assert!(untouched, "{}: wrote to the values", label());
 }
 
-/// A house in which much can be done, one that was never opened, and a table too short.
-fn tables() -> [Vec<u32>; 3] {
+/// A house in which much can be done, one that was never opened, and tables of another length.
+fn tables() -> [Vec<u32>; 4] {
     let mut walk = Walk::new(3, &Profile::CRASHES);
     walk.by_ref().for_each(drop);
     let mut random = Random::new(1);
@@ -51,6 +89,7 @@ fn tables() -> [Vec<u32>; 3] {
         walk.table().to_vec(),
         vec![0; WORDS],
         wrong_length(&mut random),
+        Vec::new(),
     ]
 }
 
@@ -74,15 +113,8 @@ fn other_letters_are_unknown() {
     assert!(letters.len() > 1_400);
     for words in tables() {
         for &letter in &letters {
-            let asked = Call {
-                letter,
-                numbers: [1, 0, 1],
-                used: 3,
-            };
-            assert_rejected(&words, asked, VALUES, &[UNKNOWN_LETTER]);
-            // Which of the two is told where both apply is left open.
-            let both = [UNKNOWN_LETTER, WRONG_VALUES];
-            assert_rejected(&words, asked, VALUES - 1, &both);
+            let asked = Call::new(letter, &[1, 0, 1]);
+            assert_rejected(&words, asked, VALUE_WORDS, UNKNOWN_LETTER);
         }
     }
 }
@@ -90,32 +122,48 @@ fn other_letters_are_unknown() {
 #[test]
 fn other_value_buffers_are_rejected() {
     let mut random = Random::new(3);
+    let lengths = (0..=8).chain([10, 100, WORDS]);
     for words in tables() {
-        for values in [0, 1, 2, 3, 4, 6, 7, 8, 10, 100, WORDS] {
+        for values in lengths.clone().filter(|&values| values != VALUE_WORDS) {
             for _ in 0..20 {
                 let asked = senseless(&mut random).into();
-                assert_rejected(&words, asked, values, &[WRONG_VALUES]);
+                assert_rejected(&words, asked, values, WRONG_VALUES);
             }
-            for &letter in LETTERS {
-                let asked = Call {
-                    letter: u32::from(letter),
-                    numbers: [1, 0, 0],
-                    used: 3,
-                };
-                assert_rejected(&words, asked, values, &[WRONG_VALUES]);
+            // The buffer is looked at before the letter.
+            for &letter in LETTERS.iter().chain(b"Qo\0") {
+                let asked = Call::new(letter.into(), &[1, 0, 0]);
+                assert_rejected(&words, asked, values, WRONG_VALUES);
             }
         }
     }
 }
 
+/// What is no call of a step is told before the table's length is looked at.
+#[test]
+fn calls_of_no_step_come_before_the_refusals() {
+    let mut random = Random::new(6);
+    for length in [0, 1, WORDS - 1, WORDS + 1, 2 * WORDS] {
+        let words: Vec<u32> = (0..length).map(|_| random.word()).collect();
+        for &letter in LETTERS {
+            let asked = Call::new(letter.into(), &[1, 0, 0]);
+            let refused = (REFUSED, [refusal::LENGTH, 0, 0, 0, 0, 0]);
+            assert_eq!(told(&mut words.clone(), asked), refused, "{asked:?}");
+            assert_rejected(&words, asked, VALUE_WORDS - 1, WRONG_VALUES);
+        }
+        let unknown = Call::new(b'Q'.into(), &[1, 0, 0]);
+        assert_rejected(&words, unknown, VALUE_WORDS, UNKNOWN_LETTER);
+        assert_rejected(&words, unknown, VALUE_WORDS + 1, WRONG_VALUES);
+    }
+}
+
 /// The number and the values of an answer, read off its line.
-fn listed(answer: Answer) -> (u32, [u32; VALUES]) {
+fn listed(answer: Answer) -> (u32, [u32; VALUE_WORDS]) {
     let line = lines::render(&answer);
     let mut fields = line.split(' ');
     let name = fields.next();
     let number = NAMES.iter().position(|&known| Some(known) == name);
     let number = number.expect("an answer with a number");
-    let mut values = [0; VALUES];
+    let mut values = [0; VALUE_WORDS];
     for (value, field) in values.iter_mut().zip(fields) {
         *value = field.parse().expect("a number");
     }
@@ -123,8 +171,8 @@ fn listed(answer: Answer) -> (u32, [u32; VALUES]) {
 }
 
 /// One call, and the number and values that it gives.
-fn told(table: &mut [u32], asked: Call) -> (u32, [u32; VALUES]) {
-    let mut values = [UNTOUCHED; VALUES];
+fn told(table: &mut [u32], asked: Call) -> (u32, [u32; VALUE_WORDS]) {
+    let mut values = [UNTOUCHED; VALUE_WORDS];
     let number = call(table, asked.letter, asked.numbers, &mut values);
     (number, values)
 }
@@ -136,6 +184,29 @@ fn with_idle_numbers(random: &mut Random, command: Command) -> Call {
         *number = random.word();
     }
     asked
+}
+
+/// No step has a fourth number: whatever stands there, the answer and every word are the same.
+#[test]
+fn the_fourth_number_is_not_looked_at() {
+    let mut random = Random::new(7);
+    let mut accepted = BTreeSet::new();
+    for profile in Profile::ALL {
+        for seed in 0..effort(6) {
+            let walk = Walk::new(seed, profile);
+            let mut table = walk.table().to_vec();
+            let mut other = table.clone();
+            for (command, _) in walk {
+                let mut asked = Call::from(command);
+                let answer = told(&mut table, asked);
+                asked.numbers[3] = random.word();
+                assert_eq!(told(&mut other, asked), answer, "{asked:?}");
+                assert!(table == other, "{asked:?}");
+                accepted.extend((answer.0 != REFUSED).then_some(asked.letter));
+            }
+        }
+    }
+    assert_eq!(accepted.len(), LETTERS.len());
 }
 
 /// Values are those of the answer's line, then zeros; numbers that a step hasn't are not looked at.
@@ -169,17 +240,17 @@ fn nothing_beside_the_buffers_is_written() {
         let mut expected = in_form_table(&mut random);
         let margin = vec![UNTOUCHED; MARGIN];
         let mut words = [&margin[..], &expected, &margin].concat();
-        let mut values = [UNTOUCHED; 3 * VALUES];
+        let mut values = [UNTOUCHED; 3 * VALUE_WORDS];
         let asked = Call::from(command);
         let number = call(
             &mut words[MARGIN..][..WORDS],
             asked.letter,
             asked.numbers,
-            &mut values[VALUES..][..VALUES],
+            &mut values[VALUE_WORDS..][..VALUE_WORDS],
         );
         let listed = listed(step(&mut expected, command));
         assert_eq!(number, listed.0, "{command:?}");
-        let around = [UNTOUCHED; VALUES];
+        let around = [UNTOUCHED; VALUE_WORDS];
         assert_eq!(
             values[..],
             [around, listed.1, around].concat(),

@@ -1,12 +1,12 @@
-//! Random lists of steps: after each step the answer and every word agree, and demand 3 holds of the
-//! proved machine's own answers.
+//! Random lists of steps: after each step the answer and every word agree, the table is in form, and
+//! demand 3 holds of the proved machine's own answers.
 
 use compare::agreement::{beside, Difference, Parting};
 use compare::coverage::{Extent, Seen};
-use compare::effort;
+use compare::{effort, in_form};
 use reference::demand::Judge;
 use reference::generate::{Profile, Walk};
-use reference::machine::Fault;
+use reference::machine::{Answer, Command, Fault};
 use reference::refusal;
 use std::thread;
 
@@ -22,7 +22,10 @@ const LISTS: [(&Profile, u64); 6] = [
 
 fn compare_list(profile: &'static Profile, seed: u64, seen: &mut Seen) {
     let mut judge = Judge::default();
+    let mut opened = false;
     let together = beside(Walk::new(seed, profile), |command, answer, table| {
+        opened |= matches!((command, answer), (Command::Open { .. }, Answer::Done));
+        assert_eq!(in_form(table), opened, "list {seed}: {command:?}");
         judge.feed(command, answer);
         seen.note(command, answer);
         seen.note_extent(table);

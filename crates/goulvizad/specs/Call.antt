@@ -21,14 +21,14 @@ use Rattle.lines.specs.declared.Parsed.the-variants.{Asks, Bad}
 
 -- how many words the value buffer has
 abbrev pub valueRoom : ℕ
-valueRoom = 5
+valueRoom = 6
 
--- what a call returns that is no answer
+-- what a call returns that is no answer: out of the way of the numbers that answers have
 abbrev pub unknownLetter : ℕ
-unknownLetter = 11
+unknownLetter = 100
 
 abbrev pub wrongValues : ℕ
-wrongValues = 12
+wrongValues = 101
 
 -- the values of an answer, with zeros where there are fewer
 unfoldable pub valueWords : Answer → List ℕ
@@ -47,9 +47,9 @@ unfoldable pub taken : List ℕ → List ℕ → Parsed → Returned
 taken t v (Asks x) = let o = step t x in returned (report (o .answer) .number) (o .table) (valueWords (o .answer))
 taken t v Bad = returned unknownLetter t v
 
--- neither does a value buffer of another length
-unfoldable pub call : List ℕ → List ℕ → ℕ → ℕ → ℕ → ℕ → Returned
-call t v letter a b c = cond (length v == valueRoom) (taken t v (stepOf letter a b c)) (returned wrongValues t v)
+-- neither does a value buffer of another length, which is looked at first; no step has a fourth number d
+unfoldable pub call : List ℕ → List ℕ → ℕ → ℕ → ℕ → ℕ → ℕ → Returned
+call t v letter a b c d = cond (length v == valueRoom) (taken t v (stepOf letter a b c)) (returned wrongValues t v)
 
 -- whether a table is in form, as a number
 abbrev pub formed : ℕ
@@ -73,11 +73,11 @@ step-taken t v x {u} {w} {y} {r} s n m =
     (λ d. returned (n d) u (m d)) ∙ ap (λ (o : Out). returned (report (o .answer) .number) (o .table) (valueWords (o .answer))) s
 
 -- what a call has to show: the buffer has another length, or what the letter asks for was done
-module _ (t v : List ℕ) (l a b c : ℕ) where
-  pub wrong-values : (length v ≡ valueRoom → ⊥) → returned wrongValues t v ≡ call t v l a b c
+module _ (t v : List ℕ) (l a b c d : ℕ) where
+  pub wrong-values : (length v ≡ valueRoom → ⊥) → returned wrongValues t v ≡ call t v l a b c d
   unfolding call
   wrong-values ne = rw (ne-eqb (length v) valueRoom ne)
 
-  pub letter-taken : {p : Parsed} {r : Returned} → length v ≡ valueRoom → stepOf l a b c ≡ p → r ≡ taken t v p → r ≡ call t v l a b c
+  pub letter-taken : {p : Parsed} {r : Returned} → length v ≡ valueRoom → stepOf l a b c ≡ p → r ≡ taken t v p → r ≡ call t v l a b c d
   unfolding call
   letter-taken e q h = h ∙ sym (rw (eq-eqb (length v) valueRoom e, q))

@@ -9,12 +9,12 @@ use rules::Answer;
 use rules::Command;
 
 // How many words the value buffer has.
-const VALUES: usize = 5;
+const VALUES: usize = 6;
 
 // What a call returns besides the numbers of the answers.
-const UNKNOWN_LETTER: u32 = 11;
+const UNKNOWN_LETTER: u32 = 100;
 
-const WRONG_VALUES: u32 = 12;
+const WRONG_VALUES: u32 = 101;
 
 // What the form check returns.
 const FORMED: u32 = 1;
@@ -28,17 +28,17 @@ fn report(a: Answer) -> Reported
     ensures { λ r. ⌜ (r .0 ≡ report a .number) × (r .1 ≡ valueWords a) ⌝ }
 {
     match a {
-        Answer::Done => Reported(0, [0, 0, 0, 0, 0]),
-        Answer::Sent(m) => Reported(1, [m, 0, 0, 0, 0]),
-        Answer::Released(m, mask) => Reported(2, [m, mask, 0, 0, 0]),
-        Answer::Held(m, mask) => Reported(3, [m, mask, 0, 0, 0]),
-        Answer::Delivered(m, i, x) => Reported(4, [m, i, x, 0, 0]),
-        Answer::Dropped(m) => Reported(5, [m, 0, 0, 0, 0]),
-        Answer::Waits(m) => Reported(6, [m, 0, 0, 0, 0]),
-        Answer::Crashed(c, i, k, lost, replayed) => Reported(7, [c, i, k, lost, replayed]),
-        Answer::Heard(b) => Reported(8, [b, 0, 0, 0, 0]),
-        Answer::Rolled(b, k, undone, replayed) => Reported(9, [b, k, undone, replayed, 0]),
-        Answer::Refused(number) => Reported(10, [number, 0, 0, 0, 0]),
+        Answer::Done => Reported(0, [0, 0, 0, 0, 0, 0]),
+        Answer::Sent(m) => Reported(1, [m, 0, 0, 0, 0, 0]),
+        Answer::Released(m, mask) => Reported(2, [m, mask, 0, 0, 0, 0]),
+        Answer::Held(m, mask) => Reported(3, [m, mask, 0, 0, 0, 0]),
+        Answer::Delivered(m, i, x) => Reported(4, [m, i, x, 0, 0, 0]),
+        Answer::Dropped(m) => Reported(5, [m, 0, 0, 0, 0, 0]),
+        Answer::Waits(m) => Reported(6, [m, 0, 0, 0, 0, 0]),
+        Answer::Crashed(c, i, k, lost, replayed) => Reported(7, [c, i, k, lost, replayed, 0]),
+        Answer::Heard(b) => Reported(8, [b, 0, 0, 0, 0, 0]),
+        Answer::Rolled(b, k, undone, replayed) => Reported(9, [b, k, undone, replayed, 0, 0]),
+        Answer::Refused(number) => Reported(10, [number, 0, 0, 0, 0, 0]),
     }
 }
 
@@ -54,6 +54,7 @@ fn take_step(t: &mut [u32], x: Command, values: &mut [u32]) -> u32
     r.0
 }
 
+// One step, by its letter. The value buffer is looked at first, then the letter; d is a number that no step has yet.
 #[no_mangle]
 pub extern "C" fn goulvizad_step(
     t: &mut [u32],
@@ -61,9 +62,10 @@ pub extern "C" fn goulvizad_step(
     a: u32,
     b: u32,
     c: u32,
+    d: u32,
     values: &mut [u32],
 ) -> u32
-    ensures { λ r. ⌜ returned r (now (t .exit)) (now (values .exit)) ≡ call (now (t .entry)) (now (values .entry)) letter a b c ⌝ }
+    ensures { λ r. ⌜ returned r (now (t .exit)) (now (values .exit)) ≡ call (now (t .entry)) (now (values .entry)) letter a b c d ⌝ }
 {
     if values.len() != VALUES {
         return WRONG_VALUES;

@@ -1,0 +1,139 @@
+//! The ten answers, and how they are read from what the C interface gives back.
+
+use crate::raw::{returned, VALUE_WORDS};
+use crate::Refusal;
+
+/// The answer to a step that is not refused.
+#[derive(Clone, Copy, Debug, PartialEq, Eq, Hash)]
+pub enum Answer {
+    /// To an opening, a degree set, a log, a checkpoint and a telling.
+    Done,
+    /// The message is held.
+    Sent {
+        /// The number given to the message.
+        message: u32,
+    },
+    /// The message is let out.
+    Released {
+        /// Which message.
+        message: u32,
+        /// Who could still revoke it: at most as many as its sender's degree.
+        mask: Mask,
+    },
+    /// The message is kept back, and no word has changed.
+    Held {
+        /// Which message.
+        message: u32,
+        /// Who could revoke it: more than its sender's degree.
+        mask: Mask,
+    },
+    /// The message has begun an interval at its receiver.
+    Delivered {
+        /// Which message.
+        message: u32,
+        /// The incarnation of the new interval.
+        incarnation: u32,
+        /// The number of the new interval.
+        number: u32,
+    },
+    /// The message rests on what was lost, and is never delivered.
+    Dropped {
+        /// Which message.
+        message: u32,
+    },
+    /// The message can't be delivered yet: its receiver has more to hear or to be told first.
+    Waits {
+        /// Which message.
+        message: u32,
+    },
+    /// The controller goes on in its next incarnation.
+    Crashed {
+        /// Who crashed.
+        controller: u32,
+        /// The incarnation that has ended.
+        incarnation: u32,
+        /// The highest interval number that is kept.
+        kept: u32,
+        /// How many intervals are lost.
+        lost: u32,
+        /// How many of those kept are replayed, from the latest checkpoint on.
+        replayed: u32,
+    },
+    /// The hearer had nothing to undo.
+    Heard {
+        /// Who heard of the crash.
+        hearer: u32,
+    },
+    /// The hearer has rolled back, and goes on in its next incarnation.
+    Rolled {
+        /// Who heard of the crash.
+        hearer: u32,
+        /// The highest interval number that is kept.
+        kept: u32,
+        /// How many intervals are undone.
+        undone: u32,
+        /// How many of those kept are replayed, from the latest checkpoint on.
+        replayed: u32,
+    },
+}
+
+/// The controllers that a release names.
+#[derive(Clone, Copy, Debug, Default, PartialEq, Eq, Hash)]
+pub struct Mask(u32);
+
+impl Mask {
+    /// The mask as a number: 2 to the power c for each controller c that it names.
+    pub fn bits(self) -> u32 {
+        self.0
+    }
+
+    /// The controllers that it names, rising.
+    pub fn controllers(self) -> impl Iterator<Item = u32> {
+        (0..u32::BITS).filter(move |controller| self.0 >> controller & 1 == 1)
+    }
+}
+
+/// What came of a step, by the number that its call returned and the values that it wrote. None where
+/// that is no answer: another number, or values that aren't zero after its own.
+pub(crate) fn read(number: u32, values: [u32; VALUE_WORDS]) -> Option<Result<Answer, Refusal>> {
+    let answer = match (number, values) {
+        (returned::DONE, [0, 0, 0, 0, 0, 0]) => Answer::Done,
+        (returned::SENT, [message, 0, 0, 0, 0, 0]) => Answer::Sent { message },
+        (returned::RELEASED, [message, mask, 0, 0, 0, 0]) => Answer::Released {
+            message,
+            mask: Mask(mask),
+        },
+        (returned::HELD, [message, mask, 0, 0, 0, 0]) => Answer::Held {
+            message,
+            mask: Mask(mask),
+        },
+        (returned::DELIVERED, [message, incarnation, number, 0, 0, 0]) => Answer::Delivered {
+            message,
+            incarnation,
+            number,
+        },
+        (returned::DROPPED, [message, 0, 0, 0, 0, 0]) => Answer::Dropped { message },
+        (returned::WAITS, [message, 0, 0, 0, 0, 0]) => Answer::Waits { message },
+        (returned::CRASHED, [controller, incarnation, kept, lost, replayed, 0]) => {
+            Answer::Crashed {
+                controller,
+                incarnation,
+                kept,
+                lost,
+                replayed,
+            }
+        }
+        (returned::HEARD, [hearer, 0, 0, 0, 0, 0]) => Answer::Heard { hearer },
+        (returned::ROLLED, [hearer, kept, undone, replayed, 0, 0]) => Answer::Rolled {
+            hearer,
+            kept,
+            undone,
+            replayed,
+        },
+        (returned::REFUSED, [number, 0, 0, 0, 0, 0]) => {
+            return Refusal::from_number(number).map(Err)
+        }
+        _ => return None,
+    };
+    Some(Ok(answer))
+}

@@ -1,0 +1,244 @@
+/*
+ * A crash in a library of four controllers, and what follows from it, told in words. It comes across
+ * every answer, and shows a refusal and the two returns that are no answers.
+ *
+ *     rt staticlib goulvizad
+ *     cc examples/recovery.c -Iinclude -Ltarget/staticlib -lgoulvizad -o recovery
+ */
+#include "goulvizad.h"
+
+#include <inttypes.h>
+#include <stdio.h>
+
+enum { ARM, DRIVE, CATALOGUE, BENCH, CONTROLLERS };
+
+static const char *const names[CONTROLLERS] = {"arm", "drive", "catalogue", "bench"};
+
+/* The house. A real one is kept where it survives: these words are all that the machine knows. */
+static uint32_t table[GOULVIZAD_TABLE_WORDS];
+
+static const char *name(uint32_t controller)
+{
+    return controller < CONTROLLERS ? names[controller] : "unknown";
+}
+
+/* The controllers that a mask names. */
+static void print_mask(uint32_t mask)
+{
+    const char *between = "";
+    uint32_t controller;
+
+    if (mask == 0)
+        printf("nobody");
+    for (controller = 0; controller < 32; controller++) {
+        if ((mask >> controller & 1) != 0) {
+            printf("%s%s", between, name(controller));
+            between = ", ";
+        }
+    }
+}
+
+/* What became of a message. */
+static void print_message(uint32_t answer, const uint32_t *v)
+{
+    printf("message %" PRIu32, v[0]);
+    switch (answer) {
+    case GOULVIZAD_SENT:
+        printf(" is sent");
+        break;
+    case GOULVIZAD_RELEASED:
+        printf(" is released, and could be revoked by ");
+        print_mask(v[1]);
+        break;
+    case GOULVIZAD_HELD:
+        printf(" is held: it could be revoked by ");
+        print_mask(v[1]);
+        break;
+    case GOULVIZAD_DELIVERED:
+        printf(" is delivered and begins interval %" PRIu32 " of incarnation %" PRIu32, v[2], v[1]);
+        break;
+    case GOULVIZAD_DROPPED:
+        printf(" is dropped: it rests on lost work");
+        break;
+    case GOULVIZAD_WAITS:
+        printf(" waits: its receiver has more to hear or to be told first");
+        break;
+    }
+}
+
+/* What became of a controller's work. */
+static void print_controller(uint32_t answer, const uint32_t *v)
+{
+    printf("%s", name(v[0]));
+    switch (answer) {
+    case GOULVIZAD_CRASHED:
+        printf(" ends incarnation %" PRIu32 "; intervals kept up to %" PRIu32, v[1], v[2]);
+        printf(", %" PRIu32 " lost, %" PRIu32 " replayed", v[3], v[4]);
+        break;
+    case GOULVIZAD_HEARD:
+        printf(" has nothing to undo");
+        break;
+    case GOULVIZAD_ROLLED:
+        printf(" rolls back; intervals kept up to %" PRIu32, v[1]);
+        printf(", %" PRIu32 " undone, %" PRIu32 " replayed", v[2], v[3]);
+        break;
+    }
+}
+
+static const char *refusal(uint32_t number)
+{
+    switch (number) {
+    case GOULVIZAD_LENGTH:
+        return "the table has another length";
+    case GOULVIZAD_FORM:
+        return "the table is not in form";
+    case GOULVIZAD_CONTROLLER:
+        return "no such controller";
+    case GOULVIZAD_MESSAGE:
+        return "no such message";
+    case GOULVIZAD_DEGREE:
+        return "not 1 to 8 controllers, or a degree above their number";
+    case GOULVIZAD_SAME_CONTROLLER:
+        return "the two controllers are equal";
+    case GOULVIZAD_STATE:
+        return "the message is not held, or not released";
+    case GOULVIZAD_LOG_COUNT:
+        return "not so many intervals to log, or none asked for";
+    case GOULVIZAD_NO_SUCH_CRASH:
+        return "no crash ended that incarnation";
+    case GOULVIZAD_ALREADY_HEARD:
+        return "that crash has been heard of";
+    case GOULVIZAD_MESSAGES_USED_UP:
+        return "the messages are used up";
+    case GOULVIZAD_PLACES_USED_UP:
+        return "the places are used up";
+    case GOULVIZAD_INCARNATIONS_USED_UP:
+        return "the incarnations are used up";
+    default:
+        return "unknown";
+    }
+}
+
+/* Says what a call returned. The two returns that are no answers leave the values as they were. */
+static void print_answer(uint32_t answer, const uint32_t *v)
+{
+    switch (answer) {
+    case GOULVIZAD_DONE:
+        printf("done");
+        break;
+    case GOULVIZAD_SENT:
+    case GOULVIZAD_RELEASED:
+    case GOULVIZAD_HELD:
+    case GOULVIZAD_DELIVERED:
+    case GOULVIZAD_DROPPED:
+    case GOULVIZAD_WAITS:
+        print_message(answer, v);
+        break;
+    case GOULVIZAD_CRASHED:
+    case GOULVIZAD_HEARD:
+    case GOULVIZAD_ROLLED:
+        print_controller(answer, v);
+        break;
+    case GOULVIZAD_REFUSED:
+        printf("refused %" PRIu32 ", %s", v[0], refusal(v[0]));
+        break;
+    case GOULVIZAD_UNKNOWN_LETTER:
+        printf("no step has this letter");
+        break;
+    case GOULVIZAD_WRONG_VALUES:
+        printf("the value buffer has another length");
+        break;
+    default:
+        printf("answer %" PRIu32 ", unknown to this program", answer);
+    }
+    printf("\n");
+}
+
+/* Does a step, says what came of it, and returns the answer. */
+static uint32_t step(const char *what, char letter, uint32_t a, uint32_t b, uint32_t c)
+{
+    uint32_t values[GOULVIZAD_VALUE_WORDS];
+    uint32_t answer;
+
+    answer = goulvizad_step(table, GOULVIZAD_TABLE_WORDS, (uint32_t)letter, a, b, c, 0, values,
+                            GOULVIZAD_VALUE_WORDS);
+    printf("%s: ", what);
+    print_answer(answer, values);
+    return answer;
+}
+
+/* The drive works on from two messages that it hasn't written to stable storage. */
+static void work(void)
+{
+    step("arm sends 7 to drive", 'S', ARM, DRIVE, 7);
+    step("release 1", 'R', 1, 0, 0);
+    step("deliver 1", 'D', 1, 0, 0);
+    step("arm sends 8 to drive", 'S', ARM, DRIVE, 8);
+    step("release 2", 'R', 2, 0, 0);
+    step("deliver 2", 'D', 2, 0, 0);
+
+    /* What it sends rests on that work, and its releases say so. Message 4 is long on its way. */
+    step("drive sends 9 to catalogue", 'S', DRIVE, CATALOGUE, 9);
+    step("release 3", 'R', 3, 0, 0);
+    step("deliver 3", 'D', 3, 0, 0);
+    step("drive sends 4 to bench", 'S', DRIVE, BENCH, 4);
+    step("release 4", 'R', 4, 0, 0);
+
+    /* Two could revoke message 5, and the degree is 1: one of them has to write its work first. */
+    step("catalogue sends 5 to arm", 'S', CATALOGUE, ARM, 5);
+    if (step("release 5", 'R', 5, 0, 0) == GOULVIZAD_HELD) {
+        step("catalogue logs 1", 'L', CATALOGUE, 1, 0);
+        step("release 5", 'R', 5, 0, 0);
+    }
+    step("deliver 5", 'D', 5, 0, 0);
+    step("bench sends 6 to drive", 'S', BENCH, DRIVE, 6);
+    step("release 6", 'R', 6, 0, 0);
+}
+
+/* The drive crashes and works on, and the others hear of it one by one. */
+static void crash(void)
+{
+    step("drive crashes", 'X', DRIVE, 0, 0);
+    step("deliver 6", 'D', 6, 0, 0);
+    step("drive sends 2 to arm", 'S', DRIVE, ARM, 2);
+    step("release 7", 'R', 7, 0, 0);
+
+    /* The arm's work rests on the ended incarnation: it must hear of the crash first. */
+    if (step("deliver 7", 'D', 7, 0, 0) == GOULVIZAD_WAITS) {
+        step("arm hears of drive", 'H', ARM, DRIVE, 0);
+        step("deliver 7", 'D', 7, 0, 0);
+    }
+
+    /* Whatever rests on lost work is undone or dropped, and nothing else. */
+    step("catalogue hears of drive", 'H', CATALOGUE, DRIVE, 0);
+    step("bench hears of drive", 'H', BENCH, DRIVE, 0);
+    step("deliver 4", 'D', 4, 0, 0);
+
+    /* A refused step changes nothing. */
+    step("bench hears of drive", 'H', BENCH, DRIVE, 0);
+}
+
+/* Two faults of a caller, which change nothing either. */
+static void no_steps(void)
+{
+    uint32_t values[GOULVIZAD_VALUE_WORDS];
+    uint32_t answer;
+
+    step("a letter of no step", 'Q', 0, 0, 0);
+    answer = goulvizad_step(table, GOULVIZAD_TABLE_WORDS, 'C', ARM, 0, 0, 0, values,
+                            GOULVIZAD_VALUE_WORDS - 1);
+    printf("a value buffer too short: ");
+    print_answer(answer, values);
+}
+
+int main(void)
+{
+    /* A table that was saved in form is a house that goes on. This one is all zeros. */
+    if (goulvizad_in_form(table, GOULVIZAD_TABLE_WORDS) == 0)
+        if (step("open a house of four, degree 1", 'O', CONTROLLERS, 1, 0) != GOULVIZAD_DONE)
+            return 1;
+    work();
+    crash();
+    no_steps();
+    return 0;
+}
