@@ -4,7 +4,6 @@ ghost use Prim.Native.Nat.{_≤_};
 ghost use lib.ListN.{length};
 use printing::ANSWER_ROOM;
 use session::LINE_ROOM;
-use table::TABLE_WORDS;
 
 // With its table the program fits on a stack of 128 KB.
 const READ_ROOM: usize = 512;
@@ -49,8 +48,25 @@ fn write_out(out: &[u8], n: usize) -> bool
     false
 }
 
+// Bytes of the input, one read of them; answers how many there are, 0 at its end, and less than 0 where the read failed.
+fn read_in(bytes: &mut [u8]) -> isize {
+    // as above
+    let mut turns = u64::MAX;
+    while turns > 0 {
+        let got = libc::read(libc::STDIN_FILENO, bytes);
+        if got >= 0 {
+            return got;
+        }
+        if !again(b"house: read") {
+            return -1;
+        }
+        turns -= 1;
+    }
+    -1
+}
+
 fn main() {
-    let mut table = [0u32; TABLE_WORDS];
+    let mut table = [0u32; 15152];
     let mut line = [0u8; LINE_ROOM];
     let mut bytes = [0u8; READ_ROOM];
     let mut out = [0u8; OUT_ROOM];
@@ -58,25 +74,20 @@ fn main() {
     // as above; nothing says that the input ends
     let mut turns = u64::MAX;
     while turns > 0 {
-        turns -= 1;
-        let got = libc::read(libc::STDIN_FILENO, &mut bytes);
+        let got = read_in(&mut bytes);
         if got < 0 {
-            if !again(b"house: read") {
-                return;
-            }
-            continue;
-        }
-        if got == 0 {
-            let owed = session::finish(&mut table, &line, kept, &mut out);
-            write_out(&out, owed);
             return;
         }
         let n = io::count(got, &bytes);
-        let p = session::take_bytes(&mut table, &mut line, kept, &bytes[..n], &mut out);
+        let p = session::serve(&mut table, &mut line, kept, &bytes[..n], &mut out);
         kept = p.line;
         let owed = p.owed;
         if !write_out(&out, owed) {
             return;
         }
+        if n == 0 {
+            return;
+        }
+        turns -= 1;
     }
 }

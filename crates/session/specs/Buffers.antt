@@ -6,6 +6,7 @@ use mathlib.Core.List.{List, [], _∷_, _++_, foldl, foldl-append}
 use mathlib.Core.Logic.{_≢_}
 use Prim.Native.Nat.{ℕ, suc, _+_, _≤_, _<_}
 use native.Mathlib.Omega.{arith}
+use native.Mathlib.Nat.{suc-ne-zero}
 use native.Mathlib.Numerals.{add-one}
 use lib.ListN.{length, getD, set, take, length-append}
 use lib.Seq.{take-all, take-suc, take-suc-set, take-append-le, length-take-le}
@@ -19,7 +20,7 @@ use Rattle.lines.specs.declared.Parsed.the-variants.{Asks, Bad}
 use Rattle.printing.specs.Parts.{Short}
 use Rattle.printing.specs.Writing.{written-take}
 use Rattle.session.specs.Program.{reply, replyTo, firstTable}
-use Rattle.session.specs.Taking.{Session, session, begun, lineRoom, ended, taken, takenAll, finished, paid, after}
+use Rattle.session.specs.Taking.{Session, session, begun, lineRoom, ended, taken, takenAll, finished, served, paid, after}
 
 -- a line that asked for x is answered by a
 pub ended-asked : (t l : List ℕ) {w o u : List ℕ} {at r : ℕ} {x : Command} {a : Answer} → parse l ≡ Asks x → out a w ≡ step t x → Short o at (answerLine a) u r → at ≤ length o →
@@ -75,6 +76,17 @@ pub finished-more : (t line : List ℕ) (n : ℕ) {r : Session} → n ≤ length
 unfolding finished
 finished-more t line n l e h = rw (length-take-le n line l, ne-eqb n 0 e) h
 
+-- a read that has no bytes, and one that has some
+pub served-none : (s : Session) (bytes : List ℕ) {r : Session} → length bytes ≡ 0 → r ≡ finished s → r ≡ served s bytes
+unfolding served
+served-none s [] e h = h
+served-none s (b ∷ bytes) e h = absurd (suc-ne-zero (length bytes) e)
+
+pub served-some : (s : Session) (bytes : List ℕ) {r : Session} → length bytes ≢ 0 → r ≡ takenAll s bytes → r ≡ served s bytes
+unfolding served
+served-some s [] ne h = absurd (ne refl)
+served-some s (b ∷ bytes) ne h = h
+
 -- The loop of the program: its table and the bytes of a line that hasn't ended are those after some reads.
 pub record Reached (t line : List ℕ) : Type 0 where
   pub reads : List (List ℕ)
@@ -83,8 +95,10 @@ pub record Reached (t line : List ℕ) : Type 0 where
 pub reached-first : Reached firstTable []
 reached-first = record { reads = []; here = refl }
 
-pub reached-next : {t l w k owed : List ℕ} (bytes : List ℕ) → Reached t l → session w k owed ≡ takenAll (session t l []) bytes → Reached w k
-reached-next bytes f e = record {
+pub reached-next : {t l w k owed : List ℕ} (bytes : List ℕ) → Reached t l → length bytes ≢ 0 → session w k owed ≡ served (session t l []) bytes → Reached w k
+reached-next {t} {l} bytes f ne e = record {
   reads = f .reads ++ bytes ∷ [];
-  here = ap paid (e ∙ ap (λ (s : Session). takenAll s bytes) (f .here)) ∙ sym (foldl-append (λ (s : Session) (r : List ℕ). paid (takenAll s r)) begun (f .reads) (bytes ∷ []));
+  here =
+      ap paid (e ∙ sym (served-some (session t l []) bytes ne refl) ∙ ap (λ (s : Session). takenAll s bytes) (f .here))
+      ∙ sym (foldl-append (λ (s : Session) (r : List ℕ). paid (takenAll s r)) begun (f .reads) (bytes ∷ []));
 }

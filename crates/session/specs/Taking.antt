@@ -32,13 +32,18 @@ ended s = let r = reply (s .table) (s .line) in session (r .table) [] (s .owed +
 unfoldable pub taken : Session → ℕ → Session
 taken s b = cond (b == lineFeed) (ended s) (session (s .table) (take lineRoom (s .line ++ b ∷ [])) (s .owed))
 
--- the bytes of a read
+-- some bytes
 abbrev pub takenAll : Session → List ℕ → Session
 takenAll s bytes = foldl taken s bytes
 
 -- the input has ended
 unfoldable pub finished : Session → Session
 finished s = cond (length (s .line) == 0) s (ended s)
+
+-- a read: its bytes; where it has none, the input has ended
+unfoldable pub served : Session → List ℕ → Session
+served s [] = finished s
+served s (b ∷ bytes) = takenAll s (b ∷ bytes)
 
 -- what was owed has been written out
 abbrev pub paid : Session → Session

@@ -4,7 +4,7 @@ ghost use mathlib.Core.List.{[]};
 ghost use Prim.Native.Nat.{_+_, _*_, _≤_};
 ghost use lib.ListN.{length, take};
 ghost use Rattle.printing.specs.Parts.{answerRoom};
-ghost use Rattle.session.specs.Taking.{session, lineRoom, ended, taken, takenAll, finished, held};
+ghost use Rattle.session.specs.Taking.{session, lineRoom, ended, taken, takenAll, finished, served, held};
 use lines::LINE_FEED;
 use lines::LONGEST_LINE;
 use lines::Parsed;
@@ -54,14 +54,8 @@ fn take_byte(t: &mut [u32], line: &mut [u8], n: usize, b: u8, out: &mut [u8], at
     }
 }
 
-// The bytes of a read, after n bytes of a line that hasn't ended: their answers stand at the start of `out`.
-pub fn take_bytes(
-    t: &mut [u32],
-    line: &mut [u8],
-    n: usize,
-    bytes: &[u8],
-    out: &mut [u8],
-) -> Progress
+// Some bytes, after n bytes of a line that hasn't ended: their answers stand at the start of `out`.
+fn take_bytes(t: &mut [u32], line: &mut [u8], n: usize, bytes: &[u8], out: &mut [u8]) -> Progress
     requires { ⌜ (length (now line) ≡ lineRoom) × (n ≤ lineRoom) × (answerRoom * length (now bytes) ≤ length (now out)) ⌝ }
     ensures { λ r. ⌜ held (now (t .exit)) (now (line .exit)) (r .line) (now (out .exit)) (r .owed) ≡ takenAll (session (now (t .entry)) (take n (now (line .entry))) []) (now (bytes .entry)) ⌝ }
     ensures { λ r. ⌜ (r .line ≤ lineRoom) × (r .owed ≤ length (now (out .exit))) ⌝ }
@@ -76,7 +70,7 @@ pub fn take_bytes(
 }
 
 // The input has ended after n bytes of a line: a last line without line feed counts. Says how many bytes of `out` are owed.
-pub fn finish(t: &mut [u32], line: &[u8], n: usize, out: &mut [u8]) -> usize
+fn finish(t: &mut [u32], line: &[u8], n: usize, out: &mut [u8]) -> usize
     requires { ⌜ (n ≤ length (now line)) × (answerRoom ≤ length (now out)) ⌝ }
     ensures { λ r. ⌜ session (now (t .exit)) [] (take r (now (out .exit))) ≡ finished (session (now (t .entry)) (take n (now (line .entry))) []) ⌝ }
     ensures { λ r. ⌜ r ≤ length (now (out .exit)) ⌝ }
@@ -85,4 +79,21 @@ pub fn finish(t: &mut [u32], line: &[u8], n: usize, out: &mut [u8]) -> usize
         return 0;
     }
     end_line(t, line, n, out, 0)
+}
+
+// A read, after n bytes of a line that hasn't ended; one without bytes is the end of the input. Its answers stand at the start
+// of `out`.
+pub fn serve(t: &mut [u32], line: &mut [u8], n: usize, bytes: &[u8], out: &mut [u8]) -> Progress
+    requires { ⌜ (length (now line) ≡ lineRoom) × (n ≤ lineRoom) × (answerRoom * length (now bytes) ≤ length (now out)) × (answerRoom ≤ length (now out)) ⌝ }
+    ensures { λ r. ⌜ held (now (t .exit)) (now (line .exit)) (r .line) (now (out .exit)) (r .owed) ≡ served (session (now (t .entry)) (take n (now (line .entry))) []) (now (bytes .entry)) ⌝ }
+    ensures { λ r. ⌜ (r .line ≤ lineRoom) × (r .owed ≤ length (now (out .exit))) ⌝ }
+{
+    if bytes.len() == 0 {
+        let owed = finish(t, line, n, out);
+        return Progress {
+            line: 0,
+            owed: owed,
+        };
+    }
+    take_bytes(t, line, n, bytes, out)
 }

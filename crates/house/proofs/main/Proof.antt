@@ -1,7 +1,7 @@
 -- The table and the line that hasn't ended are those after some reads (Reached): before the first, and after each one more. The
 -- counts stay within their buffers, and the turns fall.
 use borrow.Author.Needs.{needs}
-use mathlib.Core.Path.{_≡_}
+use mathlib.Core.Path.{_≡_, _∙_}
 use Prim.Native.Nat.{_^_, _≤_, _<_}
 use native.Mathlib.Omega.{arith}
 use lib.ListN.{length, take}
@@ -13,37 +13,31 @@ use Rattle.house.proofs.main.Statement.{statement}
 use Rattle.house.proofs.main.Tie as tie
 
 abbrev Inv-loop : tie.InvT-loop
-Inv-loop table₀ line₀ bytes₀ out₀ kept₀ turns₀ t12 table line bytes out kept turns =
+Inv-loop table₀ line₀ bytes₀ out₀ kept₀ turns₀ table line bytes out kept turns =
     Reached table (take kept line) × (length table ≡ tableWords) × (length line ≡ lineRoom) × (length bytes ≡ readRoom) × (length out ≡ outRoom) × (kept ≤ lineRoom) × (turns < 2 ^ 64)
 
 abbrev μ-loop : tie.MeasureT-loop
-μ-loop table₀ line₀ bytes₀ out₀ kept₀ turns₀ t12 table line bytes out kept turns = turns
+μ-loop table₀ line₀ bytes₀ out₀ kept₀ turns₀ table line bytes out kept turns = turns
 
 loop-holds : tie.Need-loop-holds Inv-loop μ-loop
 loop-holds c = (reached-first, search needs, search needs, search needs, search needs, search needs, search needs)
 
 loop-again : tie.Need-loop-again Inv-loop μ-loop
 loop-again c =
-    let inv = c .before .before .before .before .before .before .before .before .loop .inv in
-    (inv .0, inv .1, inv .2, search needs, inv .4, inv .5, omega (arith, inv .6))
-
-loop-again-2 : tie.Need-loop-again-2 Inv-loop μ-loop
-loop-again-2 c =
-    let taken = c .before .before .before .before .before .before in
-    let counted = taken .before .before .before .before .before in
-    let got = counted .before .before .before .before .before in
+    let served = c .before .before .before .before .before .before .before in
+    let counted = served .before .before .before .before .before in
+    let got = counted .before .before .before .before in
     let inv = got .before .before .before .loop .inv in
-    let e = taken .take-bytes .ensures in
-    (reached-next (take (counted .count .result) (got .read .last .1 .0)) (inv .0) (e .0), search needs, search needs, search needs, search needs, e .1 .0, omega (arith, inv .6))
+    let e = served .serve .ensures in
+    let n = counted .count in
+    (reached-next (take (n .result) (got .read-in .last .0)) (inv .0) (λ z. c .if3 .left (n .ensures .0 .1 ∙ z)) (e .0), search needs, search needs, search needs, search needs, e .1 .0, omega (arith, inv .6))
 
 pub main-spec : {M : Type 1} → statement M
 main-spec =
     tie.close
     (tie.spec
-    Inv-loop μ-loop loop-holds (λ c. search needs) (λ c. search needs)
-    (λ c κs. search needs) (λ c. search needs) (λ c κs. search needs) (λ c. search needs) (λ c. search needs)
-    loop-again (λ c. search needs) (λ c. search needs) (λ c. search needs) (λ c κs. search needs)
-    (λ c. search needs) (λ c κs. search needs) (λ c. search needs) (λ c. search needs) (λ c κs. search needs)
-    (λ c. search needs) (λ c. search needs) (λ c. search needs) (λ c. search needs) (λ c. search needs)
-    (λ c κs. search needs) (λ c. search needs) (λ c κs. search needs) (λ c. search needs) (λ c. search needs)
-    loop-again-2 (λ c. search needs))
+    Inv-loop μ-loop loop-holds (λ c. search needs) (λ c κs. search needs)
+    (λ c. search needs) (λ c. search needs) (λ c κs. search needs) (λ c. search needs) (λ c. search needs)
+    (λ c. search needs) (λ c. search needs) (λ c. search needs) (λ c κs. search needs) (λ c. search needs)
+    (λ c κs. search needs) (λ c. search needs) (λ c. search needs) (λ c. search needs) (λ c. search needs)
+    loop-again (λ c. search needs))
