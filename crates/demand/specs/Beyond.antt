@@ -1,5 +1,6 @@
--- Beyond demand 3, also for every list: a done opening forgets what stood in the table, a release names no controller without
--- reason, no message is dropped without cause, and where no crash is accepted nothing is undone or dropped.
+-- Beyond demand 3, also for every list: a done opening forgets what stood in the table, each controller that a release names
+-- owns what the sender doesn't know to be stable, no delivery answers `dropped` without cause, and where no crash is accepted no
+-- call answers `rolled` or `dropped`.
 use mathlib.Core.Path.{_≡_, refl, sym, _∙_, ap, subst}
 use mathlib.Core.Bool.{true, false}
 use mathlib.Core.List.{List, [], _∷_, _++_, append-nil}
@@ -102,8 +103,8 @@ module _ {n : ℕ} {μ : Model} {h : History} (v : Inv n μ h) (u : Unheard h) w
   none-undone o (answersDropped m) = none-dropped o
 
 module _ (t : List ℕ) (n k : ℕ) (l : List Call) (O : FromOpening t n k l) where
-  -- "each release names the controllers that could still revoke it": every one that it names has its reason, by what the sender
-  -- knows
+  -- "each release names the controllers that could still revoke it", by what the sender knows: every one that it names has its
+  -- reason
   pub release-reasons : (before after : List Call) (m mask : ℕ) → l ≡ before ++ asks (Release m) ∷ after →
       step (upTo t n k before .table) (Release m) .answer ≡ Released m mask →
       (c : ℕ) → named mask c ≡ true → Reason (upTo t n k before) m c

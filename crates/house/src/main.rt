@@ -11,8 +11,8 @@ const READ_ROOM: usize = 512;
 // Each byte that is read may end a line.
 const OUT_ROOM: usize = READ_ROOM * ANSWER_ROOM;
 
-// Whether a call that moved no byte is to be made again: a signal came first. Where it failed it says so, unless nobody reads
-// the output any more, which is no fault.
+// Whether a call that has failed is to be made again: a signal came first. Otherwise it says why, unless nobody reads the output
+// any more, which is no fault.
 fn again(what: &[u8]) -> bool {
     let error = os::errno();
     if error == libc::EINTR {
@@ -36,13 +36,17 @@ fn write_out(out: &[u8], n: usize) -> bool
             return true;
         }
         let rest = &out[done..n];
-        let put = io::count(libc::write(libc::STDOUT_FILENO, rest), rest);
+        let put = libc::write(libc::STDOUT_FILENO, rest);
         if put == 0 {
+            io::write_all(libc::STDERR_FILENO, b"house: write: nothing was taken\n");
+            return false;
+        }
+        if put < 0 {
             if !again(b"house: write") {
                 return false;
             }
         }
-        done += put;
+        done += io::count(put, rest);
         turns -= 1;
     }
     false

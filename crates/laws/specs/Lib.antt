@@ -6,3 +6,4 @@ pub mod Chain
 pub mod Found
 pub mod Answering
 pub mod Mask
+pub mod Kept

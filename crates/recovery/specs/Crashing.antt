@@ -24,7 +24,7 @@ use Rattle.laws.specs.Facts.{form, below-8, controllerForm}
 use Rattle.laws.specs.Allowed.{crashAllowed}
 use Rattle.laws.specs.Answering.{Lent, granted}
 use Rattle.laws.specs.Chain.{chain-of, Starts, starts-put, starts-words, starts-causes}
-use Rattle.recovery.specs.Kept.{then-start}
+use Rattle.laws.specs.Kept.{then-start}
 
 -- The code has read n, how many controllers there are, k, the stable count, and i, the incarnation: which refusal applies.
 module _ (t : List ℕ) (c n : ℕ) (en : n ≡ state t Size) where

@@ -27,7 +27,8 @@ use Rattle.laws.specs.Agree.{lowestCondemned-same, replayed-same}
 use Rattle.laws.specs.Found.{lowest}
 use Rattle.laws.specs.Answering.{Lent, granted-by}
 use Rattle.laws.specs.Chain.{Chain, chain-of, chain-words, Starts, chain-noted}
-use Rattle.recovery.specs.Rolling.{agree-rolled, undoing}
+use Rattle.laws.specs.Kept.{agree-rolled}
+use Rattle.recovery.specs.Rolling.{undoing}
 
 -- NOTING
 -- two words were put, one after the other

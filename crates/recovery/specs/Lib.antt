@@ -1,4 +1,3 @@
-pub mod Kept
 pub mod Crashing
 pub mod Rolling
 pub mod Hearing

@@ -1,18 +1,16 @@
 -- What rolling back counts on, and what it leaves.
 use mathlib.Core.Path.{_≡_, ap, _∙_}
-use mathlib.Core.Bool.{false}
 use mathlib.Core.List.{List}
 use Prim.Native.Nat.{ℕ, _-_, _≤_}
 use Rattle.table.specs.Field.{State, LiveCount}
-use Rattle.table.specs.Words.{state, words, words-same, Agree, agree-words}
+use Rattle.table.specs.Words.{state, words, words-same, agree-words}
 use Rattle.table.specs.Numbering.{numberOf}
 use Rattle.rules.specs.Shared.{loggedTo, causes, offeredAgain, startAnew, replayed}
 use Rattle.rules.specs.Steps.{After, after, rolledBack}
 use Rattle.rules.specs.Step.{out, written}
 use Rattle.rules.specs.declared.Answer.the-variants.{Rolled}
-use Rattle.laws.specs.Agree.{agree-loggedTo}
 use Rattle.laws.specs.Chain.{Chain, Starts, starts-words, starts-causes, starts-loggedTo}
-use Rattle.recovery.specs.Kept.{agree-settled, agree-start, then-start}
+use Rattle.laws.specs.Kept.{agree-offered, then-start}
 
 -- t₁ has the j oldest intervals logged, t₂ also the causes' states.
 module _ (t t₁ : List ℕ) (hearer j k : ℕ) (s : Starts (state t) hearer k) (e₁ : t₁ ≡ words (loggedTo (state t) hearer j)) where
@@ -33,7 +31,7 @@ module _ (t t₁ : List ℕ) (hearer j k : ℕ) (s : Starts (state t) hearer k) 
     settled = causes kept hearer k (offeredAgain kept hearer)
 
     settled-words : t₂ ≡ words settled
-    settled-words = e₂ ∙ words-same _ _ (agree-settled (state t₁) kept hearer k false kept-starts (agree-words kept e₁))
+    settled-words = e₂ ∙ words-same _ _ (agree-offered (state t₁) kept hearer k kept-starts (agree-words kept e₁))
 
     settled-starts : Starts settled hearer k
     settled-starts = starts-causes kept hearer k k _ (starts-loggedTo (state t) hearer k j s)
@@ -46,13 +44,6 @@ module _ (t t₁ : List ℕ) (hearer j k : ℕ) (s : Starts (state t) hearer k) 
     undone-words t₃ all e₃ =
         then-start settled hearer k settled-starts settled-words e₃
         ∙ ap (λ j. let kept = loggedTo (state t) hearer j in words (startAnew (causes kept hearer k (offeredAgain kept hearer)) hearer k)) all
-
--- the same on states with the same words
-pub agree-rolled : (σ τ : State) (hearer k : ℕ) → Starts σ hearer k → Agree σ τ → Agree (rolledBack σ hearer k) (rolledBack τ hearer k)
-unfolding rolledBack
-agree-rolled σ τ hearer k s e =
-    let l = starts-loggedTo σ hearer k k s in
-    agree-start _ _ hearer k (starts-causes _ hearer k k _ l) (agree-settled _ _ hearer k false l (agree-loggedTo σ τ e hearer k (s .chain .named)))
 
 -- what is answered and left where the intervals of the hearer from place k on are undone
 abbrev pub undoing : State → ℕ → ℕ → After

@@ -6,10 +6,11 @@ use Prim.Native.Nat.{ℕ}
 use lib.Count.{onesIn, ones}
 use Rattle.base.specs.Ranges.{anyb}
 use Rattle.base.specs.Lists.{tab}
-use Rattle.table.specs.Field.{State, Known, End, LiveCount, StableCount, MessagePairNumber, same}
+use Rattle.table.specs.Field.{State, Known, End, LiveCount, StableCount, MessageState, SendingNumber, MessagePairNumber, same}
 use Rattle.table.specs.Change.{blank, put, putPart, clearPlaces, putStates}
 use Rattle.table.specs.Numbering.{numberOf, used, messageOf}
 use Rattle.rules.specs.Vector.{placeVector, messageVector, flat, knownStable, filterPair, filtered, condemnedPair, condemned, maskTo, mask}
+use Rattle.rules.specs.Form.{stateHeld, stateDropped}
 use Rattle.rules.specs.Shared.{placeRecord, logged, loggedTo, causedIn, causesIn, causes, offeredAgain, newVector, placed, entered, restarted, heldOrDropped, dropHeld, startAnew}
 use Rattle.rules.specs.Steps.{letOut, release, rolledBack}
 use Rattle.rules.specs.Report.{report}
@@ -24,6 +25,10 @@ since-logged = put (put blank (MessagePairNumber 0 1) 2) (Known 0 1 0) 2
 abbrev two-unstable : State
 two-unstable = put (put blank (LiveCount 0) 3) (StableCount 0) 1
 
+-- and message 1, in record 0, which it sends from the third, is held
+abbrev one-held : State
+one-held = put (put two-unstable (MessageState 0) stateHeld) (SendingNumber 0) 3
+
 abbrev told-apart : List Row
 told-apart =
     -- "Counting stored pairs at release instead of filtered ones": it would be held.
@@ -32,6 +37,8 @@ told-apart =
     ∷ ((rolledBack two-unstable 0 2 (End 0 0 0) ∷ []) is (0 ∷ []))
     -- "Not logging kept intervals on rollback": they would not be known to be stable.
     ∷ ((rolledBack two-unstable 0 2 (Known 0 0 0) ∷ []) is (2 ∷ []))
+    -- A start anew that leaves held messages held: what was sent from an undone interval could still be released.
+    ∷ ((rolledBack one-held 0 2 (MessageState 0) ∷ []) is (stateDropped ∷ []))
     ∷ []
 
 pub told-apart-hold : map (λ (x : Row). x .given) told-apart ≡ map (λ (x : Row). x .said) told-apart

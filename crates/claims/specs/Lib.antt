@@ -1,0 +1,11 @@
+pub mod FormSame
+pub mod StepSame
+pub mod Refused
+pub mod Checkpoint
+pub mod Counted
+pub mod Sample
+pub mod Along
+pub mod Judged
+pub mod Echo
+pub mod Claims
+pub mod WrongMachines

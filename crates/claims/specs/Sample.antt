@@ -1,0 +1,109 @@
+-- A short run on tables of words of which demand 3 speaks, with its answers.
+use mathlib.Core.Path.{_≡_, refl, ap, _∙_}
+use mathlib.Core.Bool.{Bool, true, false, true≢false, _&&_, and-false}
+use mathlib.Core.List.{List, [], _∷_, _++_, map}
+use Prim.Native.Nat.{ℕ}
+use lib.ListN.{length, set}
+use borrow.Author.Tests.{eq-eqb}
+use Rattle.base.specs.Lists.{tab}
+use Rattle.base.specs.Cases.{firstOf}
+use Rattle.table.specs.Field.{State, OfMessage, OfPlace, SentCount, LiveCount, MessageState, Known, End, messageHead}
+use Rattle.table.specs.Layout.{controllers, tableWords}
+use Rattle.table.specs.Words.{words}
+use Rattle.rules.specs.Limits.{house}
+use Rattle.rules.specs.Vector.{Vector, pair, noPair, flat}
+use Rattle.rules.specs.Form.{stateHeld, stateReleased, stateDelivered, stateLost}
+use Rattle.rules.specs.Shared.{placeRecord}
+use Rattle.rules.specs.Steps.{refusing, openHouse, stepOpen, messageRecord}
+use Rattle.rules.specs.Step.{perform, looksAtForm, stepOn, lent, step, Call, asks, stepCall}
+use Rattle.rules.specs.declared.Answer.{Answer}
+use Rattle.rules.specs.declared.Answer.the-variants.{Done, Sent, Released, Delivered, Crashed, Heard, Rolled}
+use Rattle.rules.specs.declared.Command.{Command}
+use Rattle.rules.specs.declared.Command.the-variants.{Open, Send, Release, Deliver, Crash, Hear}
+use Rattle.listing.specs.Quiet.{steps, answers, quiet-put, quiet-part, quiet-causes, quiet-anew, quiet-rolled, quiet-opened, Run, end, next, run-answers, further}
+use Rattle.history.specs.Demand.{justOpened, FromOpening}
+use Rattle.history.specs.Examples.{ListingLine, line}
+use Rattle.image.specs.Stepped.{opening-done}
+use Rattle.claims.specs.StepSame.{step-words}
+
+-- after the opening of a house of three, all with the degree 1
+abbrev pub sample : List ListingLine
+sample =
+    -- 0 to 2: message 1 from controller 0 to 1, which begins (1;0,2)
+    line (Send 0 1 7) (Sent 1) ∷ line (Release 1) (Released 1 0) ∷ line (Deliver 1) (Delivered 1 0 2)
+    -- 3 to 5: message 2 from (1;0,2), let out with controller 1 named, begins (2;0,2)
+    ∷ line (Send 1 2 9) (Sent 2) ∷ line (Release 2) (Released 2 2) ∷ line (Deliver 2) (Delivered 2 0 2)
+    -- 6: controller 1 crashes, and (1;0,2) is lost
+    ∷ line (Crash 1) (Crashed 1 0 1 1 0)
+    -- 7 and 8: controllers 0 and 2 hear of it; controller 2 undoes (2;0,2)
+    ∷ line (Hear 0 1 0) (Heard 0) ∷ line (Hear 2 1 0) (Rolled 2 1 1 0)
+    ∷ []
+
+abbrev pub asked : List ListingLine → List Command
+asked l = map (λ (x : ListingLine). x .asked) l
+
+abbrev pub answered : List ListingLine → List Answer
+answered l = map (λ (x : ListingLine). x .answered) l
+
+-- On states: each line has the words that its step writes; the rest is computed.
+pub sample-run : Run (openHouse 3 1) (asked sample) (answered sample)
+unfolding steps
+sample-run =
+    let none : Vector = tab controllers (λ (_ : ℕ). noPair) in
+    let one : Vector = set none 1 (pair 0 2) in
+    let two : Vector = set one 2 (pair 0 2) in
+    next (λ q. quiet-put SentCount 1 refl (quiet-part (OfMessage 0 0) 0 (messageRecord stateHeld 0 1 0 1 7 none) (λ _. refl) q)) refl refl  -- S 0 1 7
+    (next (λ q. quiet-put (MessageState 0) stateReleased refl (quiet-part (OfMessage 0 0) messageHead (flat none) (λ _. refl) q)) refl refl  -- R 1
+    (next (λ q. quiet-put (MessageState 0) stateDelivered refl (quiet-put (LiveCount 1) 2 refl (quiet-part (OfPlace 1 1 0) 0 (placeRecord 0 2 1 0 one) (λ _. refl) q))) refl refl  -- D 1
+    (next (λ q. quiet-put SentCount 2 refl (quiet-part (OfMessage 1 0) 0 (messageRecord stateHeld 1 2 0 2 9 one) (λ _. refl) q)) refl refl  -- S 1 2 9
+    (next (λ q. quiet-put (MessageState 1) stateReleased refl (quiet-part (OfMessage 1 0) messageHead (flat one) (λ _. refl) q)) refl refl  -- R 2
+    (next (λ q. quiet-put (MessageState 1) stateDelivered refl (quiet-put (LiveCount 2) 2 refl (quiet-part (OfPlace 2 1 0) 0 (placeRecord 0 2 2 0 two) (λ _. refl) q))) refl refl  -- D 2
+    (next (λ q. quiet-anew 1 1 refl refl refl (quiet-put (End 1 1 0) 1 refl (quiet-causes 1 1 (λ _. stateLost) (further 2 refl _) q))) refl refl  -- X 1
+    (next (λ q. quiet-put (Known 0 1 0) 1 refl (quiet-put (End 0 1 0) 1 refl q)) refl refl  -- H 0 1 0
+    (next (λ q. quiet-rolled 2 1 refl refl refl refl (further 2 refl _) (quiet-put (Known 2 1 0) 1 refl (quiet-put (End 2 1 0) 1 refl q))) refl refl  -- H 2 1 0
+    end))))))))
+
+-- ON TABLES OF WORDS
+-- the calls of some steps, and the answers to calls, each on the table that the last one left
+abbrev pub calls : List Command → List Call
+calls xs = map asks xs
+
+unfoldable pub answersFrom : List ℕ → List Call → List Answer
+answersFrom t [] = []
+answersFrom t (x ∷ l) = let o = stepCall t x in o .answer ∷ answersFrom (o .table) l
+
+-- on the table of a state they are those on the state
+pub answers-words : (σ : State) (xs : List Command) → answersFrom (words σ) (calls xs) ≡ answers σ xs
+unfolding answers answersFrom stepCall
+answers-words σ [] = refl
+answers-words σ (x ∷ xs) =
+    ap (λ o. o .answer ∷ answersFrom (o .table) (calls xs)) (step-words σ x) ∙ ap (λ l. stepOn house σ x .answer ∷ l) (answers-words (stepOn house σ x .left) xs)
+
+-- no call of a list opens a house: every one looks at the form
+unfoldable allLook : List Call → Bool
+allLook [] = true
+allLook (asks x ∷ l) = looksAtForm x && allLook l
+
+an-opening : (before after : List Call) (n k : ℕ) → allLook (before ++ asks (Open n k) ∷ after) ≡ false
+unfolding allLook
+an-opening [] after n k = refl
+an-opening (asks x ∷ before) after n k = rw (an-opening before after n k) (and-false (looksAtForm x))
+
+-- The sample run, from every table of the right length.
+module _ (t : List ℕ) (long : length t ≡ tableWords) where
+  -- the opening is done
+  pub sample-opens : step t (Open 3 1) .answer ≡ Done
+  unfolding step lent stepOn perform stepOpen refusing firstOf
+  sample-opens = rw (eq-eqb (length t) tableWords long)
+
+  -- "in a house just opened": and there is no opening in the list
+  pub sample-from-opening : FromOpening t 3 1 (calls (asked sample))
+  unfolding allLook
+  sample-from-opening = record { done = sample-opens; no-opening = λ before after n k e. absurd (true≢false (ap allLook e ∙ an-opening before after n k)) }
+
+  -- the answers
+  pub sample-answers : answersFrom (justOpened t 3 1 .table) (calls (asked sample)) ≡ answered sample
+  unfolding justOpened
+  sample-answers =
+      ap (λ u. answersFrom u (calls (asked sample))) (opening-done t 3 1 sample-opens .table-is) ∙ answers-words (openHouse 3 1) (asked sample)
+      ∙ run-answers sample-run (quiet-opened 1)

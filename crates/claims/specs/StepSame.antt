@@ -1,0 +1,302 @@
+-- A step looks only at words of the table: on states with the same words it answers the same and leaves the same words. So what
+-- is computed on states by name holds of the step function on tables of words.
+use mathlib.Core.Path.{_≡_, refl, sym, ap, ap₂, _∙_, subst}
+use mathlib.Core.Bool.{Bool, true, false, cond, not, _||_}
+use mathlib.Core.List.{List, _∷_}
+use Prim.Native.Nat.{ℕ, _+_, _-_, _<_}
+use native.Mathlib.Omega.{arith}
+use lib.Count.{ones}
+use lib.ListN.{length}
+use borrow.Author.Tests.{eqb-true, eq-eqb, leb-false, lt-ltb, not-false}
+use Rattle.base.specs.Choice.{_==_, _≤?_, _<?_, or-left, or-right, le?}
+use Rattle.base.specs.Cases.{Case, _⇒_, firstOf, hit}
+use Rattle.table.specs.Field.{State, OfMessage, End, Size, Degree, Incarnation, LiveCount, StableCount, Flag, MessageState, Sender, Receiver, messageHead, same}
+use Rattle.table.specs.Change.{put}
+use Rattle.table.specs.Layout.{controllers, places, messages, tableWords}
+use Rattle.table.specs.Words.{state, words, length-words, word-at, words-same, Agree, agree-put, agree-put-to, agree-values}
+use Rattle.table.specs.Numbering.{numberOf, used, recordOf, number-same, used-agree, last-agree, record-agree}
+use Rattle.rules.specs.Limits.{house, lastIncarnation}
+use Rattle.rules.specs.Refusal.{FORM, CONTROLLER, MESSAGE, DEGREE, SAME-CONTROLLER, STATE, LOG-COUNT, NO-SUCH-CRASH, ALREADY-HEARD, MESSAGES-USED-UP, PLACES-USED-UP, INCARNATIONS-USED-UP}
+use Rattle.rules.specs.Vector.{Vector, placeVector, messageVector, flat, filtered, condemned, mask, conflict, merged}
+use Rattle.rules.specs.Form.{inForm, stateHeld, stateReleased, stateDropped}
+use Rattle.rules.specs.Shared.{newestPlace}
+use Rattle.rules.specs.Steps.{After, refuse, refusing, stepOpen, stepDegree, stepSend, messageRefusals, letOut, release, stepRelease, intervalAdded, intervalBegins, deliver, stepDeliver, stepLog, checkpointed, stepCheckpoint, stepTell, crashed, stepCrash, noted, lowestCondemned, hear, hearRefusals, stepHear}
+use Rattle.rules.specs.Step.{perform, stepOn, out, written, lent, step}
+use Rattle.rules.specs.declared.Answer.the-variants.{Sent, Released, Held, Delivered, Crashed, Rolled, Refused}
+use Rattle.rules.specs.declared.Command.{Command}
+use Rattle.rules.specs.declared.Command.the-variants.{Open, SetDegree, Send, Release, Deliver, Log, Checkpoint, Tell, Crash, Hear}
+use Rattle.laws.specs.Facts.{Form, form, below-8, controllerForm, messageForm, message-near}
+use Rattle.laws.specs.Allowed.{sendAllowed, messageAllowed, logAllowed, checkpointAllowed, tellAllowed, crashAllowed, hearAllowed}
+use Rattle.laws.specs.Agree.{incarnation-same, live-same, stable-same, state-same, placeVector-same, messageVector-same, filtered-same, condemned-same, replayed-same, lowestCondemned-same, agree-logged, agree-loggedTo, agree-causes, agree-sent, agree-begun, agree-noted, agree-told}
+use Rattle.laws.specs.Chain.{Chain, chain-form, chain-noted, Starts, starts-put, starts-causes}
+use Rattle.laws.specs.Found.{lowest}
+use Rattle.laws.specs.Kept.{agree-start, agree-rolled}
+use Rattle.claims.specs.FormSame.{inForm-same}
+
+-- the same answer, and states with the same words
+pub record Same (o p : After) : Type 0 where
+  pub answer-is : o .answer ≡ p .answer
+  pub left-is : Agree (o .left) (p .left)
+
+pub same-refl : (o : After) → Same o o
+same-refl o = record { answer-is = refl; left-is = λ f v. refl }
+
+-- then the same is written
+pub same-written : {o p : After} → Same o p → written o ≡ written p
+same-written {o} {p} s d = out (s .answer-is d) (words-same (o .left) (p .left) (s .left-is) d)
+
+-- a choice by a test that is the same
+same-cond : {b c : Bool} {o o′ p p′ : After} → b ≡ c → (b ≡ true → Same o p) → (b ≡ false → Same o′ p′) → Same (cond b o o′) (cond c p p′)
+same-cond {b} {c} {o} {o′} {p} {p′} q f g = subst (λ z. Same (cond b o o′) (cond z p p′)) q (go b f g)
+  where
+    go : (b : Bool) → (b ≡ true → Same o p) → (b ≡ false → Same o′ p′) → Same (cond b o o′) (cond b p p′)
+    go true f g = f refl
+    go false f g = g refl
+
+-- a case more, by a test that is the same
+same-first : {b c : Bool} (n : ℕ) (cases cases′ : List Case) → b ≡ c → (b ≡ false → firstOf cases ≡ firstOf cases′) →
+    firstOf ((b ⇒ n) ∷ cases) ≡ firstOf ((c ⇒ n) ∷ cases′)
+unfolding firstOf
+same-first {b} {c} n cases cases′ q h = go b h ∙ ap (λ z. cond z n (firstOf cases′)) q
+  where
+    go : (b : Bool) → (b ≡ false → firstOf cases ≡ firstOf cases′) → cond b n (firstOf cases) ≡ cond b n (firstOf cases′)
+    go true h = refl
+    go false h = h refl
+
+module _ (σ τ : State) (e : Agree σ τ) where
+  size : σ Size ≡ τ Size
+  size = e Size (omega arith)
+
+  -- refused, with the same number
+  same-refuse : {i j : ℕ} → i ≡ j → Same (refuse i σ) (refuse j τ)
+  same-refuse q = record { answer-is = ap Refused q; left-is = e }
+
+  -- a step after its refusals
+  same-refusing : (cases cases′ : List Case) {o p : After} → firstOf cases ≡ firstOf cases′ → (0 ≡ firstOf cases → Same o p) →
+      Same (refusing cases σ o) (refusing cases′ τ p)
+  unfolding refusing
+  same-refusing cases cases′ q h = same-cond (ap (λ i. i == 0) q) (λ z. h (sym (eqb-true (firstOf cases) 0 z))) (λ _. same-refuse q)
+
+  -- an interval begins, with vectors that are the same
+  pub same-begins : (c m r : ℕ) {v w : Vector} → c < controllers → v ≡ w → Same (intervalBegins σ c m r v) (intervalBegins τ c m r w)
+  unfolding intervalBegins
+  same-begins c m r {v} {w} cl q =
+      let x = number-same σ τ e c (σ (LiveCount c) + 1) cl ∙ ap (λ live. numberOf τ c (live + 1)) (live-same σ τ e c cl) in
+      record {
+        answer-is = ap₂ (Delivered m) (incarnation-same σ τ e c cl) x;
+        left-is = subst (λ w. Agree (intervalAdded σ c m r v) (intervalAdded τ c m r w)) q (agree-begun σ τ e c m r v cl);
+      }
+
+  -- O
+  same-open : (n k : ℕ) → Same (stepOpen σ n k) (stepOpen τ n k)
+  unfolding stepOpen
+  same-open n k = same-refusing _ _ refl (λ _. record { answer-is = refl; left-is = λ f v. refl })
+
+  -- The other steps, where σ is in form.
+  module _ (f : Form σ) where
+    -- a controller that is there
+    named : (c : ℕ) → (σ Size ≤? c) ≡ false → c < controllers
+    named c z = below-8 f c (leb-false (σ Size) c z)
+
+    -- a message's vector, filtered for a controller
+    message-filtered : (c r : ℕ) → c < controllers → r < messages → filtered σ c (messageVector σ r) ≡ filtered τ c (messageVector τ r)
+    message-filtered c r cl rl = filtered-same σ τ e c _ cl (message-near f r rl) ∙ ap (filtered τ c) (messageVector-same σ τ e r rl)
+
+    -- a controller's newest vector, filtered for it
+    pub newest-filtered : (c : ℕ) → Chain σ c → filtered σ c (placeVector σ c (newestPlace σ c)) ≡ filtered τ c (placeVector τ c (newestPlace τ c))
+    newest-filtered c w =
+        let p : newestPlace σ c < σ (LiveCount c) = omega (arith, w .live-pos) in
+        filtered-same σ τ e c _ (w .named) (w .near (newestPlace σ c) p)
+        ∙ ap (filtered τ c) (placeVector-same σ τ e c (newestPlace σ c) (w .named) (omega (arith, w .live-le))
+        ∙ ap (λ live. placeVector τ c (live - 1)) (live-same σ τ e c (w .named)))
+
+    -- K
+    same-degree : (c k : ℕ) → Same (stepDegree σ c k) (stepDegree τ c k)
+    unfolding stepDegree
+    same-degree c k =
+        same-refusing _ _ (same-first CONTROLLER _ _ (ap (λ n. n ≤? c) size) (λ _. same-first DEGREE _ _ (ap (λ n. n <? k) size) (λ _. refl)))
+        (λ _. record { answer-is = refl; left-is = agree-put σ τ (Degree c) k e })
+
+    -- S
+    same-send : (sender receiver payload : ℕ) → Same (stepSend house σ sender receiver payload) (stepSend house τ sender receiver payload)
+    unfolding stepSend
+    same-send sender receiver payload =
+        same-refusing _ _
+        (same-first CONTROLLER _ _ (ap (λ n. (n ≤? sender) || (n ≤? receiver)) size)
+        (λ _. same-first SAME-CONTROLLER _ _ refl (λ _. same-first MESSAGES-USED-UP _ _ (ap (λ u. messages ≤? u) (used-agree σ τ e)) (λ _. refl))))
+        (λ z. let w = chain-form σ sender f (sendAllowed σ sender receiver z .sender-lt) in
+        let p : newestPlace σ sender < σ (LiveCount sender) = omega (arith, w .live-pos) in
+        record {
+          answer-is = ap (λ m. Sent (m + 1)) (last-agree σ τ e);
+          left-is = agree-sent σ τ e sender receiver payload (w .named) (omega (arith, w .live-le)) (w .near (newestPlace σ sender) p);
+        })
+
+    -- the refusals of R and D by their message, in record r
+    message-cases : (r wanted : ℕ) → firstOf (messageRefusals σ r wanted) ≡ firstOf (messageRefusals τ r wanted)
+    message-cases r wanted =
+        same-first MESSAGE _ _ (ap (λ u. u ≤? r) (used-agree σ τ e))
+        (λ z. same-first STATE _ _ (ap (λ x. not (x == wanted)) (state-same σ τ e r (omega (arith, leb-false (used σ) r z, f .used-le)))) (λ _. refl))
+
+    -- R
+    same-released : (m r : ℕ) → r < used σ → Same (release σ m r) (release τ m r)
+    unfolding release letOut
+    same-released m r h =
+        let rl : r < messages = omega (arith, f .used-le) in
+        let sl = below-8 f (σ (Sender r)) (messageForm f r h .sender-lt) in
+        let v = message-filtered (σ (Sender r)) r sl rl in
+        let k = e (Degree (σ (Sender r))) (sl, omega arith) in
+        rw (← e (Sender r) (rl, omega arith))
+        (same-cond (λ d. ones (mask (v d)) ≤? k d)
+        (λ _. record {
+          answer-is = ap (λ v. Released m (mask v)) v;
+          left-is = agree-put _ _ (MessageState r) stateReleased (agree-values σ τ (OfMessage r 0) messageHead (ap flat v) e);
+        })
+        (λ _. record { answer-is = ap (λ v. Held m (mask v)) v; left-is = e }))
+
+    same-release : (m : ℕ) → Same (stepRelease σ m) (stepRelease τ m)
+    unfolding stepRelease
+    same-release m =
+        let r = recordOf σ m in
+        rw (← record-agree σ τ e m (f .used-le))
+        (same-refusing _ _ (message-cases r stateHeld) (λ z. same-released m r (messageAllowed σ r stateHeld z .record-used)))
+
+    -- D
+    same-delivered : (m r : ℕ) → r < used σ → Same (deliver house σ m r) (deliver house τ m r)
+    unfolding deliver
+    same-delivered m r h =
+        let rl : r < messages = omega (arith, f .used-le) in
+        let c = σ (Receiver r) in
+        let w = chain-form σ c f (messageForm f r h .receiver-lt) in
+        let ours = newest-filtered c w in
+        let theirs = message-filtered c r (w .named) rl in
+        rw (← e (Receiver r) (rl, omega arith))
+        (same-cond (condemned-same σ τ e c _ (w .named) (message-near f r rl) ∙ ap (condemned τ c) (messageVector-same σ τ e r rl))
+        (λ _. record { answer-is = refl; left-is = agree-put σ τ (MessageState r) stateDropped e })
+        (λ _. same-cond (ap₂ (conflict c) ours theirs) (λ _. record { answer-is = refl; left-is = e })
+        (λ _. same-cond (ap (λ live. places ≤? live) (live-same σ τ e c (w .named))) (λ _. same-refuse refl)
+        (λ _. same-begins c m r (w .named) (ap₂ merged ours theirs)))))
+
+    same-deliver : (m : ℕ) → Same (stepDeliver house σ m) (stepDeliver house τ m)
+    unfolding stepDeliver
+    same-deliver m =
+        let r = recordOf σ m in
+        rw (← record-agree σ τ e m (f .used-le))
+        (same-refusing _ _ (message-cases r stateReleased) (λ z. same-delivered m r (messageAllowed σ r stateReleased z .record-used)))
+
+    -- L
+    same-log : (c q : ℕ) → Same (stepLog σ c q) (stepLog τ c q)
+    unfolding stepLog
+    same-log c q =
+        same-refusing _ _
+        (same-first CONTROLLER _ _ (ap (λ n. n ≤? c) size)
+        (λ z. let cl = named c z in
+        same-first LOG-COUNT _ _ (ap₂ (λ live stable. (q == 0) || (live - stable <? q)) (live-same σ τ e c cl) (stable-same σ τ e c cl)) (λ _. refl)))
+        (λ z. let cl = below-8 f c (logAllowed σ c q z .controller-lt) in
+        rw (← stable-same σ τ e c cl) (record { answer-is = refl; left-is = agree-logged σ τ e c (σ (StableCount c) + q) cl }))
+
+    -- C
+    same-checkpoint : (c : ℕ) → Same (stepCheckpoint σ c) (stepCheckpoint τ c)
+    unfolding stepCheckpoint checkpointed
+    same-checkpoint c =
+        same-refusing _ _ (same-first CONTROLLER _ _ (ap (λ n. n ≤? c) size) (λ _. refl))
+        (λ z. let cl = below-8 f c (checkpointAllowed σ c z) in
+        rw (← live-same σ τ e c cl)
+        (record { answer-is = refl; left-is = agree-put _ _ (Flag c (newestPlace σ c)) 1 (agree-loggedTo σ τ e c (σ (LiveCount c)) cl) }))
+
+    -- T
+    same-tell : (owner holder : ℕ) → Same (stepTell σ owner holder) (stepTell τ owner holder)
+    unfolding stepTell
+    same-tell owner holder =
+        same-refusing _ _
+        (same-first CONTROLLER _ _ (ap (λ n. (n ≤? owner) || (n ≤? holder)) size) (λ _. same-first SAME-CONTROLLER _ _ refl (λ _. refl)))
+        (λ z. let d = tellAllowed σ owner holder z in
+        record { answer-is = refl; left-is = agree-told σ τ e owner holder (below-8 f owner (d .owner-lt)) (below-8 f holder (d .holder-lt)) })
+
+    -- X
+    same-crash : (c : ℕ) → Same (stepCrash house σ c) (stepCrash house τ c)
+    unfolding stepCrash crashed
+    same-crash c =
+        same-refusing _ _
+        (same-first CONTROLLER _ _ (ap (λ n. n ≤? c) size)
+        (λ z. let cl = named c z in
+        same-first PLACES-USED-UP _ _ (ap (λ k. places ≤? k) (stable-same σ τ e c cl))
+        (λ _. same-first INCARNATIONS-USED-UP _ _ (ap (λ i. lastIncarnation ≤? i) (incarnation-same σ τ e c cl)) (λ _. refl))))
+        (λ z. let d = crashAllowed σ c z in
+        let g = controllerForm f c (d .controller-lt) in
+        let w = chain-form σ c f (d .controller-lt) in
+        let k = σ (StableCount c) in
+        let s : Starts σ c k = record { chain = w; kept = g .stable-pos; room = d .room; below = g .stable-le; left = d .incarnation-lt } in
+        let own = incarnation-same σ τ e c (w .named) in
+        let live = live-same σ τ e c (w .named) in
+        let x = number-same σ τ e c k (w .named) in
+        let again = replayed-same σ τ e c k (w .named) (omega (arith, d .room)) in
+        rw (← stable-same σ τ e c (w .named))
+        (record {
+          answer-is = λ i. Crashed c (own i) (x i) (live i - k) (again i);
+          left-is =
+              agree-start _ _ c k (starts-put _ c k (End c c (σ (Incarnation c))) _ refl (starts-causes σ c k k _ s))
+              (agree-put-to _ _ (ap (End c c) own) x (agree-causes σ τ e c k _ _ (w .named) (s .below) (w .live-le) (λ _ _. refl)));
+        }))
+
+    -- the first refusals of H
+    hear-cases : (hearer owner i : ℕ) → firstOf (hearRefusals σ hearer owner i) ≡ firstOf (hearRefusals τ hearer owner i)
+    hear-cases hearer owner i =
+        same-first CONTROLLER _ _ (ap (λ n. (n ≤? hearer) || (n ≤? owner)) size)
+        (λ z. let hl = named hearer (or-left (σ Size ≤? hearer) _ z) in
+        let ol = named owner (or-right (σ Size ≤? hearer) _ z) in
+        le? i lastIncarnation
+        (λ l. same-first NO-SUCH-CRASH _ _ (ap (λ x. (lastIncarnation <? i) || (x == 0)) (e (End owner owner i) (ol, ol, omega arith)))
+        (λ _. same-first ALREADY-HEARD _ _ (ap (λ x. not (x == 0)) (e (End hearer owner i) (hl, ol, omega arith))) (λ _. refl)))
+        (λ l. let late = lt-ltb lastIncarnation i l in
+        sym (hit _ NO-SUCH-CRASH _ (ap (λ b. b || (σ (End owner owner i) == 0)) late)) ∙ hit _ NO-SUCH-CRASH _ (ap (λ b. b || (τ (End owner owner i) == 0)) late)))
+
+    -- a hearing that undoes the intervals of the hearer from place k on
+    hear-starts : (hearer owner i : ℕ) → Chain σ hearer → let k = lowestCondemned (noted σ hearer owner i) hearer in
+        k < σ (LiveCount hearer) → σ (Incarnation hearer) < lastIncarnation → Starts (noted σ hearer owner i) hearer k
+    unfolding noted put same
+    hear-starts hearer owner i w l j =
+        let w′ = chain-noted σ hearer hearer owner i w in
+        let low = lowest (noted σ hearer owner i) hearer (w′ .live-pos) in
+        record { chain = w′; kept = low .pos; room = omega (arith, w .live-le); below = low .le; left = j }
+
+    -- H
+    same-hear : (hearer owner i : ℕ) → Same (stepHear σ hearer owner i) (stepHear τ hearer owner i)
+    unfolding stepHear hear
+    same-hear hearer owner i =
+        same-refusing _ _ (hear-cases hearer owner i)
+        (λ z. let d = hearAllowed σ hearer owner i z in
+        let w = chain-form σ hearer f (d .hearer-lt) in
+        let heard = agree-noted σ τ e hearer owner i (w .named) (below-8 f owner (d .owner-lt)) (omega (arith, d .incarnation-le)) in
+        let w′ = chain-noted σ hearer hearer owner i w in
+        let k = lowestCondemned (noted σ hearer owner i) hearer in
+        let live = live-same σ τ e hearer (w .named) in
+        rw (← lowestCondemned-same _ _ heard hearer (w′ .named) (w′ .live-le) (w′ .near))
+        (same-cond (ap (λ n. n ≤? k) live) (λ _. record { answer-is = refl; left-is = heard })
+        (λ l. same-cond (ap (λ j. lastIncarnation ≤? j) (incarnation-same σ τ e hearer (w .named))) (λ _. same-refuse refl)
+        (λ j. let s = hear-starts hearer owner i w (leb-false (σ (LiveCount hearer)) k l) (leb-false lastIncarnation (σ (Incarnation hearer)) j) in
+        let x = number-same σ τ e hearer k (w .named) in
+        let again = replayed-same σ τ e hearer k (w .named) (omega (arith, s .room)) in
+        record { answer-is = λ d. Rolled hearer (x d) (live d - k) (again d); left-is = agree-rolled _ _ hearer k s heard }))))
+
+-- the host's look at the form
+looked : (σ τ : State) → Agree σ τ → {o p : After} → (Form σ → Same o p) → Same (cond (not (inForm house σ)) (refuse FORM σ) o) (cond (not (inForm house τ)) (refuse FORM τ) p)
+looked σ τ e h = same-cond (ap not (inForm-same σ τ e)) (λ _. same-refuse σ τ e refl) (λ z. h (form σ (not-false (inForm house σ) z)))
+
+-- a step on states with the same words
+pub same-step : (σ τ : State) → Agree σ τ → (x : Command) → Same (stepOn house σ x) (stepOn house τ x)
+unfolding stepOn perform
+same-step σ τ e (Open n k) = same-open σ τ e n k
+same-step σ τ e (SetDegree c k) = looked σ τ e (λ f. same-degree σ τ e f c k)
+same-step σ τ e (Send sender receiver payload) = looked σ τ e (λ f. same-send σ τ e f sender receiver payload)
+same-step σ τ e (Release m) = looked σ τ e (λ f. same-release σ τ e f m)
+same-step σ τ e (Deliver m) = looked σ τ e (λ f. same-deliver σ τ e f m)
+same-step σ τ e (Log c q) = looked σ τ e (λ f. same-log σ τ e f c q)
+same-step σ τ e (Checkpoint c) = looked σ τ e (λ f. same-checkpoint σ τ e f c)
+same-step σ τ e (Tell owner holder) = looked σ τ e (λ f. same-tell σ τ e f owner holder)
+same-step σ τ e (Crash c) = looked σ τ e (λ f. same-crash σ τ e f c)
+same-step σ τ e (Hear hearer owner i) = looked σ τ e (λ f. same-hear σ τ e f hearer owner i)
+
+-- The step function on the table of a state is the step on that state.
+pub step-words : (σ : State) (x : Command) → step (words σ) x ≡ written (stepOn house σ x)
+unfolding step lent
+step-words σ x = rw (eq-eqb (length (words σ)) tableWords (length-words σ)) (same-written (same-step (state (words σ)) σ (word-at σ) x))

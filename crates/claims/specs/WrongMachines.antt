@@ -1,0 +1,155 @@
+-- Document 01, "To the testers": "Try to satisfy the statements with these". The statement of `machine::step` is an equation with
+-- `step` on every table and for every command. Here is each wrong machine, with a table of the sample run (Sample.antt) and a step
+-- on it where it gives something else, and one claim over them all.
+use mathlib.Core.Path.{_≡_, refl, sym, ap, _∙_}
+use mathlib.Core.Bool.{false, true≢false}
+use mathlib.Core.List.{List, [], _∷_}
+use mathlib.Core.Logic.{_≢_}
+use Prim.Native.Nat.{ℕ, zero, suc, _+_}
+use lib.ListN.{length, getD}
+use borrow.Author.Tests.{eq-eqb}
+use Rattle.base.specs.Choice.{_==_}
+use Rattle.table.specs.Field.{Field, SentCount, PairNumber}
+use Rattle.table.specs.Layout.{tableWords}
+use Rattle.table.specs.Words.{state}
+use Rattle.rules.specs.Refusal.{NO-SUCH-CRASH}
+use Rattle.rules.specs.Step.{Out, out, lent, step}
+use Rattle.rules.specs.Report.{report}
+use Rattle.rules.specs.Starred.{answer}
+use Rattle.rules.specs.declared.Answer.{Answer}
+use Rattle.rules.specs.declared.Answer.the-variants.{Done, Sent, Released, Held, Delivered, Dropped, Waits, Crashed, Heard, Rolled, Refused}
+use Rattle.rules.specs.declared.Command.{Command}
+use Rattle.rules.specs.declared.Command.the-variants.{Open, SetDegree, Send, Release, Deliver, Log, Checkpoint, Tell, Crash, Hear}
+use Rattle.claims.specs.Judged.{sampleAt, sample-answer, none-sent, one-sent, pair-merged}
+use Rattle.claims.specs.Echo.{echoed, pair-echoed}
+
+-- what the step function is too
+abbrev pub Machine : Type 0
+Machine = List ℕ → Command → Out
+
+-- "a machine that refuses all", with any number,
+abbrev pub refusesAll : ℕ → Machine
+refusesAll number t x = out (Refused number) t
+
+-- "or answers `done` to all", though it writes what the rules say,
+abbrev pub doneToAll : Machine
+doneToAll t x = out Done (step t x .table)
+
+-- "or writes no word", though it answers what they say;
+abbrev pub writesNoWord : Machine
+writesNoWord t x = out (step t x .answer) t
+
+-- (a choice by the letter: R and D with their message, H with its hearer, and the others)
+abbrev byLetter : {A : Type 0} → (ℕ → A) → (ℕ → A) → (ℕ → A) → A → Command → A
+byLetter release deliver hear other (Open n k) = other
+byLetter release deliver hear other (SetDegree c k) = other
+byLetter release deliver hear other (Send sender receiver payload) = other
+byLetter release deliver hear other (Release m) = release m
+byLetter release deliver hear other (Deliver m) = deliver m
+byLetter release deliver hear other (Log c q) = other
+byLetter release deliver hear other (Checkpoint c) = other
+byLetter release deliver hear other (Tell owner holder) = other
+byLetter release deliver hear other (Crash c) = other
+byLetter release deliver hear other (Hear hearer owner i) = hear hearer
+
+abbrev atRelease : (List ℕ → ℕ → Out) → Machine
+atRelease own t x = byLetter (own t) (λ m. step t x) (λ b. step t x) (step t x) x
+
+abbrev atDelivery : (List ℕ → ℕ → Out) → Machine
+atDelivery own t x = byLetter (λ m. step t x) (own t) (λ b. step t x) (step t x) x
+
+abbrev atHearing : (List ℕ → ℕ → Out) → Machine
+atHearing own t x = byLetter (λ m. step t x) (λ m. step t x) (own t) (step t x) x
+
+-- "one that tracks vectors for the first step of a run and afterwards only echoes": so many steps of the run are done, and a delivery
+-- begins its interval with the receiver's own vector (Echo.antt);
+abbrev pub tracksFirst : ℕ → Machine
+tracksFirst zero = step
+tracksFirst (suc done) = atDelivery (λ t m. lent t (λ σ. echoed σ m))
+
+-- "one that invents lost, undone or replayed": so many more of each;
+abbrev more : ℕ → ℕ → ℕ → Answer → Answer
+more lost undone again Done = Done
+more lost undone again (Sent m) = Sent m
+more lost undone again (Released m mask) = Released m mask
+more lost undone again (Held m mask) = Held m mask
+more lost undone again (Delivered m i x) = Delivered m i x
+more lost undone again (Dropped m) = Dropped m
+more lost undone again (Waits m) = Waits m
+more lost undone again (Crashed c i k l r) = Crashed c i k (l + lost) (r + again)
+more lost undone again (Heard b) = Heard b
+more lost undone again (Rolled b k u r) = Rolled b k (u + undone) (r + again)
+more lost undone again (Refused number) = Refused number
+
+abbrev pub invents : ℕ → ℕ → ℕ → Machine
+invents lost undone again t x = let o = step t x in out (more lost undone again (o .answer)) (o .table)
+
+-- "one that says `waits`, `held` or `heard` before looking", `held` with any mask.
+abbrev pub saysWaits : Machine
+saysWaits = atDelivery (λ t m. out (Waits m) t)
+
+abbrev pub saysHeld : ℕ → Machine
+saysHeld mask = atRelease (λ t m. out (Held m mask) t)
+
+abbrev pub saysHeard : Machine
+saysHeard = atHearing (λ t b. out (Heard b) t)
+
+-- "A machine that holds for ever" is `saysHeld`; "or never hears":
+abbrev pub neverHears : Machine
+neverHears = atHearing (λ t b. out (Refused NO-SUCH-CRASH) t)
+
+-- a row: a machine, a table and a step on it
+pub record Row : Type 0 where
+  pub machine : Machine
+  pub table : List ℕ
+  pub command : Command
+
+abbrev row : Machine → List ℕ → Command → Row
+row m t x = record { machine = m; table = t; command = x }
+
+-- the tables of the sample run from t; beside each step, what the step function answers
+abbrev pub wrongMachines : List ℕ → ℕ → ℕ → List Row
+wrongMachines t number mask =
+    row (refusesAll number) (sampleAt t 0 .table) (Send 0 1 7)  -- sent 1
+    ∷ row doneToAll (sampleAt t 0 .table) (Send 0 1 7)  -- sent 1
+    ∷ row writesNoWord (sampleAt t 0 .table) (Send 0 1 7)  -- and there is 1 message sent
+    ∷ row (saysHeld mask) (sampleAt t 1 .table) (Release 1)  -- released 1 0
+    ∷ row saysWaits (sampleAt t 2 .table) (Deliver 1)  -- delivered 1 0 2
+    ∷ row (tracksFirst 5) (sampleAt t 5 .table) (Deliver 2)  -- and the new interval has the pair (0,2) of controller 1
+    ∷ row (invents 1 0 0) (sampleAt t 6 .table) (Crash 1)  -- crashed 1 0 1 1 0
+    ∷ row neverHears (sampleAt t 7 .table) (Hear 0 1 0)  -- heard 0
+    ∷ row saysHeard (sampleAt t 8 .table) (Hear 2 1 0)  -- rolled 2 1 1 0
+    ∷ row (invents 0 1 0) (sampleAt t 8 .table) (Hear 2 1 0)  -- rolled 2 1 1 0
+    ∷ row (invents 0 0 1) (sampleAt t 8 .table) (Hear 2 1 0)  -- rolled 2 1 1 0
+    ∷ []
+
+-- in no row does the machine give what the step function gives, so none of them meets the statement
+pub data NoneIsStep : List Row → Type 0 where
+  none : NoneIsStep []
+  also : {r : Row} {rows : List Row} → r .machine (r .table) (r .command) ≢ step (r .table) (r .command) → NoneIsStep rows → NoneIsStep (r ∷ rows)
+
+-- two outcomes differ if their answers do on paper, in the number (place 0) or in a value, or if a word of their tables does
+by-answer : (place : ℕ) {o p : Out} {a b : Answer} → o .answer ≡ a → p .answer ≡ b → (getD (answer a) place 0 == getD (answer b) place 0) ≡ false → o ≢ p
+by-answer place q r e z = true≢false (sym (eq-eqb _ _ (ap (λ a. getD (answer a) place 0) (sym q ∙ ap (λ o. o .answer) z ∙ r))) ∙ e)
+
+by-word : (f : Field) {o p : Out} {x y : ℕ} → state (o .table) f ≡ x → state (p .table) f ≡ y → (x == y) ≡ false → o ≢ p
+by-word f q r e z = true≢false (sym (eq-eqb _ _ (sym q ∙ ap (λ o. state (o .table) f) z ∙ r)) ∙ e)
+
+-- The claim, whatever stood in the table before the house was opened, whatever the number and the mask.
+pub wrong-machines-fail : (t : List ℕ) → length t ≡ tableWords → (number mask : ℕ) → NoneIsStep (wrongMachines t number mask)
+unfolding report
+wrong-machines-fail t long number mask =
+    let crash = sample-answer t long 6 refl in
+    let hearing = sample-answer t long 8 refl in
+    also (by-answer 0 refl (sample-answer t long 0 refl) refl)
+    (also (by-answer 0 refl (sample-answer t long 0 refl) refl)
+    (also (by-word SentCount (none-sent t long) (one-sent t long) refl)
+    (also (by-answer 0 refl (sample-answer t long 1 refl) refl)
+    (also (by-answer 0 refl (sample-answer t long 2 refl) refl)
+    (also (by-word (PairNumber 2 1 1) (pair-echoed t long) (pair-merged t long) refl)
+    (also (by-answer 4 (ap (more 1 0 0) crash) crash refl)
+    (also (by-answer 0 refl (sample-answer t long 7 refl) refl)
+    (also (by-answer 0 refl hearing refl)
+    (also (by-answer 3 (ap (more 0 1 0) hearing) hearing refl)
+    (also (by-answer 4 (ap (more 0 0 1) hearing) hearing refl)
+    none))))))))))
