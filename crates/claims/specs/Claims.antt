@@ -8,13 +8,12 @@ use lib.ListN.{length, take, drop}
 use borrow.Author.Tests.{eqb-true}
 use Rattle.base.specs.Choice.{_==_, cond-ind}
 use Rattle.table.specs.Layout.{controllers, tableWords}
-use Rattle.table.specs.Change.{blank}
 use Rattle.table.specs.Words.{state, words, words-state}
 use Rattle.rules.specs.Step.{Out, lent, step, Call, asks, stepCall}
 use Rattle.rules.specs.declared.Answer.the-variants.{Released, Held, Refused}
 use Rattle.rules.specs.declared.Command.{Command}
 use Rattle.rules.specs.declared.Command.the-variants.{Checkpoint, Release}
-use Rattle.listing.specs.ListingA.{listingA, rightColumn, listing-A}
+use Rattle.lines.specs.Program.{houseWrites}
 use Rattle.history.specs.History.{interval}
 use Rattle.history.specs.Demand.{runs, justOpened, Accepted, answersHeard, answersRolled, RestsOnLost, named, FromOpening, upTo, end}
 use Rattle.image.specs.Mask.{count}
@@ -23,7 +22,8 @@ use Rattle.claims.specs.StepSame.{same-written, step-words}
 use Rattle.claims.specs.Refused.{keeps-refused}
 use Rattle.claims.specs.Checkpoint.{checkpoint-twice}
 use Rattle.claims.specs.Counted.{counted-step}
-use Rattle.claims.specs.Sample.{sample, answered, calls, answersFrom, answers-words, sample-from-opening, sample-answers}
+use Rattle.claims.specs.Sample.{sample, answered, answersFrom, sample-from-opening, sample-answers}
+use Rattle.claims.specs.Written.{leftColumn, rightColumn, listing-written}
 use Rattle.claims.specs.Judged.{list, sampleAt, sample-answer, live-before, gone-after, live-first, still-live, sending-rests, not-yet-stable, lost-later}
 
 -- 1. "A step that can't be done answers one refusal number from document 01 and changes no word of the table."
@@ -90,6 +90,6 @@ at-most-K-named t n k l O before after m echoed mask e a =
     let h = upTo t n k before .history in
     subst (λ x. x ≤ h .degree (h .sending m .owner)) (ones-are-the-named (upTo t n k before .table) m echoed mask a) (demand-3 t n k l O .degrees before after m echoed mask e a)
 
--- 5. "Listing A, input left, output right", on the "table of 15,152 zero words" that `house` starts with.
-pub listing-A-on-words : answersFrom (words blank) (calls listingA) ≡ rightColumn
-listing-A-on-words = answers-words blank listingA ∙ listing-A
+-- 5. "Listing A, input left, output right": all that `house` writes for the left column is the right one, byte by byte.
+pub listing-A-written : houseWrites leftColumn ≡ rightColumn
+listing-A-written = listing-written

@@ -1,25 +1,23 @@
 -- Laws of a session in its buffers, for the code that takes bytes. `o` is the buffer of answers before a line is written, `u`
 -- after it.
-use mathlib.Core.Path.{_≡_, refl, sym, ap, ap₂, _∙_, subst}
-use mathlib.Core.Bool.{Bool, true, false, cond}
+use mathlib.Core.Path.{_≡_, refl, sym, ap, _∙_}
 use mathlib.Core.List.{List, [], _∷_, _++_, foldl, foldl-append}
 use mathlib.Core.Logic.{_≢_}
-use Prim.Native.Nat.{ℕ, suc, _+_, _≤_, _<_}
+use Prim.Native.Nat.{ℕ, _+_, _≤_, _<_}
 use native.Mathlib.Omega.{arith}
 use native.Mathlib.Nat.{suc-ne-zero}
 use native.Mathlib.Numerals.{add-one}
 use lib.ListN.{length, getD, set, take, length-append}
 use lib.Seq.{take-all, take-suc, take-suc-set, take-append-le, length-take-le}
 use borrow.Author.Tests.{eq-eqb, ne-eqb}
-use Rattle.rules.specs.Step.{Out, out, step}
+use Rattle.rules.specs.Step.{out, step}
 use Rattle.rules.specs.declared.Answer.{Answer}
 use Rattle.rules.specs.declared.Command.{Command}
 use Rattle.lines.specs.Lines.{lineFeed, parse, answerLine, badLine}
-use Rattle.lines.specs.declared.Parsed.{Parsed}
 use Rattle.lines.specs.declared.Parsed.the-variants.{Asks, Bad}
 use Rattle.printing.specs.Parts.{Short}
 use Rattle.printing.specs.Writing.{written-take}
-use Rattle.session.specs.Program.{reply, replyTo, firstTable}
+use Rattle.lines.specs.Program.{reply, replyTo, firstTable}
 use Rattle.session.specs.Taking.{Session, session, begun, lineRoom, ended, taken, takenAll, finished, served, paid, after}
 
 -- a line that asked for x is answered by a

@@ -9,7 +9,7 @@ use lib.Seq.{take-all, take-take, take-append-le, length-take-le}
 use borrow.Author.Tests.{lt-leb, ne-eqb}
 use Rattle.base.specs.Choice.{_==_, le?}
 use Rattle.lines.specs.Lines.{lineFeed, longestLine, firstMore, parse}
-use Rattle.session.specs.Program.{linesOf, Reply, replyTo, reply, replies, houseWrites, firstTable}
+use Rattle.lines.specs.Program.{linesOf, Reply, replyTo, reply, replies, houseWrites, firstTable}
 use Rattle.session.specs.Taking.{Session, session, begun, lineRoom, ended, taken, takenAll, finished, paid}
 
 -- A line that is too long is so if it is cut to its room, and at every byte.

@@ -1,4 +1,3 @@
-pub mod Program
 pub mod Taking
 pub mod Cutting
 pub mod Whole

@@ -6,7 +6,7 @@ use Prim.Native.Nat.{ℕ, _+_}
 use lib.ListN.{length, take}
 use Rattle.base.specs.Choice.{_==_}
 use Rattle.lines.specs.Lines.{lineFeed, longestLine}
-use Rattle.session.specs.Program.{reply, firstTable}
+use Rattle.lines.specs.Program.{reply, firstTable}
 
 -- what there is between two bytes: the table, the bytes of a line that hasn't ended, and the answers that are yet to be written
 pub record Session : Type 0 where

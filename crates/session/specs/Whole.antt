@@ -6,7 +6,7 @@ use Prim.Native.Nat.{ℕ}
 use lib.ListN.{take, drop, take-append-drop}
 use Rattle.rules.specs.Bytes.{bytes}
 use Rattle.lines.specs.Lines.{stepOf, withNumbers, command, fields, areNumbers, asked, parse, spaced, lineOf, badLine}
-use Rattle.session.specs.Program.{linesOf, replyTo, reply, replies, houseWrites}
+use Rattle.lines.specs.Program.{linesOf, replyTo, reply, replies, houseWrites}
 use Rattle.session.specs.Taking.{Session, begun, taken, takenAll, finished, paid}
 use Rattle.session.specs.Cutting.{owed-paid, owed-in-all}
 
