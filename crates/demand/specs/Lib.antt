@@ -1,3 +1,4 @@
 pub mod Demanded
 pub mod Beyond
 pub mod Agreement
+pub mod Claims

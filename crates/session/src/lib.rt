@@ -38,11 +38,8 @@ fn take_byte(t: &mut [u32], line: &mut [u8], n: usize, b: u8, out: &mut [u8], at
     ensures { λ r. ⌜ (r .line ≤ lineRoom) × (r .owed ≤ at + answerRoom) ⌝ }
 {
     if b == LINE_FEED {
-        let owed = end_line(t, line, n, out, at);
-        return Progress {
-            line: 0,
-            owed: owed,
-        };
+        let end = end_line(t, line, n, out, at);
+        return Progress { line: 0, owed: end };
     }
     if LINE_ROOM <= n {
         return Progress { line: n, owed: at };

@@ -24,7 +24,7 @@ use Rattle.listing.specs.Quiet.{steps, answers, quiet-put, quiet-part, quiet-ca
 use Rattle.history.specs.Demand.{justOpened, FromOpening}
 use Rattle.history.specs.Examples.{ListingLine, line}
 use Rattle.image.specs.Stepped.{opening-done}
-use Rattle.claims.specs.StepSame.{step-words}
+use Rattle.testers.specs.StepSame.{step-words}
 
 -- after the opening of a house of three, all with the degree 1
 abbrev pub sample : List ListingLine

@@ -19,9 +19,9 @@ use Rattle.rules.specs.declared.Command.{Command}
 use Rattle.listing.specs.Quiet.{steps}
 use Rattle.laws.specs.Facts.{Form, form, messageForm}
 use Rattle.laws.specs.Chain.{chain-form}
-use Rattle.claims.specs.StepSame.{Same, same-written, same-begins, newest-filtered}
-use Rattle.claims.specs.Along.{performed, Stage}
-use Rattle.claims.specs.Judged.{sampleAt, sample-stage}
+use Rattle.testers.specs.StepSame.{Same, same-written, same-begins, newest-filtered}
+use Rattle.testers.specs.Along.{performed, Stage}
+use Rattle.testers.specs.Judged.{sampleAt, sample-stage}
 
 abbrev pub echoed : State → ℕ → After
 echoed σ m =

@@ -19,8 +19,8 @@ use Rattle.history.specs.Demand.{Run, justOpened}
 use Rattle.history.specs.Examples.{all}
 use Rattle.image.specs.Stepped.{opening-done}
 use Rattle.listing.specs.Quiet.{steps, quiet-opened}
-use Rattle.claims.specs.Sample.{sample, asked, calls, sample-run, sample-opens, sample-answers}
-use Rattle.claims.specs.Along.{firstSteps, lineAt, answer-at, history-at, performed, StageAt, stage-step, stage-at}
+use Rattle.testers.specs.Sample.{sample, asked, calls, sample-run, sample-opens, sample-answers}
+use Rattle.testers.specs.Along.{firstSteps, lineAt, answer-at, history-at, performed, StageAt, stage-step, stage-at}
 
 abbrev pub list : List Call
 list = calls (asked sample)

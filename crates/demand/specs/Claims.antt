@@ -17,14 +17,14 @@ use Rattle.lines.specs.Program.{houseWrites}
 use Rattle.history.specs.History.{interval}
 use Rattle.history.specs.Demand.{runs, justOpened, Accepted, answersHeard, answersRolled, RestsOnLost, named, FromOpening, upTo, end}
 use Rattle.image.specs.Mask.{count}
 use Rattle.demand.specs.Demanded.{demand-3}
-use Rattle.claims.specs.StepSame.{same-written, step-words}
-use Rattle.claims.specs.Refused.{keeps-refused}
-use Rattle.claims.specs.Checkpoint.{checkpoint-twice}
-use Rattle.claims.specs.Counted.{counted-step}
-use Rattle.claims.specs.Sample.{sample, answered, answersFrom, sample-from-opening, sample-answers}
-use Rattle.claims.specs.Written.{leftColumn, rightColumn, listing-written}
-use Rattle.claims.specs.Judged.{list, sampleAt, sample-answer, live-before, gone-after, live-first, still-live, sending-rests, not-yet-stable, lost-later}
+use Rattle.testers.specs.StepSame.{same-written, step-words}
+use Rattle.testers.specs.Refused.{keeps-refused}
+use Rattle.testers.specs.Checkpoint.{checkpoint-twice}
+use Rattle.testers.specs.Counted.{counted-step}
+use Rattle.testers.specs.Sample.{sample, answered, answersFrom, sample-from-opening, sample-answers}
+use Rattle.testers.specs.Written.{leftColumn, rightColumn, listing-written}
+use Rattle.testers.specs.Judged.{list, sampleAt, sample-answer, live-before, gone-after, live-first, still-live, sending-rests, not-yet-stable, lost-later}
 
 -- 1. "A step that can't be done answers one refusal number from document 01 and changes no word of the table."
 pub refused-keeps-every-word : (t : List ℕ) (x : Command) (number : ℕ) → step t x .answer ≡ Refused number → step t x .table ≡ t

@@ -31,7 +31,7 @@ use Rattle.laws.specs.Agree.{incarnation-same, live-same, stable-same, state-sa
 use Rattle.laws.specs.Chain.{Chain, chain-form, chain-noted, Starts, starts-put, starts-causes}
 use Rattle.laws.specs.Found.{lowest}
 use Rattle.laws.specs.Kept.{agree-start, agree-rolled}
-use Rattle.claims.specs.FormSame.{inForm-same}
+use Rattle.testers.specs.FormSame.{inForm-same}
 
 -- the same answer, and states with the same words
 pub record Same (o p : After) : Type 0 where

@@ -15,7 +15,7 @@ use Rattle.lines.specs.declared.Parsed.the-variants.{Asks}
 use Rattle.lines.specs.Program.{linesOf, replyTo, reply, replies, firstTable, houseWrites}
 use Rattle.listing.specs.ListingA as L
 use Rattle.listing.specs.ListingA.{listingA, listing-A}
-use Rattle.claims.specs.Sample.{calls, answersFrom, answers-words}
+use Rattle.testers.specs.Sample.{calls, answersFrom, answers-words}
 
 -- lines that ask for these steps
 data Asking : List (List ℕ) → List Command → Type 0 where

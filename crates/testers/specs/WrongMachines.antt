@@ -20,8 +20,8 @@ use Rattle.rules.specs.declared.Answer.{Answer}
 use Rattle.rules.specs.declared.Answer.the-variants.{Done, Sent, Released, Held, Delivered, Dropped, Waits, Crashed, Heard, Rolled, Refused}
 use Rattle.rules.specs.declared.Command.{Command}
 use Rattle.rules.specs.declared.Command.the-variants.{Open, SetDegree, Send, Release, Deliver, Log, Checkpoint, Tell, Crash, Hear}
-use Rattle.claims.specs.Judged.{sampleAt, sample-answer, none-sent, one-sent, pair-merged}
-use Rattle.claims.specs.Echo.{echoed, pair-echoed}
+use Rattle.testers.specs.Judged.{sampleAt, sample-answer, none-sent, one-sent, pair-merged}
+use Rattle.testers.specs.Echo.{echoed, pair-echoed}
 
 -- what the step function is too
 abbrev pub Machine : Type 0

@@ -24,8 +24,8 @@ use Rattle.laws.specs.Facts.{form, below-8, controllerForm}
 use Rattle.laws.specs.Allowed.{checkpointAllowed}
 use Rattle.laws.specs.Records.{placeVector-of}
 use Rattle.image.specs.Tests.{fresh}
-use Rattle.claims.specs.FormSame.{zeros-same, controllerOk-of, rowOk-of, placeOk-of, messageOk-of}
-use Rattle.claims.specs.StepSame.{Same, same-refl}
+use Rattle.testers.specs.FormSame.{zeros-same, controllerOk-of, rowOk-of, placeOk-of, messageOk-of}
+use Rattle.testers.specs.StepSame.{Same, same-refl}
 
 -- two numbers are one, or not
 eq? : {A : Type 0} (a b : ℕ) → (a ≡ b → A) → (a ≢ b → A) → A

@@ -21,8 +21,8 @@ use Rattle.listing.specs.Quiet.{Quiet, quiet-opened, in-form}
 use Rattle.history.specs.History.{fed}
 use Rattle.history.specs.Demand.{Run, next, runs}
 use Rattle.history.specs.Examples.{ListingLine, line, all}
-use Rattle.claims.specs.StepSame.{step-words}
-use Rattle.claims.specs.Sample.{asked, answered, calls, answersFrom}
+use Rattle.testers.specs.StepSame.{step-words}
+use Rattle.testers.specs.Sample.{asked, answered, calls, answersFrom}
 
 -- ANSWERS AND HISTORY
 -- the run after the first j lines, and line j

@@ -7,6 +7,5 @@ pub mod Sample
 pub mod Along
 pub mod Judged
 pub mod Echo
-pub mod Claims
 pub mod WrongMachines
 pub mod Written

@@ -1,1 +1,0 @@
-// Claims that a tester looks for by name, and the testers' wrong machines (specs/).

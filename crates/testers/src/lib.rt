@@ -1,0 +1,1 @@
+// A sample run on tables of words, and the testers' wrong machines (specs/).
