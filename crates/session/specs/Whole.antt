@@ -10,12 +10,12 @@ use Rattle.lines.specs.Program.{linesOf, replyTo, reply, replies, houseWrites}
 use Rattle.session.specs.Taking.{Session, begun, taken, takenAll, finished, paid}
 use Rattle.session.specs.Cutting.{owed-paid, owed-in-all}
 
--- what is written for these reads: after each what is owed then
+-- what is written for these reads, each of some bytes (`served` is `takenAll` then): after each what is owed then
 unfoldable pub writtenFor : Session → List (List ℕ) → List ℕ
 writtenFor s [] = []
 writtenFor s (r ∷ reads) = takenAll s r .owed ++ writtenFor (paid (takenAll s r)) reads
 
--- what is written for these reads and the end of the input
+-- what is written for these reads and the end of the input, a read without bytes (`served` is `finished` then)
 unfoldable pub writtenInAll : Session → List (List ℕ) → List ℕ
 writtenInAll s [] = finished s .owed
 writtenInAll s (r ∷ reads) = takenAll s r .owed ++ writtenInAll (paid (takenAll s r)) reads
