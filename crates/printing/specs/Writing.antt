@@ -75,6 +75,15 @@ written-take {o} {r} {u} {a} {m} f h =
     ap₂ take (f .ends) (f .stands ∙ sym (append-assoc (take a o) r (drop (length r) (drop a o))))
     ∙ take-at (take a o ++ r) (drop (length r) (drop a o)) (a + length r) (length-append (take a o) r ∙ ap (λ (k : ℕ). k + length r) (length-take-le a o h))
 
+-- what stands behind it is as before
+pub written-drop : {o r u : List ℕ} {a m : ℕ} → Written o a r u m → a ≤ length o → drop m u ≡ drop m o
+unfolding splice
+written-drop {o} {r} {u} {a} {m} f h =
+    ap₂ drop (f .ends) (f .stands ∙ sym (append-assoc (take a o) r (drop (length r) (drop a o))))
+    ∙ drop-at (take a o ++ r) (drop (length r) (drop a o)) (a + length r) (length-append (take a o) r ∙ ap (λ (k : ℕ). k + length r) (length-take-le a o h))
+    ∙ drop-drop (length r) a o
+    ∙ ap (λ (k : ℕ). drop k o) (sym (f .ends))
+
 -- nothing written
 pub written-none : (o : List ℕ) (a : ℕ) → Written o a [] o a
 written-none o a = record { stands = splice-none o a; ends = omega arith }

@@ -1,14 +1,14 @@
 -- Laws of a session in its buffers, for the code that takes bytes. `o` is the buffer of answers before a line is written, `u`
 -- after it.
-use mathlib.Core.Path.{_≡_, refl, sym, ap, _∙_}
+use mathlib.Core.Path.{_≡_, refl, sym, ap, ap₂, _∙_}
 use mathlib.Core.List.{List, [], _∷_, _++_, foldl, foldl-append}
 use mathlib.Core.Logic.{_≢_}
-use Prim.Native.Nat.{ℕ, _+_, _≤_, _<_}
+use Prim.Native.Nat.{ℕ, _+_, _-_, _≤_, _<_}
 use native.Mathlib.Omega.{arith}
 use native.Mathlib.Nat.{suc-ne-zero}
 use native.Mathlib.Numerals.{add-one}
-use lib.ListN.{length, getD, set, take, length-append}
-use lib.Seq.{take-all, take-suc, take-suc-set, take-append-le, length-take-le}
+use lib.ListN.{length, getD, set, take, drop, length-append}
+use lib.Seq.{take-all, take-suc, take-suc-set, take-append-le, set-out, drop-drop, length-take-le}
 use borrow.Author.Tests.{eq-eqb, ne-eqb}
 use Rattle.rules.specs.Step.{out, step}
 use Rattle.rules.specs.declared.Answer.{Answer}
@@ -18,7 +18,7 @@ use Rattle.lines.specs.declared.Parsed.the-variants.{Asks, Bad}
 use Rattle.printing.specs.Parts.{Short}
 use Rattle.printing.specs.Writing.{written-take}
 use Rattle.lines.specs.Program.{reply, replyTo, firstTable}
-use Rattle.session.specs.Taking.{Session, session, begun, lineRoom, ended, taken, takenAll, finished, served, paid, after}
+use Rattle.session.specs.Taking.{Session, session, begun, lineRoom, ended, taken, takenAll, finished, served, paid, after, stored, storedAll}
 
 -- a line that asked for x is answered by a
 pub ended-asked : (t l : List ℕ) {w o u : List ℕ} {at r : ℕ} {x : Command} {a : Answer} → parse l ≡ Asks x → out a w ≡ step t x → Short o at (answerLine a) u r → at ≤ length o →
@@ -53,6 +53,38 @@ taken-full t line owed n b e l h k =
     let z : length (take n line) ≡ n = length-take-le n line (omega arith) in
     rw (ne-eqb b lineFeed e) (ap (λ (x : List ℕ). session t x owed) (sym (take-append-le lineRoom (take n line) (b ∷ []) (omega arith) ∙ take-all lineRoom (take n line) (omega arith))))
 
+-- what each of them does to the buffer of the line
+pub stored-feed : (s : Session) (buffer : List ℕ) (b : ℕ) → b ≡ lineFeed → buffer ≡ stored s buffer b
+unfolding stored
+stored-feed s buffer b e = rw (eq-eqb b lineFeed e)
+
+pub stored-more : (t line owed : List ℕ) (n b : ℕ) → b ≢ lineFeed → length line ≡ lineRoom → n ≤ lineRoom → set line n b ≡ stored (session t (take n line) owed) line b
+unfolding stored
+stored-more t line owed n b e l h = rw (ne-eqb b lineFeed e, length-take-le n line (omega arith))
+
+pub stored-full : (t line owed : List ℕ) (n b : ℕ) → b ≢ lineFeed → length line ≡ lineRoom → n ≤ lineRoom → lineRoom ≤ n →
+    line ≡ stored (session t (take n line) owed) line b
+stored-full t line owed n b e l h k = sym (set-out line n b (omega arith)) ∙ stored-more t line owed n b e l h
+
+-- the buffer, after one byte more
+stored-then : (bytes : List ℕ) (s : Session) (buffer : List ℕ) (b : ℕ) → storedAll s buffer (bytes ++ b ∷ []) ≡ stored (takenAll s bytes) (storedAll s buffer bytes) b
+unfolding storedAll
+stored-then [] s buffer b = refl
+stored-then (x ∷ bytes) s buffer b = stored-then bytes (taken s x) (stored s buffer x) b
+
+pub stored-next : (s : Session) (buffer bytes : List ℕ) (i : ℕ) {r : Session} {l k : List ℕ} → r ≡ takenAll s (take i bytes) → l ≡ storedAll s buffer (take i bytes) →
+    k ≡ stored r l (getD bytes i 0) → i < length bytes → k ≡ storedAll s buffer (take (i + 1) bytes)
+stored-next s buffer bytes i e f g h =
+    g
+    ∙ ap₂ (λ (x : Session) (y : List ℕ). stored x y (getD bytes i 0)) e f
+    ∙ sym (ap (storedAll s buffer) (ap (λ (k : ℕ). take k bytes) (add-one i) ∙ take-suc bytes i 0 h) ∙ stored-then (take i bytes) s buffer (getD bytes i 0))
+
+-- the bytes of a buffer from k on are as before, and so are those from a later place on
+pub behind-later : (o u w : List ℕ) (j k : ℕ) → drop j u ≡ drop j o → drop k w ≡ drop k u → j ≤ k → drop k w ≡ drop k o
+behind-later o u w j k e f h =
+    let q : j + (k - j) ≡ k = omega arith in
+    f ∙ sym (ap (λ (i : ℕ). drop i u) q) ∙ sym (drop-drop (k - j) j u) ∙ ap (drop (k - j)) e ∙ drop-drop (k - j) j o ∙ ap (λ (i : ℕ). drop i o) q
+
 -- the next byte of a read
 pub taken-next : (s : Session) (bytes : List ℕ) (i : ℕ) {r q : Session} → r ≡ takenAll s (take i bytes) → q ≡ taken r (getD bytes i 0) → i < length bytes →
     q ≡ takenAll s (take (i + 1) bytes)
@@ -60,6 +92,9 @@ taken-next s bytes i e f h =
     f
     ∙ ap (λ (x : Session). taken x (getD bytes i 0)) e
     ∙ sym (ap (foldl taken s) (ap (λ (k : ℕ). take k bytes) (add-one i) ∙ take-suc bytes i 0 h) ∙ foldl-append taken s (take i bytes) (getD bytes i 0 ∷ []))
+
+pub stored-whole : (s : Session) (buffer bytes : List ℕ) (i : ℕ) {l : List ℕ} → l ≡ storedAll s buffer (take i bytes) → length bytes ≤ i → l ≡ storedAll s buffer bytes
+stored-whole s buffer bytes i e h = e ∙ ap (storedAll s buffer) (take-all i bytes h)
 
 -- all bytes of a read
 pub taken-whole : (s : Session) (bytes : List ℕ) (i : ℕ) {r : Session} → r ≡ takenAll s (take i bytes) → length bytes ≤ i → r ≡ takenAll s bytes
@@ -84,6 +119,11 @@ pub served-some : (s : Session) (bytes : List ℕ) {r : Session} → length byte
 unfolding served
 served-some s [] ne h = absurd (ne refl)
 served-some s (b ∷ bytes) ne h = h
+
+pub stored-none : (s : Session) (buffer bytes : List ℕ) → length bytes ≡ 0 → buffer ≡ storedAll s buffer bytes
+unfolding storedAll
+stored-none s buffer [] e = refl
+stored-none s buffer (b ∷ bytes) e = absurd (suc-ne-zero (length bytes) e)
 
 -- The loop of the program: its table and the bytes of a line that hasn't ended are those after some reads.
 pub record Reached (t line : List ℕ) : Type 0 where

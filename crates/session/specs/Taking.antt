@@ -3,7 +3,7 @@
 use mathlib.Core.Bool.{cond}
 use mathlib.Core.List.{List, [], _∷_, _++_, foldl}
 use Prim.Native.Nat.{ℕ, _+_}
-use lib.ListN.{length, take}
+use lib.ListN.{length, set, take}
 use Rattle.base.specs.Choice.{_==_}
 use Rattle.lines.specs.Lines.{lineFeed, longestLine}
 use Rattle.lines.specs.Program.{reply, firstTable}
@@ -53,7 +53,15 @@ paid s = session (s .table) (s .line) []
 abbrev pub after : List (List ℕ) → Session
 after reads = foldl (λ (s : Session) (bytes : List ℕ). paid (takenAll s bytes)) begun reads
 
--- The same in buffers: n bytes of a line and `owed` bytes of answers, each from the start of its own; the bytes behind them are
--- of no account.
+-- The same in buffers: n bytes of a line and `owed` bytes of answers, each from the start of its own.
 abbrev pub held : List ℕ → List ℕ → ℕ → List ℕ → ℕ → Session
 held t line n out owed = session t (take n line) (take owed out)
+
+-- And all bytes of the buffer of a line: one byte more is put behind those that it has, where there is room, and what longer lines
+-- have left stays behind them.
+unfoldable pub stored : Session → List ℕ → ℕ → List ℕ
+stored s buffer b = cond (b == lineFeed) buffer (set buffer (length (s .line)) b)
+
+unfoldable pub storedAll : Session → List ℕ → List ℕ → List ℕ
+storedAll s buffer [] = buffer
+storedAll s buffer (b ∷ bytes) = storedAll (taken s b) (stored s buffer b) bytes

@@ -2,9 +2,9 @@
 ghost use mathlib.Core.Path.{_≡_};
 ghost use mathlib.Core.List.{[]};
 ghost use Prim.Native.Nat.{_+_, _*_, _≤_};
-ghost use lib.ListN.{length, take};
+ghost use lib.ListN.{length, take, drop};
 ghost use Rattle.printing.specs.Parts.{answerRoom};
-ghost use Rattle.session.specs.Taking.{session, lineRoom, ended, taken, takenAll, finished, served, held};
+ghost use Rattle.session.specs.Taking.{session, lineRoom, ended, taken, takenAll, finished, served, held, stored, storedAll};
 use lines::LINE_FEED;
 use lines::LONGEST_LINE;
 use lines::Parsed;
@@ -22,7 +22,7 @@ pub struct Progress {
 fn end_line(t: &mut [u32], line: &[u8], n: usize, out: &mut [u8], at: usize) -> usize
     requires { ⌜ (n ≤ length (now line)) × (at + answerRoom ≤ length (now out)) ⌝ }
     ensures { λ r. ⌜ session (now (t .exit)) [] (take r (now (out .exit))) ≡ ended (held (now (t .entry)) (now (line .entry)) n (now (out .entry)) at) ⌝ }
-    ensures { λ r. ⌜ r ≤ at + answerRoom ⌝ }
+    ensures { λ r. ⌜ (at ≤ r) × (r ≤ at + answerRoom) × (drop r (now (out .exit)) ≡ drop r (now (out .entry))) ⌝ }
 {
     let Parsed::Asks(x) = parsing::parse(&line[..n]) else {
         return printing::write_bad(out, at);
@@ -35,7 +35,8 @@ fn end_line(t: &mut [u32], line: &[u8], n: usize, out: &mut [u8], at: usize) -> 
 fn take_byte(t: &mut [u32], line: &mut [u8], n: usize, b: u8, out: &mut [u8], at: usize) -> Progress
     requires { ⌜ (length (now line) ≡ lineRoom) × (n ≤ lineRoom) × (at + answerRoom ≤ length (now out)) ⌝ }
     ensures { λ r. ⌜ held (now (t .exit)) (now (line .exit)) (r .line) (now (out .exit)) (r .owed) ≡ taken (held (now (t .entry)) (now (line .entry)) n (now (out .entry)) at) b ⌝ }
-    ensures { λ r. ⌜ (r .line ≤ lineRoom) × (r .owed ≤ at + answerRoom) ⌝ }
+    ensures { λ r. ⌜ (r .line ≤ lineRoom) × (at ≤ r .owed) × (r .owed ≤ at + answerRoom) × (drop (r .owed) (now (out .exit)) ≡ drop (r .owed) (now (out .entry))) ⌝ }
+    ensures { λ r. ⌜ now (line .exit) ≡ stored (held (now (t .entry)) (now (line .entry)) n (now (out .entry)) at) (now (line .entry)) b ⌝ }
 {
     if b == LINE_FEED {
         let end = end_line(t, line, n, out, at);
@@ -55,7 +56,8 @@ fn take_byte(t: &mut [u32], line: &mut [u8], n: usize, b: u8, out: &mut [u8], at
 fn take_bytes(t: &mut [u32], line: &mut [u8], n: usize, bytes: &[u8], out: &mut [u8]) -> Progress
     requires { ⌜ (length (now line) ≡ lineRoom) × (n ≤ lineRoom) × (answerRoom * length (now bytes) ≤ length (now out)) ⌝ }
     ensures { λ r. ⌜ held (now (t .exit)) (now (line .exit)) (r .line) (now (out .exit)) (r .owed) ≡ takenAll (session (now (t .entry)) (take n (now (line .entry))) []) (now (bytes .entry)) ⌝ }
-    ensures { λ r. ⌜ (r .line ≤ lineRoom) × (r .owed ≤ length (now (out .exit))) ⌝ }
+    ensures { λ r. ⌜ (r .line ≤ lineRoom) × (r .owed ≤ length (now (out .exit))) × (drop (r .owed) (now (out .exit)) ≡ drop (r .owed) (now (out .entry))) ⌝ }
+    ensures { λ r. ⌜ now (line .exit) ≡ storedAll (session (now (t .entry)) (take n (now (line .entry))) []) (now (line .entry)) (now (bytes .entry)) ⌝ }
 {
     let mut p = Progress { line: n, owed: 0 };
     let mut i = 0;
@@ -70,7 +72,7 @@ fn take_bytes(t: &mut [u32], line: &mut [u8], n: usize, bytes: &[u8], out: &mut 
 fn finish(t: &mut [u32], line: &[u8], n: usize, out: &mut [u8]) -> usize
     requires { ⌜ (n ≤ length (now line)) × (answerRoom ≤ length (now out)) ⌝ }
     ensures { λ r. ⌜ session (now (t .exit)) [] (take r (now (out .exit))) ≡ finished (session (now (t .entry)) (take n (now (line .entry))) []) ⌝ }
-    ensures { λ r. ⌜ r ≤ length (now (out .exit)) ⌝ }
+    ensures { λ r. ⌜ (r ≤ length (now (out .exit))) × (drop r (now (out .exit)) ≡ drop r (now (out .entry))) ⌝ }
 {
     if n == 0 {
         return 0;
@@ -79,11 +81,12 @@ fn finish(t: &mut [u32], line: &[u8], n: usize, out: &mut [u8]) -> usize
 }
 
 // A read, after n bytes of a line that hasn't ended; one without bytes is the end of the input. Its answers stand at the start
-// of `out`.
+// of `out`, whose other bytes stay.
 pub fn serve(t: &mut [u32], line: &mut [u8], n: usize, bytes: &[u8], out: &mut [u8]) -> Progress
     requires { ⌜ (length (now line) ≡ lineRoom) × (n ≤ lineRoom) × (answerRoom * length (now bytes) ≤ length (now out)) × (answerRoom ≤ length (now out)) ⌝ }
     ensures { λ r. ⌜ held (now (t .exit)) (now (line .exit)) (r .line) (now (out .exit)) (r .owed) ≡ served (session (now (t .entry)) (take n (now (line .entry))) []) (now (bytes .entry)) ⌝ }
-    ensures { λ r. ⌜ (r .line ≤ lineRoom) × (r .owed ≤ length (now (out .exit))) ⌝ }
+    ensures { λ r. ⌜ (r .line ≤ lineRoom) × (r .owed ≤ length (now (out .exit))) × (drop (r .owed) (now (out .exit)) ≡ drop (r .owed) (now (out .entry))) ⌝ }
+    ensures { λ r. ⌜ now (line .exit) ≡ storedAll (session (now (t .entry)) (take n (now (line .entry))) []) (now (line .entry)) (now (bytes .entry)) ⌝ }
 {
     if bytes.len() == 0 {
         let owed = finish(t, line, n, out);

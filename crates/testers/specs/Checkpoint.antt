@@ -6,7 +6,7 @@ use mathlib.Core.Logic.{_≢_}
 use Prim.Native.Nat.{ℕ, _+_, _-_, _≤_, _<_}
 use native.Mathlib.Omega.{arith}
 use borrow.Author.Tests.{eqb-true, eq-eqb, lt-ltb, le-ltb, le-leb, lt-leb, not-false}
-use Rattle.base.specs.Choice.{_==_, _≤?_, _<?_, and-left, and-right, cond-ind, le?}
+use Rattle.base.specs.Choice.{_==_, _≤?_, _<?_, and-left, and-right, cond-ind}
 use Rattle.base.specs.Ranges.{allb, allb-get, allb-all}
 use Rattle.base.specs.Cases.{allOf, passed, firstOf}
 use Rattle.table.specs.Field.{State, OfHead, OfController, Known, OfPlace, Size, Incarnation, LiveCount, StableCount, PlaceIncarnation, PlaceNumber, Cause, Flag, PairIncarnation, PairNumber, word, owner, second, same, spareFrom, placeHead}
@@ -23,13 +23,10 @@ use Rattle.rules.specs.declared.Command.the-variants.{Checkpoint}
 use Rattle.laws.specs.Facts.{form, below-8, controllerForm}
 use Rattle.laws.specs.Allowed.{checkpointAllowed}
 use Rattle.laws.specs.Records.{placeVector-of}
+use Rattle.model.specs.Tests.{eq?}
 use Rattle.image.specs.Tests.{fresh}
 use Rattle.testers.specs.FormSame.{zeros-same, controllerOk-of, rowOk-of, placeOk-of, messageOk-of}
 use Rattle.testers.specs.StepSame.{Same, same-refl}
-
--- two numbers are one, or not
-eq? : {A : Type 0} (a b : ℕ) → (a ≡ b → A) → (a ≢ b → A) → A
-eq? a b f g = le? a b (λ l. le? b a (λ m. f (omega arith)) (λ m. g (omega arith))) (λ l. g (omega arith))
 
 -- A change ρ of σ that leaves the head and the numbers is in form where σ is, if each test that passed passes again.
 module _ (σ ρ : State) (e : inForm house σ ≡ true) (head : (k : ℕ) → ρ (OfHead k) ≡ σ (OfHead k)) (N : Numbered ρ σ) where

@@ -30,7 +30,7 @@ loop-again c =
     let inv = got .before .before .before .loop .inv in
     let e = served .serve .ensures in
     let n = counted .count in
-    (reached-next (take (n .result) (got .read-in .last .0)) (inv .0) (λ z. c .if3 .left (n .ensures .0 .1 ∙ z)) (e .0), search needs, search needs, search needs, search needs, e .1 .0, omega (arith, inv .6))
+    (reached-next (take (n .result) (got .read-in .last .0)) (inv .0) (λ z. c .if3 .left (n .ensures .0 .1 ∙ z)) (e .0), search needs, search needs, search needs, search needs, e .1 .0 .0, omega (arith, inv .6))
 
 pub main-spec : {M : Type 1} → statement M
 main-spec =

@@ -1,4 +1,5 @@
 -- Without a line there is nothing more; else it ends (finished-none, finished-more).
+use mathlib.Core.Path.{refl}
 use native.Mathlib.Omega.{arith}
 use borrow.Author.Needs.{needs}
 use Rattle.session.specs.Buffers.{finished-none, finished-more}
@@ -6,13 +7,13 @@ use Rattle.session.proofs.finish.Statement.{statement}
 use Rattle.session.proofs.finish.Tie as tie
 
 returns : tie.Need-returns
-returns c = (finished-none _ _ _ (c .if1 .taken), omega arith)
+returns c = (finished-none _ _ _ (c .if1 .taken), (omega arith, refl))
 
 returns-2 : tie.Need-returns-2
 returns-2 c =
     let e = c .before .before .before .before .end-line .ensures in
     let left = c .before .before .before .before .before .before .before in
-    (finished-more _ _ _ (left .before .before .before .before .pre .0) (left .if1 .left) (e .0), omega (arith, e .1))
+    (finished-more _ _ _ (left .before .before .before .before .pre .0) (left .if1 .left) (e .0), (omega (arith, e .1 .1), e .1 .2))
 
 pub finish-spec : {M : Type 1} → statement M
 finish-spec = tie.close (tie.spec

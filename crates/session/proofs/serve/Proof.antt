@@ -1,14 +1,15 @@
 -- A read without bytes is the end of the input, and another one is taken (served-none, served-some).
 use native.Mathlib.Omega.{arith}
 use borrow.Author.Needs.{needs}
-use Rattle.session.specs.Buffers.{served-none, served-some}
+use Rattle.session.specs.Buffers.{served-none, served-some, stored-none}
 use Rattle.session.proofs.serve.Statement.{statement}
 use Rattle.session.proofs.serve.Tie as tie
 
 returns : tie.Need-returns
 returns c =
     let e = c .before .before .before .before .finish .ensures in
-    (served-none _ _ (c .before .before .before .before .before .before .before .before .if1 .taken) (e .0), (omega arith, e .1))
+    let none = c .before .before .before .before .before .before .before .before .if1 .taken in
+    (served-none _ _ none (e .0), ((omega arith, e .1 .0, e .1 .1), stored-none _ _ _ none))
 
 returns-2 : tie.Need-returns-2
 returns-2 c =

@@ -1,24 +1,27 @@
--- Each return is a case of a byte: a line feed, one that has no room, another (taken-feed, taken-full, taken-more).
+-- Each return is a case of a byte: a line feed, one that has no room, another (taken-feed, taken-full, taken-more, and the same of
+-- the buffer of the line).
+use mathlib.Core.Path.{refl}
 use native.Mathlib.Omega.{arith}
 use borrow.Author.Needs.{needs}
-use Rattle.session.specs.Buffers.{taken-feed, taken-more, taken-full}
+use Rattle.session.specs.Buffers.{taken-feed, taken-more, taken-full, stored-feed, stored-more, stored-full}
 use Rattle.session.proofs.take_byte.Statement.{statement}
 use Rattle.session.proofs.take_byte.Tie as tie
 
 returns : tie.Need-returns
 returns c =
     let e = c .before .before .before .before .end-line .ensures in
-    (taken-feed _ _ (c .before .before .before .before .before .before .before .before .if1 .taken) (e .0), (omega arith, e .1))
+    let feed = c .before .before .before .before .before .before .before .before .if1 .taken in
+    (taken-feed _ _ feed (e .0), ((omega arith, e .1 .0, e .1 .1, e .1 .2), stored-feed _ _ _ feed))
 
 returns-2 : tie.Need-returns-2
 returns-2 c =
     let pre = c .before .before .before .before .before .pre in
-    (taken-full _ _ _ _ _ (c .before .if1 .left) (pre .0) (pre .1) (c .if2 .taken), (pre .1, omega arith))
+    (taken-full _ _ _ _ _ (c .before .if1 .left) (pre .0) (pre .1) (c .if2 .taken), ((pre .1, omega arith, omega arith, refl), stored-full _ _ _ _ _ (c .before .if1 .left) (pre .0) (pre .1) (c .if2 .taken)))
 
 returns-3 : tie.Need-returns-3
 returns-3 c =
     let pre = c .before .before .before .before .before .pre in
-    (taken-more _ _ _ _ _ (c .before .if1 .left) (pre .0) (c .if2 .left), (omega arith, omega arith))
+    (taken-more _ _ _ _ _ (c .before .if1 .left) (pre .0) (c .if2 .left), ((omega arith, omega arith, omega arith, refl), stored-more _ _ _ _ _ (c .before .if1 .left) (pre .0) (pre .1)))
 
 pub take-byte-spec : {M : Type 1} → statement M
 take-byte-spec =
