@@ -199,6 +199,10 @@ static void work(void)
 static void crash(void)
 {
     step("drive crashes", 'X', DRIVE, 0, 0);
+
+    /* Its work is lost, and not the messages: it is offered them again, beside one on its way. */
+    step("deliver 1", 'D', 1, 0, 0);
+    step("deliver 2", 'D', 2, 0, 0);
     step("deliver 6", 'D', 6, 0, 0);
     step("drive sends 2 to arm", 'S', DRIVE, ARM, 2);
     step("release 7", 'R', 7, 0, 0);

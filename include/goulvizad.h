@@ -55,6 +55,10 @@ extern "C" {
  *   'T'     owner       holder                 tell the holder which of the owner's intervals are stable
  *   'X'     controller                         crash
  *   'H'     hearer      crashed   incarnation  hear of the crash that ended that incarnation
+ *
+ * The message that began an interval which is lost by 'X' or undone by 'H' is released again: it can be
+ * delivered once more. It is dropped where it rests itself on work lost in a crash that this controller
+ * has heard of, its own crash included.
  */
 
 /*

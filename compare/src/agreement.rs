@@ -58,14 +58,15 @@ pub fn beside(
     Ok(())
 }
 
-/// Does one step with both machines, each on its own copy of the words.
-pub fn on_lent(words: &[u32], command: Command) -> Result<Answer, Difference> {
+/// Does one step with both machines, each on its own copy of the words, and returns the answer and the
+/// words after it.
+pub fn on_lent(words: &[u32], command: Command) -> Result<(Answer, Vec<u32>), Difference> {
     let mut proved = words.to_vec();
     let mut other = words.to_vec();
     let answer = proved::step(&mut proved, command);
     let others = machine::step(&mut other, command);
     agree((answer, &proved), (others, &other))?;
-    Ok(answer)
+    Ok((answer, proved))
 }
 
 /// Holds an answer and all the words of a table against another's.

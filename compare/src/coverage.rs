@@ -4,7 +4,7 @@ use reference::lines;
 use reference::machine::{Answer, Command};
 use reference::refusal::{self, Refusal};
 use reference::table::{Table, CONTROLLERS};
-use std::collections::BTreeSet;
+use std::collections::{BTreeMap, BTreeSet};
 
 /// The answers but the refusals, in the order of the alphabet.
 const ANSWERS: [&str; 10] = [
@@ -89,6 +89,8 @@ pub struct Seen {
     answers: BTreeSet<String>,
     /// The refusals, each with the letter of its step.
     refusals: BTreeSet<(Refusal, char)>,
+    /// How often each case of causes came up.
+    causes: BTreeMap<String, u64>,
     /// How far the houses went.
     pub extent: Extent,
 }
@@ -107,6 +109,13 @@ impl Seen {
         }
     }
 
+    /// Takes note of what became of causes, by the words of [`reference::causes`].
+    pub fn note_causes(&mut self, cases: impl IntoIterator<Item = String>) {
+        for case in cases {
+            *self.causes.entry(case).or_default() += 1;
+        }
+    }
+
     /// Takes note of how far a house went, by a table in form.
     pub fn note_extent(&mut self, words: &[u32]) {
         if let Some(table) = Table::new(words) {
@@ -119,6 +128,9 @@ impl Seen {
         self.steps += other.steps;
         self.answers.extend(other.answers);
         self.refusals.extend(other.refusals);
+        for (case, count) in other.causes {
+            *self.causes.entry(case).or_default() += count;
+        }
         self.extent = self.extent.farther(other.extent);
         self
     }
@@ -135,6 +147,16 @@ impl Seen {
                 assert_eq!(self.refused(refusal), letters, "refused {refusal}");
             }
         }
+    }
+
+    /// These cases of causes came up, each of them and no other.
+    ///
+    /// # Panics
+    /// If one is missing or there is another.
+    pub fn assert_causes<S: AsRef<str>>(&self, cases: &[S]) {
+        println!("{:#?}", self.causes);
+        let seen = self.causes.keys().map(String::as_str);
+        assert!(seen.eq(cases.iter().map(S::as_ref)));
     }
 
     /// The letters of the steps that were refused so.

@@ -4,6 +4,7 @@
 use compare::agreement::{beside, Difference, Parting};
 use compare::coverage::{Extent, Seen};
 use compare::{effort, in_form};
+use reference::causes::{self, Offers};
 use reference::demand::Judge;
 use reference::generate::{Profile, Walk};
 use reference::machine::{Answer, Command, Fault};
@@ -23,12 +24,18 @@ const LISTS: [(&Profile, u64); 6] = [
 fn compare_list(profile: &'static Profile, seed: u64, seen: &mut Seen) {
     let mut judge = Judge::default();
     let mut opened = false;
-    let together = beside(Walk::new(seed, profile), |command, answer, table| {
+    let mut offers = Offers::default();
+    let walk = Walk::new(seed, profile);
+    let mut before = walk.table().to_vec();
+    let together = beside(walk, |command, answer, table| {
         opened |= matches!((command, answer), (Command::Open { .. }, Answer::Done));
         assert_eq!(in_form(table), opened, "list {seed}: {command:?}");
         judge.feed(command, answer);
         seen.note(command, answer);
+        seen.note_causes(causes::cases(&before, command, answer, table));
+        seen.note_causes(offers.feed(&before, command, answer, table));
         seen.note_extent(table);
+        before.copy_from_slice(table);
     });
     assert_eq!(together, Ok(()), "{} list {seed}", profile.name);
     assert_eq!(judge.finish(), [], "{} list {seed}", profile.name);
@@ -53,6 +60,7 @@ fn the_machines_agree_on_every_step() {
     assert!(seen.steps > 300_000, "only {} steps", seen.steps);
     // No list is lent a table that is too short or, after its opening, not in form.
     seen.assert_all(refusal::CONTROLLER);
+    seen.assert_causes(&causes::IN_LISTS);
     assert_eq!(seen.extent, Extent::UTMOST);
 }
 

@@ -26,12 +26,14 @@ fn listing_a() -> Vec<(String, String)> {
     lines(&script).into_iter().zip(lines(&answers)).collect()
 }
 
-/// The examples that README and the guide show: Listing A, and the worked example of the method's paper.
+/// The examples that README and the guide show: Listing A, the worked example of the method's paper, and
+/// a message that is offered again after a crash.
 #[test]
 fn stored_examples_are_answered_as_stored() {
-    for name in ["listing_a", "paper"] {
+    for name in ["listing_a", "paper", "offered_again"] {
         let [script, expected] = stored(name);
         assert_eq!(played(&script), expected, "{name}");
+        assert_eq!(lines::run(&script), expected, "{name}");
     }
 }
 

@@ -4,118 +4,30 @@
 use compare::agreement::on_lent;
 use compare::coverage::Seen;
 use compare::{effort, in_form};
+use reference::causes;
 use reference::generate::{
-    damaged, in_form_table, noise, senseless, wrong_length, Profile, Random, Walk,
+    damaged, in_form_table, named, noise, senseless, wrong_length, Profile, Random, Walk,
 };
 use reference::machine::Command;
 use reference::refusal;
-use reference::table::{
-    self, state, Table, CONTROLLERS, INCARNATIONS, LAST_MESSAGE, LAST_NUMBER, WORDS,
-};
+use reference::table::{self, WORDS};
 
-/// One who looks at a table of any content and names what is there, as far as there is something.
-struct Namer<'a> {
-    random: &'a mut Random,
-    table: Table<&'a [u32]>,
-}
-
-impl Namer<'_> {
-    fn n(&self) -> u32 {
-        self.table.n().clamp(1, CONTROLLERS as u32)
-    }
-
-    fn controller(&mut self) -> u32 {
-        let n = self.n();
-        self.random.below(n)
-    }
-
-    /// A message in this state, or else any.
-    fn message(&mut self, state: u32) -> u32 {
-        let sent = self.table.sent().min(LAST_MESSAGE);
-        let in_state: Vec<u32> = (1..=sent)
-            .filter(|&message| self.table.message(message).state == state)
-            .collect();
-        let chosen = self.random.pick(&in_state);
-        chosen.unwrap_or_else(|| self.random.within(0..=sent))
-    }
-
-    /// How many intervals to log: often all that aren't stable.
-    fn count(&mut self, controller: u32) -> u32 {
-        let counts = self.table.controller(controller as usize);
-        let volatile = counts.live.wrapping_sub(counts.stable).min(LAST_NUMBER);
-        if self.random.chance(50) {
-            volatile
-        } else {
-            self.random.within(0..=volatile + 1)
-        }
-    }
-
-    /// An incarnation that a crash has ended, or else any.
-    fn ended(&mut self, crashed: u32) -> u32 {
-        let own = self.table.ends(crashed as usize);
-        let ended: Vec<u32> = (0..INCARNATIONS as u32)
-            .filter(|&incarnation| own.word(crashed as usize, incarnation) != 0)
-            .collect();
-        let chosen = self.random.pick(&ended);
-        chosen.unwrap_or_else(|| self.random.within(0..=INCARNATIONS as u32))
-    }
-
-    /// A step of each letter.
-    fn steps(&mut self) -> [Command; 10] {
-        let (controller, other) = (self.controller(), self.controller());
-        [
-            Command::Open {
-                n: self.n(),
-                degree: other,
-            },
-            Command::SetDegree {
-                controller,
-                degree: other,
-            },
-            Command::Send {
-                sender: controller,
-                receiver: other,
-                payload: self.random.word(),
-            },
-            Command::Release {
-                message: self.message(state::HELD),
-            },
-            Command::Deliver {
-                message: self.message(state::RELEASED),
-            },
-            Command::Log {
-                controller,
-                count: self.count(controller),
-            },
-            Command::Checkpoint { controller },
-            Command::Tell {
-                owner: controller,
-                holder: other,
-            },
-            Command::Crash { controller },
-            Command::Hear {
-                hearer: controller,
-                crashed: other,
-                incarnation: self.ended(other),
-            },
-        ]
-    }
-}
-
-/// Ten steps with sensible numbers, where the table has its length, and ten with any.
+/// A step of each letter with sensible numbers, where the table has its length, and ten with any.
 fn steps(random: &mut Random, words: &[u32]) -> Vec<Command> {
-    let sensible = Table::new(words).map(|table| Namer { random, table }.steps());
-    let any = (0..10).map(|_| senseless(random));
-    sensible.into_iter().flatten().chain(any).collect()
+    let mut steps = named(random, words);
+    steps.extend((0..10).map(|_| senseless(random)));
+    steps
 }
 
 /// Does each of many steps on the table as it was lent.
 fn compare_table(random: &mut Random, words: &[u32], seen: &mut Seen) {
     assert_eq!(in_form(words), table::in_form(words));
     for command in steps(random, words) {
-        let answer = on_lent(words, command);
-        let answer = answer.unwrap_or_else(|difference| panic!("{command:?}: {difference:?}"));
+        let agreed = on_lent(words, command);
+        let (answer, after) =
+            agreed.unwrap_or_else(|difference| panic!("{command:?}: {difference:?}"));
         seen.note(command, answer);
+        seen.note_causes(causes::cases(words, command, answer, &after));
     }
 }
 
@@ -134,6 +46,7 @@ fn tables_in_form() {
     let seen = compare_tables(1, 4_000, in_form_table);
     assert!(seen.steps >= 80_000);
     seen.assert_all(refusal::CONTROLLER);
+    seen.assert_causes(&causes::on_lent_tables());
 }
 
 #[test]

@@ -4,7 +4,7 @@
 //! the two meet.
 
 use crate::history::{Controller, Crash, History, Interval, IntervalId};
-use crate::table::{in_form, Table, CONTROLLERS, INCARNATIONS};
+use crate::table::{in_form, state, Table, CONTROLLERS, INCARNATIONS};
 use crate::vector::{Pair, Row, Vector};
 use std::array;
 
@@ -39,9 +39,17 @@ struct Facts<'a> {
 type Fact<'a> = (&'static str, fn(&Facts<'a>) -> bool);
 
 impl<'a> Facts<'a> {
-    const ALL: [Fact<'a>; 10] = [
+    const ALL: [Fact<'a>; 12] = [
         ("the chains agree", Self::chains_agree),
         ("the messages agree", Self::messages_agree),
+        (
+            "the delivered are the causes of live intervals",
+            Self::delivered_are_causes,
+        ),
+        (
+            "only what rests on lost work is dropped, and nothing is lost",
+            Self::dropped_rest_on_lost,
+        ),
         (
             "what isn't stable is of this incarnation",
             Self::volatile_is_present,
@@ -93,6 +101,33 @@ impl Facts<'_> {
                     && record.sender as usize == sending.owner
                     && Pair::new(record.incarnation, record.number) == name_of(sending)
             })
+    }
+
+    /// A message is delivered exactly when it began a live interval, and then it is the cause of no
+    /// other: one that is offered again isn't delivered before it is.
+    fn delivered_are_causes(&self) -> bool {
+        let mut causes = Vec::new();
+        for (c, controller) in self.controllers() {
+            let places = 0..controller.chain.len();
+            causes.extend(places.map(|place| self.table.place(c, place).cause));
+        }
+        causes.retain(|&cause| cause != 0);
+        causes.sort_unstable();
+        let delivered = (1..=self.table.sent())
+            .filter(|&message| self.table.message(message).state == state::DELIVERED);
+        delivered.eq(causes)
+    }
+
+    /// "A crash no longer loses the message, only the work done from it."
+    fn dropped_rest_on_lost(&self) -> bool {
+        let is_lost = |id: IntervalId| self.interval(id).lost_in.is_some();
+        self.history.messages().iter().all(|(&message, sent)| {
+            let rests_on = &self.interval(sent.sending_interval).rests_on;
+            match self.table.message(message).state {
+                state::DROPPED => rests_on.iter().any(is_lost),
+                other => other != state::LOST,
+            }
+        })
     }
 
     /// The newest place, and every place from the stable count on, has the controller's incarnation.

@@ -2,12 +2,14 @@
 
 mod choose;
 mod lists;
+mod named;
 mod profile;
 mod random;
 mod scripts;
 mod tables;
 
 pub use lists::{senseless, Walk};
+pub use named::named;
 pub use profile::Profile;
 pub use random::Random;
 pub use scripts::script;

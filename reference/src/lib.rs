@@ -10,10 +10,12 @@
 //! - [`history`]: the history of a house, read off the steps and their answers alone.
 //! - [`demand`]: demand 3, judged by that history.
 //! - [`facts`]: what ties a table to its history after each step of the sound machine.
+//! - [`causes`]: what became of the causes of lost and undone intervals, in words.
 //! - [`generate`]: random lists of steps, lent tables and scripts.
 //!
 //! Quoted sentences in the comments are the rules that the code below them follows.
 
+pub mod causes;
 pub mod demand;
 pub mod facts;
 pub mod generate;

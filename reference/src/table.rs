@@ -33,11 +33,13 @@ pub const LAST_MESSAGE: u32 = MESSAGES as u32;
 pub mod state {
     /// Sent, and waiting at its sender for release.
     pub const HELD: u32 = 1;
-    /// Let out, and waiting at its receiver for delivery.
+    /// Let out, and waiting at its receiver for delivery, also for another one after the interval that
+    /// it began was lost or undone.
     pub const RELEASED: u32 = 2;
     /// The cause of an interval.
     pub const DELIVERED: u32 = 3;
-    /// The cause of an interval that was lost in a crash.
+    /// In form, but no step gives it: "a crash no longer loses the message, only the work done from
+    /// it". Only a table that was lent so has it.
     pub const LOST: u32 = 4;
     /// Condemned, or sent from work that was taken back.
     pub const DROPPED: u32 = 5;

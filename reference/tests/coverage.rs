@@ -1,17 +1,23 @@
-//! The generators reach every answer, every refusal, and the limits of a house.
+//! The generators reach every answer, every refusal, the limits of a house, and all that becomes of
+//! the causes of lost and undone intervals.
 
-use reference::generate::{damaged, in_form_table, senseless, wrong_length, Profile, Random, Walk};
+use reference::causes::{self, Offers};
+use reference::generate::{
+    damaged, in_form_table, named, senseless, wrong_length, Profile, Random, Walk,
+};
 use reference::lines;
 use reference::machine::{step, Answer, Command};
 use reference::refusal::{self, Refusal};
 use reference::table::Table;
-use std::collections::BTreeSet;
+use std::collections::{BTreeMap, BTreeSet};
 
-/// The answers without their numbers, but a refusal with its own and the letter of its step.
+/// The answers without their numbers, but a refusal with its own and the letter of its step; and how
+/// often each case of causes came up.
 #[derive(Default)]
 struct Seen {
     answers: BTreeSet<String>,
     refusals: BTreeSet<(Refusal, char)>,
+    causes: BTreeMap<String, u64>,
 }
 
 impl Seen {
@@ -26,6 +32,12 @@ impl Seen {
                 self.answers
                     .extend(line.split(' ').next().map(str::to_owned));
             }
+        }
+    }
+
+    fn note_causes(&mut self, cases: impl IntoIterator<Item = String>) {
+        for case in cases {
+            *self.causes.entry(case).or_default() += 1;
         }
     }
 
@@ -73,8 +85,13 @@ fn lists_reach_everything() {
     for profile in Profile::ALL {
         for seed in 0..150 {
             let mut walk = Walk::new(seed, profile);
+            let mut before = walk.table().to_vec();
+            let mut offers = Offers::default();
             while let Some((command, answer)) = walk.next() {
                 seen.note(command, answer);
+                seen.note_causes(causes::cases(&before, command, answer, walk.table()));
+                seen.note_causes(offers.feed(&before, command, answer, walk.table()));
+                before.copy_from_slice(walk.table());
                 let table = Table::new(walk.table()).expect("the right length");
                 sizes.insert(table.n());
                 sent = sent.max(table.sent());
@@ -93,6 +110,8 @@ fn lists_reach_everything() {
     for (refusal, letters) in REFUSED {
         assert_eq!(seen.refused(refusal), letters, "refused {refusal}");
     }
+    println!("in lists: {:#?}", seen.causes);
+    assert!(seen.causes.keys().eq(&causes::IN_LISTS));
     assert_eq!((incarnation, live, sent), (15, 64, 128));
     assert!(sizes.iter().eq(&[1, 2, 3, 4, 5, 6, 7, 8]), "{sizes:?}");
     assert!(degrees_released.into_iter().eq(0..=8));
@@ -103,17 +122,24 @@ fn lists_reach_everything() {
 fn lent_tables_reach_everything() {
     let mut random = Random::new(21);
     let mut seen = Seen::default();
-    for _ in 0..4_000 {
+    for _ in 0..6_000 {
         let mut words = match random.below(8) {
             0 => wrong_length(&mut random),
             1 => damaged(&mut random).0,
             _ => in_form_table(&mut random),
         };
         for _ in 0..10 {
-            let command = senseless(&mut random);
-            seen.note(command, step(&mut words, command));
+            let sensible = named(&mut random, &words);
+            let sensible = random.pick(&sensible).filter(|_| random.chance(50));
+            let command = sensible.unwrap_or_else(|| senseless(&mut random));
+            let before = words.clone();
+            let answer = step(&mut words, command);
+            seen.note(command, answer);
+            seen.note_causes(causes::cases(&before, command, answer, &words));
         }
     }
+    println!("on lent tables: {:#?}", seen.causes);
+    assert!(seen.causes.keys().eq(&causes::on_lent_tables()));
     assert!(seen.answers.iter().eq(&ANSWERS), "{:?}", seen.answers);
     assert_eq!(seen.refused(refusal::LENGTH), "CDHKLORSTX");
     assert_eq!(seen.refused(refusal::FORM), "CDHKLRSTX");

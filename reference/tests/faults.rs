@@ -29,7 +29,7 @@ const BY_DEMAND_OR_UNREADABLE: Means = [true, true, true];
 const UNREADABLE: Means = [false, true, true];
 const BY_COMPARISON_ONLY: Means = [false, false, true];
 
-const EXPECTED: [(Fault, Means); 18] = [
+const EXPECTED: [(Fault, Means); 21] = [
     (Fault::LargerAcrossIncarnations, BY_DEMAND),
     (Fault::NumbersWithoutIncarnations, BY_DEMAND),
     (Fault::StoredPairsCounted, BY_COMPARISON_ONLY),
@@ -37,6 +37,10 @@ const EXPECTED: [(Fault, Means); 18] = [
     (Fault::KeptNotLogged, BY_DEMAND),
     (Fault::KnownNotRaised, BY_COMPARISON_ONLY),
     (Fault::HeldKept, BY_COMPARISON_ONLY),
+    // Whatever is offered again, a delivery drops what is condemned: demand 3 sees no difference.
+    (Fault::LostGiven, BY_COMPARISON_ONLY),
+    (Fault::EndsBeforeCrash, BY_COMPARISON_ONLY),
+    (Fault::CondemnedOffered, BY_COMPARISON_ONLY),
     (Fault::RefusesAll, BY_COMPARISON_ONLY),
     (Fault::DoneToAll, UNREADABLE),
     (Fault::WritesNoWord, BY_COMPARISON_ONLY),

@@ -57,19 +57,127 @@ fn telling_keeps_the_larger_word() {
     );
 }
 
-#[test]
-fn a_lost_cause_is_lost_whatever_its_state() {
-    let mut house = two_deliveries();
-    for (message, state) in [(1, state::HELD), (2, state::DROPPED)] {
-        set_message(&mut house, message, |record| {
-            record.state = state;
-            record.sender = 1;
-            record.number = 64;
-        });
+/// "On a crash, the cause of each lost interval becomes released again, or dropped if its vector is
+/// condemned to that controller by its ends after the crash."
+mod lost_causes {
+    use super::*;
+
+    fn states<const N: usize>(house: &House, messages: [u32; N]) -> [u32; N] {
+        messages.map(|message| house.table().message(message).state)
     }
-    assert_eq!(house.say("X 1"), "crashed 1 0 1 2 0");
-    let states = [1, 2].map(|message| house.table().message(message).state);
-    assert_eq!(states, [state::LOST, state::LOST]);
+
+    #[test]
+    fn are_released_again_whatever_their_state_and_receiver() {
+        for (from, receiver) in (state::HELD..=state::DROPPED).flat_map(|s| [(s, 0), (s, 1)]) {
+            let mut house = two_deliveries();
+            // Still held, they would be dropped as sent from lost work.
+            for message in [1, 2] {
+                set_message(&mut house, message, |record| {
+                    record.state = from;
+                    record.sender = 1;
+                    record.receiver = receiver;
+                    record.number = 64;
+                });
+            }
+            assert_eq!(house.say("X 1"), "crashed 1 0 1 2 0");
+            let released = [state::RELEASED; 2];
+            assert_eq!(states(&house, [1, 2]), released, "from state {from}");
+        }
+    }
+
+    #[test]
+    fn are_delivered_again() {
+        let mut house = two_deliveries();
+        house.go_on("L 1 1");
+        assert_eq!(house.say("X 1"), "crashed 1 0 2 1 1");
+        // The first delivery was logged, and stays.
+        assert_eq!(states(&house, [1, 2]), [state::DELIVERED, state::RELEASED]);
+        assert_eq!(house.say("D 1"), "refused 7");
+        assert_eq!(house.say("R 2"), "refused 7");
+        assert_eq!(house.say("D 2"), "delivered 2 1 4");
+        let newest = house.table().newest(1);
+        assert_eq!((newest.cause, newest.flag), (2, 0));
+        // Lost once more, it is offered once more.
+        assert_eq!(house.say("X 1"), "crashed 1 1 3 1 2");
+        assert_eq!(house.say("D 2"), "delivered 2 2 5");
+        assert_eq!(house.say("D 2"), "refused 7");
+    }
+
+    /// The own end word is written first: the last cause rests on the first interval that is lost.
+    #[test]
+    fn that_rest_on_what_was_just_lost_are_dropped() {
+        let mut house = House::after("O 3 3");
+        assert_eq!(bring(&mut house, 0, 1), "delivered 1 0 2");
+        assert_eq!(bring(&mut house, 1, 2), "delivered 2 0 2");
+        assert_eq!(bring(&mut house, 2, 1), "delivered 3 0 3");
+        assert_eq!(house.table().message(3).vector[1], Pair::new(0, 2));
+        assert_eq!(house.say("X 1"), "crashed 1 0 1 2 0");
+        assert_eq!(
+            states(&house, [1, 2, 3]),
+            [state::RELEASED, state::DELIVERED, state::DROPPED]
+        );
+        assert_eq!(house.say("D 3"), "refused 7");
+        assert_eq!(house.say("D 1"), "delivered 1 1 3");
+    }
+
+    #[test]
+    fn are_judged_by_the_end_word_of_the_crash() {
+        // The number kept is 2; another end word may stand there before.
+        for before in [0, 1, 64] {
+            for (pair, state) in [
+                (Pair::new(0, 3), state::DROPPED),
+                (Pair::new(0, 2), state::RELEASED),
+                (Pair::new(1, 3), state::RELEASED),
+            ] {
+                let mut house = two_deliveries();
+                house.go_on("L 1 1");
+                house.lend(|table| table.set_end(1, 1, 0, before));
+                set_message(&mut house, 2, |record| record.vector[1] = pair);
+                assert_eq!(house.say("X 1"), "crashed 1 0 2 1 1");
+                assert_eq!(states(&house, [2]), [state], "{pair:?} over {before}");
+                assert_eq!(house.table().ends(1).word(1, 0), 2);
+            }
+        }
+    }
+
+    #[test]
+    fn are_judged_by_crashes_that_their_controller_heard_before() {
+        for (holder, pair, state) in [
+            (1, Pair::new(3, 5), state::DROPPED),
+            (1, Pair::new(3, 4), state::RELEASED),
+            (1, Pair::new(2, 5), state::RELEASED),
+            (0, Pair::new(3, 5), state::RELEASED),
+        ] {
+            let mut house = two_deliveries();
+            house.lend(|table| table.set_end(holder, 0, 3, 4));
+            set_message(&mut house, 1, |record| record.vector[0] = pair);
+            assert_eq!(house.say("X 1"), "crashed 1 0 1 2 0");
+            assert_eq!(
+                states(&house, [1, 2]),
+                [state, state::RELEASED],
+                "{pair:?}, an end that {holder} has heard"
+            );
+        }
+    }
+}
+
+/// "State 4 isn't given any more; a table that has it stays in form."
+#[test]
+fn a_lost_message_stays_lost_as_long_as_its_interval_stays() {
+    let mut house = two_deliveries();
+    house.go_on("L 1 1\nS 0 1 7");
+    for message in [1, 3] {
+        set_message(&mut house, message, |record| record.state = state::LOST);
+    }
+    // One of them is the cause of a kept interval, the other of none.
+    for line in ["R 1", "D 1", "R 3", "D 3"] {
+        assert_eq!(house.say(line), "refused 7", "{line}");
+    }
+    house.go_on("K 0 1\nS 1 0 7\nR 4\nD 4\nT 0 1\nX 1\nC 1\nD 2\nL 1 1");
+    assert_eq!(house.say("H 0 1 0"), "rolled 0 1 1 0");
+    for message in [1, 3] {
+        assert_eq!(house.table().message(message).state, state::LOST);
+    }
 }
 
 #[test]

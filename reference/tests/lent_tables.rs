@@ -1,9 +1,10 @@
 //! Any steps on random lent tables in form: none panics, refusals change no word, the table stays in
 //! form, and each step writes only the words that its rule names.
 
-use reference::generate::{in_form_table, senseless, Random};
+use reference::generate::{in_form_table, named, senseless, Random};
 use reference::machine::{step, Answer, Command};
 use reference::table::{in_form, state, Message, Place, Table, INCARNATIONS};
+use std::collections::BTreeSet;
 
 /// The table with every word that the step may write made equal to that of the table after it.
 fn with_what_may_be_written(
@@ -138,6 +139,7 @@ impl Copier<'_> {
     fn new_start(&mut self, c: usize) {
         let mut counts = self.from.controller(c);
         let (kept, live) = (counts.live - 1, self.to.controller(c).live);
+        self.states(c, kept);
         counts.degree = self.to.controller(c).degree;
         self.to.set_controller(c, counts);
         self.known(c, c, counts.incarnation);
@@ -145,48 +147,31 @@ impl Copier<'_> {
             let record = self.from.place(c, place as usize);
             self.to.set_place(c, place as usize, &record);
         }
+    }
+
+    /// The states of the causes of intervals above the kept ones, and of held messages sent from there.
+    fn states(&mut self, c: usize, kept: u32) {
+        let removed = kept..self.to.controller(c).live;
+        let causes: Vec<u32> = removed
+            .map(|place| self.to.place(c, place as usize).cause)
+            .collect();
         for message in 1..=self.to.sent() {
-            let state = self.from.message(message).state;
-            self.to.set_state(message, state);
+            let record = self.to.message(message);
+            let held = record.state == state::HELD;
+            let from_removed = record.sender as usize == c && record.number > kept;
+            if causes.contains(&message) || held && from_removed {
+                let state = self.from.message(message).state;
+                self.to.set_state(message, state);
+            }
         }
     }
 }
 
-/// One step of each kind that names what is there, and one that needn't.
+/// A senseless step, and one of each kind that names what is there.
 fn commands(random: &mut Random, words: &[u32]) -> Vec<Command> {
-    let table = Table::new(words).expect("the right length");
-    let mut named = || random.below(table.n());
-    let (controller, other, third) = (named(), named(), named());
-    let message = random.within(0..=table.sent());
-    vec![
-        Command::SetDegree {
-            controller,
-            degree: third,
-        },
-        Command::Send {
-            sender: controller,
-            receiver: other,
-            payload: message,
-        },
-        Command::Release { message },
-        Command::Deliver { message },
-        Command::Log {
-            controller,
-            count: random.within(0..=3),
-        },
-        Command::Checkpoint { controller },
-        Command::Tell {
-            owner: controller,
-            holder: other,
-        },
-        Command::Crash { controller },
-        Command::Hear {
-            hearer: controller,
-            crashed: other,
-            incarnation: random.within(0..=INCARNATIONS as u32),
-        },
-        senseless(random),
-    ]
+    let mut commands = vec![senseless(random)];
+    commands.extend(named(random, words));
+    commands
 }
 
 #[test]
@@ -224,4 +209,33 @@ fn the_same_table_gives_the_same_answer() {
             assert!(one == two, "{command:?}");
         }
     }
+}
+
+/// "State 4 isn't given any more": a message is lost after a step only if it was so before. Some are no
+/// longer, as causes of intervals that the step took off their chain.
+#[test]
+fn no_step_gives_state_lost() {
+    let mut random = Random::new(13);
+    let (mut kept, mut settled) = (0, 0);
+    for _ in 0..1_500 {
+        let words = in_form_table(&mut random);
+        for command in commands(&mut random, &words) {
+            let mut after = words.clone();
+            let answer = step(&mut after, command);
+            let [before, after] = [&words, &after].map(|words| lost_messages(words));
+            assert!(after.is_subset(&before), "{command:?} {answer:?}");
+            if !matches!(command, Command::Open { .. }) {
+                kept += after.len();
+                settled += before.len() - after.len();
+            }
+        }
+    }
+    assert!(kept > 100_000 && settled > 1_000, "{kept} {settled}");
+}
+
+fn lost_messages(words: &[u32]) -> BTreeSet<u32> {
+    let table = Table::new(words).expect("the right length");
+    (1..=table.sent())
+        .filter(|&message| table.message(message).state == state::LOST)
+        .collect()
 }

@@ -52,7 +52,8 @@ fn the_table_after_it() {
     let table = house.table();
     assert_eq!((table.n(), table.sent()), (3, 3));
     let states = [1, 2, 3].map(|message| table.message(message).state);
-    assert_eq!(states, [state::LOST, state::DROPPED, state::DROPPED]);
+    // The cause of what controller 1 lost is offered again.
+    assert_eq!(states, [state::RELEASED, state::DROPPED, state::DROPPED]);
     for c in 0..3 {
         let counts = Controller {
             degree: 1,

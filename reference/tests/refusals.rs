@@ -116,8 +116,12 @@ fn states_of_messages() {
     house.go_on("D 1");
     expect(&mut house, refusal::STATE, &["R 1", "D 1"]);
     house.go_on("X 1");
-    assert_eq!(house.table().message(1).state, state::LOST);
-    expect(&mut house, refusal::STATE, &["R 1", "D 1"]);
+    expect(&mut house, refusal::STATE, &["R 1"]);
+    house.go_on("D 1");
+    for state in [state::LOST, state::DROPPED] {
+        house.lend(|table| table.set_state(1, state));
+        expect(&mut house, refusal::STATE, &["R 1", "D 1"]);
+    }
 }
 
 #[test]

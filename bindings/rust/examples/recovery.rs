@@ -164,6 +164,10 @@ fn work(story: &mut Story) -> Result<(), Refusal> {
 /// The drive crashes and works on, and the others hear of it one by one.
 fn crash(story: &mut Story) -> Result<(), Refusal> {
     story.step("drive crashes", Step::Crash { controller: DRIVE })?;
+
+    // Its work is lost, and not the messages: it is offered them again, beside one on its way.
+    story.deliver(1)?;
+    story.deliver(2)?;
     story.deliver(6)?;
     story.send(DRIVE, ARM, 2)?;
     story.release(7)?;

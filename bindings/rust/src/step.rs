@@ -55,12 +55,15 @@ pub enum Step {
         /// Who is told.
         holder: u32,
     },
-    /// Crashes a controller: its live intervals that are not stable are lost.
+    /// Crashes a controller: its live intervals that are not stable are lost. The messages that began
+    /// them are released again, and can be delivered once more; those that rest on lost work
+    /// themselves are dropped.
     Crash {
         /// Who crashes.
         controller: u32,
     },
-    /// Lets a controller hear of a crash: it undoes what rests on lost intervals.
+    /// Lets a controller hear of a crash: it undoes what rests on lost intervals. What becomes of the
+    /// messages is as at a crash.
     Hear {
         /// Who hears of it.
         hearer: u32,

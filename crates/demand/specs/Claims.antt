@@ -1,15 +1,19 @@
 -- What a tester looks for by name, each claim under the sentence that it answers.
 use mathlib.Core.Path.{_≡_, refl, sym, ap, _∙_, subst}
 use mathlib.Core.Bool.{true, true≢false}
-use mathlib.Core.List.{List, [], _++_, _∷_}
-use Prim.Native.Nat.{ℕ, _≤_}
+use mathlib.Core.List.{List, _++_, _∷_}
+use Prim.Native.Nat.{ℕ, _≤_, _<_}
+use native.Mathlib.Omega.{arith}
 use lib.Count.{ones}
 use lib.ListN.{length, take, drop}
 use borrow.Author.Tests.{eqb-true}
 use Rattle.base.specs.Choice.{_==_, cond-ind}
-use Rattle.table.specs.Layout.{controllers, tableWords}
-use Rattle.table.specs.Words.{state, words, words-state}
-use Rattle.rules.specs.Step.{Out, lent, step, Call, asks, stepCall}
+use Rattle.table.specs.Field.{MessageState}
+use Rattle.table.specs.Layout.{controllers, messages, tableWords}
+use Rattle.table.specs.Words.{state, words, words-state, word-at}
+use Rattle.rules.specs.Limits.{house}
+use Rattle.rules.specs.Form.{stateLost}
+use Rattle.rules.specs.Step.{Out, stepOn, lent, step, Call, asks, stepCall}
 use Rattle.rules.specs.declared.Answer.the-variants.{Released, Held, Refused}
 use Rattle.rules.specs.declared.Command.{Command}
 use Rattle.rules.specs.declared.Command.the-variants.{Checkpoint, Release}
@@ -20,6 +24,7 @@ use Rattle.image.specs.Mask.{count}
 use Rattle.demand.specs.Demanded.{demand-3}
 use Rattle.testers.specs.StepSame.{same-written, step-words}
 use Rattle.testers.specs.Refused.{keeps-refused}
+use Rattle.testers.specs.NoneLost.{none-lost}
 use Rattle.testers.specs.Checkpoint.{checkpoint-twice}
 use Rattle.testers.specs.Counted.{counted-step}
 use Rattle.testers.specs.Sample.{sample, answered, answersFrom, sample-from-opening, sample-answers}
@@ -48,7 +53,8 @@ checkpoint-again-changes-nothing t c =
     (λ l. rw l)
 
 -- 3. "For every list of these steps .. in a house just opened": from every table of 15,152 words there is such a list, with a
--- release that is let out, a delivery, a crash, a hearing that undoes nothing and one that undoes (Sample.antt).
+-- release that is let out, a delivery, a crash, a hearing that undoes nothing and one that undoes, and a delivery of what the crash
+-- offered again (Sample.antt).
 module _ (t : List ℕ) (long : length t ≡ tableWords) where
   pub demand-3-not-empty : FromOpening t 3 1 list × (answersFrom (justOpened t 3 1 .table) list ≡ answered sample)
   demand-3-not-empty = (sample-from-opening t long, sample-answers t long)
@@ -58,7 +64,7 @@ module _ (t : List ℕ) (long : length t ≡ tableWords) where
   pub undone-rests-on-lost : RestsOnLost (end t 3 1 list) (sampleAt t 9 .history) 2 (interval 2 0 2)
   unfolding runs
   undone-rests-on-lost =
-      demand-3 t 3 1 list (sample-from-opening t long) .hearings (take 8 list) [] 2 1 0 refl
+      demand-3 t 3 1 list (sample-from-opening t long) .hearings (take 8 list) (drop 9 list) 2 1 0 refl
       (subst Accepted (sym (sample-answer t long 8 refl)) (answersRolled 2 1 1 0)) (interval 2 0 2) (live-before t long) .0 (gone-after t long)
 
   pub kept-rests-on-none : RestsOnLost (end t 3 1 list) (sampleAt t 8 .history) 0 (interval 0 0 1) → ⊥
@@ -93,3 +99,16 @@ at-most-K-named t n k l O before after m echoed mask e a =
 -- 5. "Listing A, input left, output right": all that `house` writes for the left column is the right one, byte by byte.
 pub listing-A-written : houseWrites leftColumn ≡ rightColumn
 listing-A-written = listing-written
+
+-- 6. W1: "State 4 isn't given any more": a message has it after a step only if it had it before, on every table.
+pub lost-is-never-given : (t : List ℕ) (x : Command) (r : ℕ) → r < messages → state (step t x .table) (MessageState r) ≡ stateLost → state t (MessageState r) ≡ stateLost
+unfolding step lent
+lost-is-never-given t x r h =
+    let f = MessageState r in
+    cond-ind (λ (o : Out). state (o .table) f ≡ stateLost → state t f ≡ stateLost) (length t == tableWords)
+    (λ l q. none-lost (state t) x .before f refl (sym (word-at (stepOn house (state t) x .left) f (h, omega arith)) ∙ q)) (λ l q. q)
+
+-- a call of a list too
+pub lost-is-never-given-by-a-call : (t : List ℕ) (x : Call) (r : ℕ) → r < messages → state (stepCall t x .table) (MessageState r) ≡ stateLost → state t (MessageState r) ≡ stateLost
+unfolding stepCall
+lost-is-never-given-by-a-call t (asks x) = lost-is-never-given t x

@@ -1,5 +1,5 @@
 -- Starting anew, a crash and a rollback, as changes of the model.
-use mathlib.Core.Path.{_≡_, refl, sym, ap, ap₂, _∙_, fun-ext}
+use mathlib.Core.Path.{_≡_, refl, ap, ap₂, _∙_, fun-ext}
 use mathlib.Core.Bool.{cond}
 use mathlib.Core.List.{List}
 use Prim.Native.Nat.{ℕ, _+_, _≤_, _<_}
@@ -8,13 +8,12 @@ use lib.ListN.{length, length-set}
 use borrow.Author.Tests.{eq-eqb, lt-leb}
 use Rattle.base.specs.Choice.{_==_, _<?_, cond-ind}
 use Rattle.table.specs.Field.{State, Known, End, OfPlace, Incarnation, LiveCount, StableCount, PlaceIncarnation, PairIncarnation, PairNumber, word, same}
-use Rattle.table.specs.Change.{put, put-same, putStates, clearPlaces, putPart}
+use Rattle.table.specs.Change.{put, put-same, clearPlaces, putPart}
 use Rattle.table.specs.Layout.{controllers, incarnations, places}
 use Rattle.table.specs.Numbering.{numberOf, placeOf, number-from, number-next, place-lt, place-next, Numbered, numbers-kept, numbers-put, numbers-states, numbers-trans}
 use Rattle.rules.specs.Limits.{lastIncarnation}
 use Rattle.rules.specs.Vector.{pair as pairList}
-use Rattle.rules.specs.Form.{stateLost}
-use Rattle.rules.specs.Shared.{placeRecord, logged, loggedTo, causesIn, causes, offeredAgain, newVector, placed, entered, restarted, dropHeld, startAnew}
+use Rattle.rules.specs.Shared.{placeRecord, logged, loggedTo, causesIn, causes, newVector, placed, entered, restarted, dropHeld, startAnew, removed}
 use Rattle.rules.specs.Steps.{crashed, noted, rolledBack}
 use Rattle.model.specs.Model.{pair, changedAt₂, Controller, Model, putController, loggedController, endController, noteController, newVec, anewController}
 use Rattle.laws.specs.Agree.{agree-restarted}
@@ -136,14 +135,12 @@ then-controller μ μ′ c k F e =
     ap (λ (μ : Model). putController μ c (F (μ .controller c))) e ∙ ap (λ (l : Controller). putController (putController μ c k) c (F l)) (putController-own μ c k)
     ∙ putController-twice μ c k (F k)
 
--- Causes that get their states: nothing of the numbers changes.
-image-causes : (σ : State) (c k : ℕ) (s : ℕ → ℕ) → image (causes σ c k s) ≡ image σ
-unfolding causes causesIn
-image-causes σ c k s = image-states σ _
-
-numbers-causes : (σ : State) (c k : ℕ) (s : ℕ → ℕ) → Numbered (causes σ c k s) σ
-unfolding causes causesIn
-numbers-causes σ c k s = numbers-states σ _
+-- intervals removed: their causes get their states, which are not in the image, then a start
+image-removed : (σ : State) (c k : ℕ) → Starts σ c k → image (removed σ c k) ≡ putController (image σ) c (anewController c (image σ .controller c) (numberOf σ c k))
+unfolding removed causes causesIn
+image-removed σ c k s =
+    image-startAnew _ c k (starts-causes σ c k k s)
+    ∙ ap₂ (λ (μ : Model) x. putController μ c (anewController c (μ .controller c) x)) (image-states σ _) (numbers-states σ _ .number c k)
 
 -- a crash noted
 pub numbers-noted : (σ : State) (hearer owner i : ℕ) → Numbered (noted σ hearer owner i) σ
@@ -161,46 +158,29 @@ numbers-loggedTo σ c k =
     cond-ind (λ τ. Numbered τ σ) (σ (StableCount c) <? k)
     (λ e. numbers-trans _ _ σ (numbers-put _ (Known c c (σ (Incarnation c))) _ refl) (numbers-put σ (StableCount c) k refl)) (λ e. numbers-kept σ σ (λ f _. refl))
 
--- causes lost, and then the end word
-image-ended : (σ : State) (c k : ℕ) (s : ℕ → ℕ) → c < controllers → σ (Incarnation c) < incarnations →
-    image (put (causes σ c k s) (End c c (σ (Incarnation c))) (numberOf σ c (σ (StableCount c)))) ≡ putController (image σ) c (endController c (image σ .controller c))
-unfolding causes causesIn putStates
-image-ended σ c k s cl il =
-    let τ = causes σ c k s in
-    ap (λ x. image (put τ (End c c (σ (Incarnation c))) x)) (sym (numbers-causes σ c k s .number c (σ (StableCount c))))
-    ∙ image-end τ c cl il ∙ ap (λ (μ : Model). putController μ c (endController c (μ .controller c))) (image-causes σ c k s)
-
--- X: "Causes of lost intervals get state lost. c's own end word for its incarnation becomes k. Then start anew."
+-- X: "c's own end word for its incarnation becomes k. Then start anew."
 pub image-crashed : (σ : State) (c : ℕ) → Starts σ c (σ (StableCount c)) →
     image (crashed σ c) ≡ putController (image σ) c (anewController c (endController c (image σ .controller c)) (numberOf σ c (σ (StableCount c))))
 unfolding crashed
 image-crashed σ c s =
     let k = σ (StableCount c) in
     let f = End c c (σ (Incarnation c)) in
-    let lost = causes σ c k (λ (r : ℕ). stateLost) in
-    let τ = put lost f (numberOf σ c k) in
-    let e : image τ ≡ putController (image σ) c (endController c (image σ .controller c)) = image-ended σ c k _ (s .chain .named) (omega (arith, s .left)) in
-    let number : numberOf τ c k ≡ numberOf σ c k = numbers-put lost f _ refl .number c k ∙ numbers-causes σ c k _ .number c k in
-    image-startAnew τ c k (starts-put lost c k f _ refl (starts-causes σ c k k _ s))
-    ∙ then-controller (image σ) (image τ) c (endController c (image σ .controller c)) (λ n. anewController c n (numberOf τ c k)) e
-    ∙ ap (λ x. putController (image σ) c (anewController c (endController c (image σ .controller c)) x)) number
+    let τ = put σ f (numberOf σ c k) in
+    image-removed τ c k (starts-put σ c k f _ refl s)
+    ∙ then-controller (image σ) (image τ) c (endController c (image σ .controller c)) (λ n. anewController c n (numberOf τ c k)) (image-end σ c (s .chain .named) (omega (arith, s .left)))
+    ∙ ap (λ x. putController (image σ) c (anewController c (endController c (image σ .controller c)) x)) (numbers-put σ f _ refl .number c k)
 
--- H: "kept intervals not yet stable, if any, are logged as by L; each cause of an undone interval becomes dropped .. else
--- released again; then start anew."
+-- H: "kept intervals not yet stable, if any, are logged as by L; .. then start anew."
 image-rolled : (σ : State) (hearer k : ℕ) → Starts σ hearer k →
     image (rolledBack σ hearer k)
     ≡ putController (image σ) hearer (anewController hearer (loggedController hearer (image σ .controller hearer) (numberOf σ hearer k)) (numberOf σ hearer k))
 unfolding rolledBack
 image-rolled σ hearer k s =
-    let kept = loggedTo σ hearer k in
-    let offered = offeredAgain kept hearer in
-    let τ = causes kept hearer k offered in
+    let τ = loggedTo σ hearer k in
     let logs = loggedController hearer (image σ .controller hearer) (numberOf σ hearer k) in
-    let e : image τ ≡ putController (image σ) hearer logs = image-causes kept hearer k offered ∙ image-loggedTo σ hearer k (s .chain .named) (omega (arith, s .left)) in
-    let number : numberOf τ hearer k ≡ numberOf σ hearer k = numbers-causes kept hearer k offered .number hearer k ∙ numbers-loggedTo σ hearer k .number hearer k in
-    image-startAnew τ hearer k (starts-causes kept hearer k k offered (starts-loggedTo σ hearer k k s))
-    ∙ then-controller (image σ) (image τ) hearer logs (λ n. anewController hearer n (numberOf τ hearer k)) e
-    ∙ ap (λ x. putController (image σ) hearer (anewController hearer logs x)) number
+    image-removed τ hearer k (starts-loggedTo σ hearer k k s)
+    ∙ then-controller (image σ) (image τ) hearer logs (λ n. anewController hearer n (numberOf τ hearer k)) (image-loggedTo σ hearer k (s .chain .named) (omega (arith, s .left)))
+    ∙ ap (λ x. putController (image σ) hearer (anewController hearer logs x)) (numbers-loggedTo σ hearer k .number hearer k)
 
 -- a hearing that must undo, whole
 pub image-heard-rolled : (σ : State) (hearer owner i k : ℕ) → Starts σ hearer k → owner < controllers → i < incarnations →

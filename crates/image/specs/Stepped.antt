@@ -18,7 +18,7 @@ use Rattle.rules.specs.Limits.{house, lastIncarnation}
 use Rattle.rules.specs.Refusal.{LENGTH, FORM, PLACES-USED-UP, INCARNATIONS-USED-UP}
 use Rattle.rules.specs.Vector.{Vector, placeVector, messageVector, filtered, condemned, mask, conflict}
 use Rattle.rules.specs.Form.{inForm, stateDropped, stateHeld, stateReleased}
-use Rattle.rules.specs.Shared.{newestPlace, logged, loggedTo, causesIn, causes, placed, entered, restarted, dropHeld, startAnew, replayed}
+use Rattle.rules.specs.Shared.{newestPlace, logged, loggedTo, causesIn, causes, placed, entered, restarted, dropHeld, startAnew, removed, replayed}
 use Rattle.rules.specs.Steps.{After, refusing, openHouse, openRefusals, stepOpen, degreeRefusals, stepDegree, sent, sendRefusals, stepSend, letOut, release, messageRefusals, stepRelease, intervalAdded, intervalBegins, deliver, stepDeliver, logRefusals, stepLog, checkpointed, checkpointRefusals, stepCheckpoint, told, tellRefusals, stepTell, crashed, crashRefusals, stepCrash, noted, lowestCondemned, rolledBack, hear, hearRefusals, stepHear}
 use Rattle.rules.specs.Step.{perform, looksAtForm, stepOn, Out, lent, step, Call, asks, stepCall}
 use Rattle.rules.specs.declared.Answer.{Answer}
@@ -254,7 +254,7 @@ module _ (σ : State) (f : Form σ) where
 
   -- X
   stepped-crash : (c : ℕ) → Stepped σ (Crash c) (stepCrash house σ c)
-  unfolding stepCrash crashed startAnew dropHeld restarted placed entered causes causesIn put same putPart clearPlaces putStates
+  unfolding stepCrash crashed removed startAnew dropHeld restarted placed entered causes causesIn put same putPart clearPlaces putStates
   stepped-crash c =
       stepped-refusing σ (Crash c) (crashRefusals house σ c) _
       (λ e. let d = crashAllowed σ c e in
@@ -280,7 +280,7 @@ module _ (σ : State) (f : Form σ) where
 
   -- H, where numbers are counts
   stepped-hear : Fresh σ → (hearer owner i : ℕ) → Stepped σ (Hear hearer owner i) (stepHear σ hearer owner i)
-  unfolding stepHear hear noted rolledBack startAnew dropHeld restarted placed entered causes causesIn put same putPart clearPlaces putStates
+  unfolding stepHear hear noted rolledBack removed startAnew dropHeld restarted placed entered causes causesIn put same putPart clearPlaces putStates
   stepped-hear z hearer owner i =
       stepped-refusing σ (Hear hearer owner i) (hearRefusals σ hearer owner i) _
       (λ e. let d = hearAllowed σ hearer owner i e in

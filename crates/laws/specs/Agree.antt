@@ -114,12 +114,12 @@ module _ (σ τ : State) (e : Agree σ τ) where
   agree-loggedTo c k cl = agree-cond _ _ _ _ (ap (λ n. n <? k) (stable-same c cl)) (agree-logged c k cl) e
 
   -- states of causes
-  pub agree-causes : (c k : ℕ) (s u : ℕ → ℕ) → c < controllers → k ≤ σ (LiveCount c) → σ (LiveCount c) ≤ places → ((r : ℕ) → r < messages → s r ≡ u r) →
-      Agree (causes σ c k s) (causes τ c k u)
+  pub agree-causes : (c k : ℕ) → c < controllers → k ≤ σ (LiveCount c) → σ (LiveCount c) ≤ places → ((r : ℕ) → r < messages → Near (messageVector σ r)) →
+      Agree (causes σ c k) (causes τ c k)
   unfolding causes causesIn
-  agree-causes c k s u cl kl ll h =
+  agree-causes c k cl kl ll near =
       let n = ap (λ live. live - k) (live-same c cl) in
-      agree-states σ τ _ _ (λ r l. λ d. cond (causedIn-same c k r cl l (omega arith) n d) (h r l d) (state-same r l d)) e
+      agree-states σ τ _ _ (λ r l. λ d. cond (causedIn-same c k r cl l (omega arith) n d) (offeredAgain-same c r cl l (near r l) d) (state-same r l d)) e
 
   -- the state of a message that may be dropped
   pub heldOrDropped-same : (c r : ℕ) {x y : ℕ} → r < messages → x ≡ y → heldOrDropped σ c x r ≡ heldOrDropped τ c y r

@@ -164,9 +164,9 @@ starts-words σ c k {t} q s =
     record { chain = chain-words σ c q (s .chain); kept = s .kept; room = s .room; below = omega (arith, s .below); left = omega (arith, s .left) }
 
 -- causes got their states; intervals were logged, if any
-pub starts-causes : (σ : State) (c k j : ℕ) (s : ℕ → ℕ) → Starts σ c k → Starts (causes σ c j s) c k
+pub starts-causes : (σ : State) (c k j : ℕ) → Starts σ c k → Starts (causes σ c j) c k
 unfolding causes causesIn
-starts-causes σ c k j s = starts-states σ c k _
+starts-causes σ c k j = starts-states σ c k _
 
 pub starts-loggedTo : (σ : State) (c k j : ℕ) → Starts σ c k → Starts (loggedTo σ c j) c k
 unfolding loggedTo logged

@@ -1,22 +1,20 @@
--- What starting anew and rolling back leave on states with the same words.
+-- What starting anew, removing intervals and rolling back leave on states with the same words.
 use mathlib.Core.Path.{_≡_}
 use mathlib.Core.List.{List}
 use Prim.Native.Nat.{ℕ, _-_}
 use native.Mathlib.Omega.{arith}
 use Rattle.table.specs.Field.{State}
 use Rattle.table.specs.Words.{state, words, Agree, agree-words, called}
-use Rattle.rules.specs.Shared.{causes, offeredAgain, startAnew}
+use Rattle.rules.specs.Shared.{causes, startAnew, removed}
 use Rattle.rules.specs.Steps.{rolledBack}
-use Rattle.laws.specs.Agree.{offeredAgain-same, agree-causes, agree-loggedTo, agree-startAnew}
+use Rattle.laws.specs.Agree.{agree-causes, agree-loggedTo, agree-startAnew}
 use Rattle.laws.specs.Chain.{Starts, starts-words, starts-causes, starts-loggedTo}
 
--- causes that are offered again
-pub agree-offered : (σ τ : State) (c k : ℕ) → Starts σ c k → Agree σ τ → Agree (causes σ c k (offeredAgain σ c)) (causes τ c k (offeredAgain τ c))
-agree-offered σ τ c k s e =
-    let w = s .chain in
-    agree-causes σ τ e c k _ _ (w .named) (s .below) (w .live-le) (λ r l. offeredAgain-same σ τ e c r (w .named) l (w .message-near r l))
+-- causes that got their states
+agree-offered : (σ τ : State) (c k : ℕ) → Starts σ c k → Agree σ τ → Agree (causes σ c k) (causes τ c k)
+agree-offered σ τ c k s e = let w = s .chain in agree-causes σ τ e c k (w .named) (s .below) (w .live-le) (w .message-near)
 
-pub agree-start : (σ τ : State) (c k : ℕ) → Starts σ c k → Agree σ τ → Agree (startAnew σ c k) (startAnew τ c k)
+agree-start : (σ τ : State) (c k : ℕ) → Starts σ c k → Agree σ τ → Agree (startAnew σ c k) (startAnew τ c k)
 agree-start σ τ c k s e =
     agree-startAnew σ τ e c k (s .chain .named) (omega (arith, s .room)) (s .kept) (s .chain .near (k - 1) (omega (arith, s .kept, s .below)))
 
@@ -24,9 +22,16 @@ agree-start σ τ c k s e =
 pub then-start : (σ : State) (c k : ℕ) {t u : List ℕ} → Starts σ c k → t ≡ words σ → u ≡ words (startAnew (state t) c k) → u ≡ words (startAnew σ c k)
 then-start σ c k s e q = called (λ τ. startAnew τ c k) σ e q (agree-start _ σ c k (starts-words σ c k e s) (agree-words σ e))
 
--- intervals from place k on were rolled back
+-- intervals from place k on were removed
+pub agree-removed : (σ τ : State) (c k : ℕ) → Starts σ c k → Agree σ τ → Agree (removed σ c k) (removed τ c k)
+unfolding removed
+agree-removed σ τ c k s e = agree-start _ _ c k (starts-causes σ c k k s) (agree-offered σ τ c k s e)
+
+-- they were removed on a table with the words of σ
+pub then-removed : (σ : State) (c k : ℕ) {t u : List ℕ} → Starts σ c k → t ≡ words σ → u ≡ words (removed (state t) c k) → u ≡ words (removed σ c k)
+then-removed σ c k s e q = called (λ τ. removed τ c k) σ e q (agree-removed _ σ c k (starts-words σ c k e s) (agree-words σ e))
+
+-- a rollback
 pub agree-rolled : (σ τ : State) (hearer k : ℕ) → Starts σ hearer k → Agree σ τ → Agree (rolledBack σ hearer k) (rolledBack τ hearer k)
 unfolding rolledBack
-agree-rolled σ τ hearer k s e =
-    let l = starts-loggedTo σ hearer k k s in
-    agree-start _ _ hearer k (starts-causes _ hearer k k _ l) (agree-offered _ _ hearer k l (agree-loggedTo σ τ e hearer k (s .chain .named)))
+agree-rolled σ τ hearer k s e = agree-removed _ _ hearer k (starts-loggedTo σ hearer k k s) (agree-loggedTo σ τ e hearer k (s .chain .named))

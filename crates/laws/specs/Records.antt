@@ -1,8 +1,7 @@
 -- The words of a record: how many there are, and which changes leave the vectors.
 use mathlib.Core.Path.{_≡_, ap, ap₂, _∙_}
-use mathlib.Core.Bool.{_||_}
 use mathlib.Core.List.{[], _∷_}
-use Prim.Native.Nat.{ℕ, _+_, _*_, _<_}
+use Prim.Native.Nat.{ℕ, _+_, _<_}
 use lib.ListN.{length, length-append}
 use Rattle.base.specs.Lists.{tab-same, length-tab}
 use Rattle.table.specs.Field.{State, PairIncarnation, PairNumber, MessagePairIncarnation, MessagePairNumber, placeHead, messageHead}

@@ -10,14 +10,14 @@ use Rattle.table.specs.Layout.{controllers}
 use Rattle.table.specs.Change.{blank}
 use Rattle.rules.specs.Refusal.{STATE}
 use Rattle.rules.specs.Vector.{Vector, pair, noPair, flat}
-use Rattle.rules.specs.Form.{stateHeld, stateReleased, stateDelivered, stateLost}
+use Rattle.rules.specs.Form.{stateHeld, stateReleased, stateDelivered}
 use Rattle.rules.specs.Shared.{placeRecord}
 use Rattle.rules.specs.Steps.{messageRecord}
 use Rattle.rules.specs.declared.Answer.{Answer}
 use Rattle.rules.specs.declared.Answer.the-variants.{Done, Sent, Released, Held, Delivered, Crashed, Rolled, Refused}
 use Rattle.rules.specs.declared.Command.{Command}
 use Rattle.rules.specs.declared.Command.the-variants.{Open, Send, Release, Deliver, Log, Crash, Hear}
-use Rattle.listing.specs.Quiet.{steps, answers, quiet-put, quiet-part, quiet-causes, quiet-anew, quiet-rolled, Run, end, opening, next, run-answers, further}
+use Rattle.listing.specs.Quiet.{steps, answers, quiet-put, quiet-part, quiet-removed, quiet-rolled, Run, end, opening, next, run-answers, further}
 
 abbrev pub listingA : List Command
 listingA =
@@ -78,7 +78,7 @@ run =
     (next (λ q. q) refl refl  -- R 3
     (next (λ q. quiet-put (Known 2 2 0) 2 refl (quiet-put (StableCount 2) 2 refl q)) refl refl  -- L 2 1
     (next (λ q. quiet-put (MessageState 2) stateReleased refl (quiet-part (OfMessage 2 0) messageHead (flat one) (λ _. refl) q)) refl refl  -- R 3
-    (next (λ q. quiet-anew 1 1 refl refl refl (quiet-put (End 1 1 0) 1 refl (quiet-causes 1 1 (λ _. stateLost) (further 3 refl _) q))) refl refl  -- X 1
+    (next (λ q. quiet-removed 1 1 refl refl refl (further 3 refl _) (quiet-put (End 1 1 0) 1 refl q)) refl refl  -- X 1
     (next (λ q. quiet-put (MessageState 2) stateDelivered refl (quiet-put (LiveCount 0) 2 refl (quiet-part (OfPlace 0 1 0) 0 (placeRecord 0 2 3 0 (set one 0 (pair 0 2))) (λ _. refl) q))) refl refl  -- D 3
     (next (λ q. quiet-rolled 2 1 refl refl refl refl (further 3 refl _) (quiet-put (Known 2 1 0) 1 refl (quiet-put (End 2 1 0) 1 refl q))) refl refl  -- H 2 1 0
     (next (λ q. quiet-rolled 0 1 refl refl refl refl (further 3 refl _) (quiet-put (Known 0 1 0) 1 refl (quiet-put (End 0 1 0) 1 refl q))) refl refl  -- H 0 1 0

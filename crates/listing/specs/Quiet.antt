@@ -20,7 +20,7 @@ use Rattle.table.specs.Numbering.{numberOf, used, lastGiven, recordOf, messageO
 use Rattle.rules.specs.Limits.{house}
 use Rattle.rules.specs.Vector.{placeVector, messageVector, flat, knownStable, filterPair, filtered, condemnedPair, condemned, maskTo, mask, conflictPair, conflict, mergePair, merged}
 use Rattle.rules.specs.Form.{zeros, pairOk, vectorOk, controllerOk, highest, rowOk, placeOk, messageOk, inForm}
-use Rattle.rules.specs.Shared.{placeRecord, logged, loggedTo, causedIn, causesIn, causes, offeredAgain, newVector, placed, entered, restarted, heldOrDropped, dropHeld, startAnew, latestFlagged, replayed}
+use Rattle.rules.specs.Shared.{placeRecord, logged, loggedTo, causedIn, causesIn, causes, offeredAgain, newVector, placed, entered, restarted, heldOrDropped, dropHeld, startAnew, removed, latestFlagged, replayed}
 use Rattle.rules.specs.Steps.{after, refusing, openHouse, stepOpen, messageRecord, sent, stepSend, letOut, release, stepRelease, intervalAdded, intervalBegins, deliver, stepDeliver, stepLog, crashed, stepCrash, noted, lowestCondemned, rolledBack, hear, stepHear}
 use Rattle.rules.specs.Step.{perform, stepOn}
 use Rattle.rules.specs.declared.Answer.{Answer}
@@ -49,21 +49,26 @@ quiet-put {σ} f v e q = record { rest = put-ind Rest σ f v (λ z. absurd (true
 pub quiet-part : {σ : State} (f : Field) (k : ℕ) (r : List ℕ) → ((i : ℕ) → near (wordOf f i) ≡ true) → Quiet σ → Quiet (putPart σ f k r)
 quiet-part {σ} f k r e q = record { rest = part-ind Rest σ f k r (λ i h z. absurd (true≢false (sym (e (k + i)) ∙ z))) (λ g _. q .rest g) }
 
-pub quiet-causes : {σ : State} (c k : ℕ) (s : ℕ → ℕ) → ((r : ℕ) → near (MessageState r) ≡ false → causedIn σ c k (σ (LiveCount c) - k) r ≡ false) → Quiet σ → Quiet (causes σ c k s)
+quiet-causes : {σ : State} (c k : ℕ) → ((r : ℕ) → near (MessageState r) ≡ false → causedIn σ c k (σ (LiveCount c) - k) r ≡ false) → Quiet σ → Quiet (causes σ c k)
 unfolding causes causesIn
-quiet-causes {σ} c k s e q = record { rest = states-ind Rest σ _ (λ r z. rw (e r z) (q .rest (MessageState r) z)) (λ g _. q .rest g) }
+quiet-causes {σ} c k e q = record { rest = states-ind Rest σ _ (λ r z. rw (e r z) (q .rest (MessageState r) z)) (λ g _. q .rest g) }
 
-pub quiet-anew : {σ : State} (c k : ℕ) → near (OfPlace c k 0) ≡ true → near (OfController c 0) ≡ true → near (Known c c 0) ≡ true → Quiet σ → Quiet (startAnew σ c k)
+quiet-anew : {σ : State} (c k : ℕ) → near (OfPlace c k 0) ≡ true → near (OfController c 0) ≡ true → near (Known c c 0) ≡ true → Quiet σ → Quiet (startAnew σ c k)
 unfolding startAnew dropHeld heldOrDropped restarted placed entered
 quiet-anew {σ} c k e h l q =
     let freed : Quiet (clearPlaces σ c k (σ (LiveCount c))) = record { rest = clear-ind Rest σ c k _ (λ x i l m z. refl) (λ g _. q .rest g) } in
     let intervalAdded = quiet-put _ _ l (quiet-put _ _ h (quiet-put _ _ h (quiet-put _ _ h (quiet-part _ _ _ (λ i. e) freed)))) in
     record { rest = states-ind Rest _ _ (λ r z. rw (intervalAdded .rest (MessageState r) z)) (λ g _. intervalAdded .rest g) }
 
+pub quiet-removed : {σ : State} (c k : ℕ) → near (OfPlace c k 0) ≡ true → near (OfController c 0) ≡ true → near (Known c c 0) ≡ true →
+    ((r : ℕ) → near (MessageState r) ≡ false → causedIn σ c k (σ (LiveCount c) - k) r ≡ false) → Quiet σ → Quiet (removed σ c k)
+unfolding removed
+quiet-removed c k e h l o q = quiet-anew _ _ e h l (quiet-causes _ _ o q)
+
 pub quiet-rolled : {σ : State} (b k : ℕ) → near (OfPlace b k 0) ≡ true → near (OfController b 0) ≡ true → near (Known b b 0) ≡ true →
     (σ (StableCount b) <? k) ≡ false → ((r : ℕ) → near (MessageState r) ≡ false → causedIn σ b k (σ (LiveCount b) - k) r ≡ false) → Quiet σ → Quiet (rolledBack σ b k)
 unfolding rolledBack loggedTo
-quiet-rolled b k e h l s o q = rw s (quiet-anew _ _ e h l (quiet-causes _ _ _ o q))
+quiet-rolled b k e h l s o q = rw s (quiet-removed _ _ e h l o q)
 
 pub quiet-opened : (k : ℕ) → Quiet (openHouse 3 k)
 unfolding openHouse
@@ -140,5 +145,5 @@ further n h caused r z = rw (le-ltb r n (omega (arith, leb-true n 3 h, ltb-false
 
 -- The rules on the way of these lists: `unfolding steps` opens them all.
 unfoldable pub steps : Unit {0}
-unfolding onesIn ones allb anyb first tab allOf firstOf same put putPart clearPlaces putStates numberOf used lastGiven recordOf messageOf posted placeVector messageVector flat knownStable filterPair filtered condemnedPair condemned maskTo mask conflictPair conflict mergePair merged zeros pairOk vectorOk controllerOk highest rowOk placeOk messageOk placeRecord logged loggedTo causedIn causesIn causes offeredAgain newVector placed entered restarted heldOrDropped dropHeld startAnew latestFlagged replayed refusing openHouse stepOpen messageRecord sent stepSend letOut release stepRelease intervalAdded intervalBegins deliver stepDeliver stepLog crashed stepCrash noted lowestCondemned rolledBack hear stepHear perform
+unfolding onesIn ones allb anyb first tab allOf firstOf same put putPart clearPlaces putStates numberOf used lastGiven recordOf messageOf posted placeVector messageVector flat knownStable filterPair filtered condemnedPair condemned maskTo mask conflictPair conflict mergePair merged zeros pairOk vectorOk controllerOk highest rowOk placeOk messageOk placeRecord logged loggedTo causedIn causesIn causes offeredAgain newVector placed entered restarted heldOrDropped dropHeld startAnew removed latestFlagged replayed refusing openHouse stepOpen messageRecord sent stepSend letOut release stepRelease intervalAdded intervalBegins deliver stepDeliver stepLog crashed stepCrash noted lowestCondemned rolledBack hear stepHear perform
 steps = tt

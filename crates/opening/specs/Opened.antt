@@ -16,7 +16,6 @@ use Rattle.table.specs.Change.{put, put-ind, putPart, part-ind}
 use Rattle.table.specs.Layout.{controllers, controllerWords, placeWords, tableWords, Valid, position}
 use Rattle.table.specs.Words.{state, words, words-of, words-state, words-same, Agree, agree-words, agree-put, agree-part, lent-part, fits-controller, called, then-put, then-part}
 use Rattle.rules.specs.Vector.{Pair, Vector, pair, noPair}
-use Rattle.rules.specs.Shared.{placeRecord}
 use Rattle.rules.specs.Steps.{firstController, firstPlace, firstVector, openHouse}
 use Rattle.laws.specs.Records.{length-place-record}
 use Rattle.interval.specs.Walks.{zeroWords, zero-at, length-zero}

@@ -11,20 +11,19 @@ use Rattle.base.specs.Cases.{Case, firstOf, none, hit, skip}
 use Rattle.table.specs.Field.{State, End, Size, Incarnation, LiveCount, StableCount}
 use Rattle.table.specs.Change.{put}
 use Rattle.table.specs.Layout.{controllers, places, tableWords}
-use Rattle.table.specs.Words.{state, words, then-put}
+use Rattle.table.specs.Words.{state, words}
 use Rattle.table.specs.Numbering.{numberOf}
 use Rattle.rules.specs.Limits.{house, lastIncarnation}
 use Rattle.rules.specs.Refusal.{CONTROLLER, PLACES-USED-UP, INCARNATIONS-USED-UP}
-use Rattle.rules.specs.Form.{stateLost}
-use Rattle.rules.specs.Shared.{causes, startAnew, replayed}
+use Rattle.rules.specs.Shared.{removed, replayed}
 use Rattle.rules.specs.Steps.{noController, crashRefusals, crashed, stepCrash}
 use Rattle.rules.specs.Step.{out, written}
 use Rattle.rules.specs.declared.Answer.the-variants.{Crashed}
 use Rattle.laws.specs.Facts.{form, below-8, controllerForm}
 use Rattle.laws.specs.Allowed.{crashAllowed}
 use Rattle.laws.specs.Answering.{Lent, granted}
-use Rattle.laws.specs.Chain.{chain-of, Starts, starts-put, starts-words, starts-causes}
-use Rattle.laws.specs.Kept.{then-start}
+use Rattle.laws.specs.Chain.{chain-of, Starts, starts-put, starts-words}
+use Rattle.laws.specs.Kept.{then-removed}
 
 -- The code has read n, how many controllers there are, k, the stable count, and i, the incarnation: which refusal applies.
 module _ (t : List ℕ) (c n : ℕ) (en : n ≡ state t Size) where
@@ -71,27 +70,23 @@ crashes t c n l e z =
       starts = record { chain = chain-of t c l (a .controller-lt); kept = k .stable-pos; room = a .room; below = k .stable-le; left = a .incarnation-lt };
     }
 
--- The code has read k, the stable count, i, the incarnation, and x, the kept number. t₁ has the causes' states, t₂ also the end word.
-module _ (t t₁ t₂ : List ℕ) (c k i x : ℕ) (s : Starts (state t) c (state t (StableCount c))) (ek : k ≡ state t (StableCount c))
-    (e₁ : t₁ ≡ words (causes (state t) c k (λ (r : ℕ). stateLost))) (e₂ : t₂ ≡ words (put (state t₁) (End c c i) x)) where
+-- The code has read k, the stable count, i, the incarnation, and x, the kept number. t₁ has the end word.
+module _ (t t₁ : List ℕ) (c k i x : ℕ) (s : Starts (state t) c (state t (StableCount c))) (ek : k ≡ state t (StableCount c))
+    (e₁ : t₁ ≡ words (put (state t) (End c c i) x)) where
   abbrev ended : State
-  ended = put (causes (state t) c k (λ (r : ℕ). stateLost)) (End c c i) x
-
-  ended-words : t₂ ≡ words ended
-  ended-words = then-put _ (End c c i) x e₁ e₂
+  ended = put (state t) (End c c i) x
 
   ended-starts : Starts ended c k
-  ended-starts = starts-put _ c k (End c c i) x refl (starts-causes (state t) c k k _ (subst (Starts (state t) c) (sym ek) s))
+  ended-starts = starts-put _ c k (End c c i) x refl (subst (Starts (state t) c) (sym ek) s)
 
-  pub lost-starts : Starts (state t₂) c k
-  lost-starts = starts-words ended c k ended-words ended-starts
+  pub lost-starts : Starts (state t₁) c k
+  lost-starts = starts-words ended c k e₁ ended-starts
 
-  pub lost-words : (t₃ : List ℕ) → i ≡ state t (Incarnation c) → x ≡ numberOf (state t) c k → t₃ ≡ words (startAnew (state t₂) c k) → t₃ ≡ words (crashed (state t) c)
+  pub lost-words : (t₂ : List ℕ) → i ≡ state t (Incarnation c) → x ≡ numberOf (state t) c k → t₂ ≡ words (removed (state t₁) c k) → t₂ ≡ words (crashed (state t) c)
   unfolding crashed
-  lost-words t₃ ei ex e₃ =
+  lost-words t₂ ei ex e₂ =
       let n = ex ∙ ap (numberOf (state t) c) ek in
-      then-start ended c k ended-starts ended-words e₃
-      ∙ (λ d. words (startAnew (put (causes (state t) c (ek d) (λ (r : ℕ). stateLost)) (End c c (ei d)) (n d)) c (ek d)))
+      then-removed ended c k ended-starts e₁ e₂ ∙ (λ d. words (removed (put (state t) (End c c (ei d)) (n d)) c (ek d)))
 
 -- answer and words are those of the step
 pub crash-done : (t u : List ℕ) (c i live k x again : ℕ) → Crashes t c → i ≡ state t (Incarnation c) → live ≡ state t (LiveCount c) → k ≡ state t (StableCount c) →

@@ -35,7 +35,7 @@ pub fn crash_refusal(t: &[u32], c: u32) -> u32
     0
 }
 
-// The intervals of c that are not stable are lost: their causes, c's own end word, and a new start.
+// The intervals of c that are not stable are lost. c's own end word is written first: their causes are judged by it too.
 pub fn lose(t: &mut [u32], c: usize)
     requires { ⌜ (length (now t) ≡ tableWords) × Starts (state (now t)) c (state (now t) (StableCount c)) ⌝ }
     ensures { λ _. ⌜ now (t .exit) ≡ words (crashed (state (now (t .entry))) c) ⌝ }
@@ -43,9 +43,8 @@ pub fn lose(t: &mut [u32], c: usize)
     let i = table::incarnation(t, c) as usize;
     let k = table::stable_count(t, c);
     let x = table::number_of(t, c, k);
-    removal::settle_causes(t, c, k as usize, true);
     table::set_end(t, c, c, i, x);
-    restart::start_anew(t, c, k);
+    restart::remove_intervals(t, c, k);
 }
 
 // X c, where none of its refusals applies.
@@ -80,8 +79,7 @@ pub fn roll_back(t: &mut [u32], hearer: usize, k: u32)
     ensures { λ _. ⌜ now (t .exit) ≡ words (rolledBack (state (now (t .entry))) hearer k) ⌝ }
 {
     controller::log_rest(t, hearer, k);
-    removal::settle_causes(t, hearer, k as usize, false);
-    restart::start_anew(t, hearer, k);
+    restart::remove_intervals(t, hearer, k);
 }
 
 // The same, with the answer to it.

@@ -15,29 +15,25 @@ use Rattle.table.specs.Layout.{messages, tableWords}
 use Rattle.table.specs.Words.{state, words, words-state, words-same, Agree, agree-trans, agree-put, agree-states, agree-words, long-of, states-kept, states-more}
 use Rattle.table.specs.Numbering.{used, recordOf, messageOf, record-of-message, message-of-record, numbers-states, used-agree, message-agree}
 use Rattle.rules.specs.Vector.{Vector, messageVector, condemnedPair, condemned}
-use Rattle.rules.specs.Form.{stateLost, stateReleased, stateDropped}
+use Rattle.rules.specs.Form.{stateReleased, stateDropped}
 use Rattle.rules.specs.Shared.{causedIn, causesIn, causes, offeredAgain}
 use Rattle.laws.specs.Records.{messageVector-of}
 use Rattle.laws.specs.Agree.{offeredAgain-same}
 use Rattle.laws.specs.Chain.{Chain, chain-states, chain-words}
 
--- the state that the cause in record r of an interval of c gets, which a crash lost or c undid
-abbrev pub lostOrOffered : State → ℕ → Bool → ℕ → ℕ
-lostOrOffered σ c crashed r = cond crashed stateLost (offeredAgain σ c r)
-
--- what the code finds where nothing crashed, with the vector v of record r
-module _ (σ : State) (c r : ℕ) (crashed x : Bool) (v : Vector) (e : crashed ≡ false) (ev : v ≡ messageVector σ r) (ex : x ≡ condemned σ c v) where
-  pub gets-dropped : x ≡ true → stateDropped ≡ lostOrOffered σ c crashed r
+-- what the code finds, with the vector v of record r
+module _ (σ : State) (c r : ℕ) (x : Bool) (v : Vector) (ev : v ≡ messageVector σ r) (ex : x ≡ condemned σ c v) where
+  pub gets-dropped : x ≡ true → stateDropped ≡ offeredAgain σ c r
   unfolding offeredAgain
-  gets-dropped h = rw (e, ← ev, ← ex, h)
+  gets-dropped h = rw (← ev, ← ex, h)
 
-  pub gets-released : x ≡ false → stateReleased ≡ lostOrOffered σ c crashed r
+  pub gets-released : x ≡ false → stateReleased ≡ offeredAgain σ c r
   unfolding offeredAgain
-  gets-released h = rw (e, ← ev, ← ex, h)
+  gets-released h = rw (← ev, ← ex, h)
 
 -- the state that record r has after causes got theirs
-abbrev settled : State → ℕ → ℕ → ℕ → (ℕ → ℕ) → ℕ → ℕ
-settled σ c k n s r = cond (causedIn σ c k n r) (s r) (σ (MessageState r))
+abbrev settled : State → ℕ → ℕ → ℕ → ℕ → ℕ
+settled σ c k n r = cond (causedIn σ c k n r) (offeredAgain σ c r) (σ (MessageState r))
 
 -- ONE PLACE
 -- record r is the cause of place p
@@ -61,10 +57,10 @@ caused-other σ c p r ne =
     (λ l. let h : σ (Cause c p) ≢ messageOf σ r = λ e. ne l (sym (ap (recordOf σ) e ∙ record-of-message σ r l)) in rw (lt-ltb r (used σ) l, ne-eqb _ _ h))
 
 -- The code looks for the cause m of place p, and finds n records in use: the state x of its record r is put ..
-pub settle-write : (t u : List ℕ) (c p m r n x : ℕ) (s : ℕ → ℕ) → m ≡ state t (Cause c p) → r ≡ recordOf (state t) m → n ≡ used (state t) → r < n →
-    x ≡ s r → u ≡ words (put (state t) (MessageState r) x) → u ≡ words (causesIn (state t) c p 1 s)
+pub settle-write : (t u : List ℕ) (c p m r n x : ℕ) → m ≡ state t (Cause c p) → r ≡ recordOf (state t) m → n ≡ used (state t) → r < n →
+    x ≡ offeredAgain (state t) c r → u ≡ words (put (state t) (MessageState r) x) → u ≡ words (causesIn (state t) c p 1)
 unfolding causesIn
-settle-write t u c p m r n x s em er en l ex q =
+settle-write t u c p m r n x em er en l ex q =
     let σ = state t in
     let found : r ≡ recordOf σ (σ (Cause c p)) = er ∙ ap (recordOf σ) em in
     let here : causedIn σ c p 1 r ≡ true = ap (causedIn σ c p 1) found ∙ caused-found σ c p (omega arith) in
@@ -73,10 +69,10 @@ settle-write t u c p m r n x s em er en l ex q =
     q ∙ words-same _ _ (agree-trans _ _ _ put-own (states-more σ own _ r x (rw here ex) (λ i ne. rw (caused-other σ c p i (λ _ e. ne (e ∙ sym found))))))
 
 -- .. or, where it has none, no word is
-pub settle-keep : (t : List ℕ) (c p m r n : ℕ) (s : ℕ → ℕ) → length t ≡ tableWords → m ≡ state t (Cause c p) → r ≡ recordOf (state t) m → n ≡ used (state t) → n ≤ r →
-    t ≡ words (causesIn (state t) c p 1 s)
+pub settle-keep : (t : List ℕ) (c p m r n : ℕ) → length t ≡ tableWords → m ≡ state t (Cause c p) → r ≡ recordOf (state t) m → n ≡ used (state t) → n ≤ r →
+    t ≡ words (causesIn (state t) c p 1)
 unfolding causesIn
-settle-keep t c p m r n s l em er en h =
+settle-keep t c p m r n l em er en h =
     let found = er ∙ ap (recordOf (state t)) em in
     words-state t l ∙ words-same _ _ (states-kept (state t) _ (λ i. rw (caused-other (state t) c p i (λ m e. absurd (omega arith)))))
 
@@ -122,12 +118,12 @@ offered-states σ s c r = ap (λ v. cond (condemned σ c v) stateDropped stateRe
 
 -- THE WALK
 -- Before place p the table has the words of `causesIn` up to it.
-pub record Walk (σ : State) (c k : ℕ) (crashed : Bool) (live : ℕ) (t : List ℕ) (p : ℕ) : Type 0 where
+pub record Walk (σ : State) (c k live : ℕ) (t : List ℕ) (p : ℕ) : Type 0 where
   pub chain : Chain σ c
   pub live-is : live ≡ σ (LiveCount c)
   pub from : k ≤ p
   pub bound : p ≤ live
-  pub done : t ≡ words (causesIn σ c k (p - k) (lostOrOffered σ c crashed))
+  pub done : t ≡ words (causesIn σ c k (p - k))
 
 -- before the first place
 caused-none : (σ : State) (c k r : ℕ) → causedIn σ c k (k - k) r ≡ false
@@ -136,10 +132,10 @@ caused-none σ c k r =
     let e : k - k ≡ 0 = omega arith in
     ap (λ n. (r <? used σ) && anyb n (λ (j : ℕ). σ (Cause c (k + j)) == messageOf σ r)) e ∙ ap (λ b. (r <? used σ) && b) (sym (anyb-zero _)) ∙ and-false (r <? used σ)
 
-pub walk-none : (t : List ℕ) (c k : ℕ) (crashed : Bool) (live : ℕ) → length t ≡ tableWords → Chain (state t) c → k ≤ state t (LiveCount c) → live ≡ state t (LiveCount c) →
-    Walk (state t) c k crashed live t k
+pub walk-none : (t : List ℕ) (c k live : ℕ) → length t ≡ tableWords → Chain (state t) c → k ≤ state t (LiveCount c) → live ≡ state t (LiveCount c) →
+    Walk (state t) c k live t k
 unfolding causesIn
-walk-none t c k crashed live l w b e =
+walk-none t c k live l w b e =
     record {
       chain = w;
       live-is = e;
@@ -148,12 +144,9 @@ walk-none t c k crashed live l w b e =
       done = words-state t l ∙ words-same _ _ (states-kept (state t) _ (λ r. rw (caused-none (state t) c k r)));
     }
 
-module _ {σ : State} {c k : ℕ} {crashed : Bool} {live : ℕ} {t : List ℕ} {p : ℕ} (w : Walk σ c k crashed live t p) where
-  abbrev gets : ℕ → ℕ
-  gets = lostOrOffered σ c crashed
-
+module _ {σ : State} {c k live : ℕ} {t : List ℕ} {p : ℕ} (w : Walk σ c k live t p) where
   abbrev so-far : ℕ → ℕ
-  so-far = settled σ c k (p - k) gets
+  so-far = settled σ c k (p - k)
 
   agrees : Agree (state t) (putStates σ so-far)
   unfolding causesIn
@@ -181,22 +174,21 @@ module _ {σ : State} {c k : ℕ} {crashed : Bool} {live : ℕ} {t : List ℕ} {
         caused-one (state t) c p r ∙ (λ d. (r <? u d) && (x d == m d)) ∙ sym (caused-one σ c p r)
 
     -- and it is judged as before the walk
-    gets-same : lostOrOffered (state t) c crashed r ≡ gets r
-    gets-same =
-        ap (cond crashed stateLost)
-        (offeredAgain-same (state t) _ agrees c r (w .chain .named) rl (walk-asks l .1 .message-near r rl) ∙ offered-states σ so-far c r)
+    fate-same : offeredAgain (state t) c r ≡ offeredAgain σ c r
+    fate-same = offeredAgain-same (state t) _ agrees c r (w .chain .named) rl (walk-asks l .1 .message-near r rl) ∙ offered-states σ so-far c r
 
     -- so it has the state that it gets in a walk one place longer
-    settled-same : settled (state t) c p 1 (lostOrOffered (state t) c crashed) r ≡ settled σ c k (p + 1 - k) gets r
+    settled-same : settled (state t) c p 1 r ≡ settled σ c k (p + 1 - k) r
     settled-same =
-        (λ d. cond (caused-same d) (gets-same d) (agrees (MessageState r) (rl, omega arith) d)) ∙ ap (cond (causedIn σ c p 1 r) (gets r)) (states-at σ so-far r)
-        ∙ cond-or (causedIn σ c k (p - k) r) (causedIn σ c p 1 r) (gets r) _ ∙ ap (λ b. cond b (gets r) (σ (MessageState r))) (sym (caused-more σ c k p r (w .from)))
+        let fate = offeredAgain σ c r in
+        (λ d. cond (caused-same d) (fate-same d) (agrees (MessageState r) (rl, omega arith) d)) ∙ ap (cond (causedIn σ c p 1 r) fate) (states-at σ so-far r)
+        ∙ cond-or (causedIn σ c k (p - k) r) (causedIn σ c p 1 r) fate _ ∙ ap (λ b. cond b fate (σ (MessageState r))) (sym (caused-more σ c k p r (w .from)))
 
   -- place p is settled
-  pub walk-more : {u : List ℕ} → p < live → u ≡ words (causesIn (state t) c p 1 (lostOrOffered (state t) c crashed)) → Walk σ c k crashed live u (p + 1)
+  pub walk-more : {u : List ℕ} → p < live → u ≡ words (causesIn (state t) c p 1) → Walk σ c k live u (p + 1)
   unfolding causesIn
   walk-more l q =
-      let after = settled σ c k (p + 1 - k) gets in
+      let after = settled σ c k (p + 1 - k) in
       record {
         chain = w .chain;
         live-is = w .live-is;
@@ -206,6 +198,6 @@ module _ {σ : State} {c k : ℕ} {crashed : Bool} {live : ℕ} {t : List ℕ} {
       }
 
   -- after the last place
-  pub walk-all : live ≤ p → t ≡ words (causes σ c k gets)
+  pub walk-all : live ≤ p → t ≡ words (causes σ c k)
   unfolding causes
-  walk-all l = let e : p ≡ σ (LiveCount c) = omega (arith, w .live-is, w .bound) in w .done ∙ ap (λ p. words (causesIn σ c k (p - k) gets)) e
+  walk-all l = let e : p ≡ σ (LiveCount c) = omega (arith, w .live-is, w .bound) in w .done ∙ ap (λ p. words (causesIn σ c k (p - k))) e

@@ -6,18 +6,14 @@ ghost use Rattle.table.specs.Field.{LiveCount, MessageState};
 ghost use Rattle.table.specs.Change.{put};
 ghost use Rattle.table.specs.Layout.{controllers, messages, tableWords};
 ghost use Rattle.table.specs.Words.{state, words};
-ghost use Rattle.rules.specs.Shared.{causesIn, causes, orphaned, heldOrDropped, dropHeld};
+ghost use Rattle.rules.specs.Shared.{offeredAgain, causesIn, causes, orphaned, heldOrDropped, dropHeld};
 ghost use Rattle.laws.specs.Chain.{Chain};
-ghost use Rattle.removal.specs.Settling.{lostOrOffered};
 
-// The state of the cause in record r of an interval that c lost in a crash, or undid.
-pub fn fate_of(t: &[u32], c: usize, r: usize, crashed: bool) -> u32
+// The state of the cause in record r of an interval that c lost or undid: it is offered again, unless it is condemned to c.
+pub fn fate_of(t: &[u32], c: usize, r: usize) -> u32
     requires { ⌜ (length (now t) ≡ tableWords) × Chain (state (now t)) c × (r < messages) ⌝ }
-    ensures { λ x. ⌜ x ≡ lostOrOffered (state (now (t .entry))) c crashed r ⌝ }
+    ensures { λ x. ⌜ x ≡ offeredAgain (state (now (t .entry))) c r ⌝ }
 {
-    if crashed {
-        return table::LOST;
-    }
     let v = vector::message_vector(t, r);
     if vector::condemned_vector(t, c, v) {
         table::DROPPED
@@ -27,27 +23,27 @@ pub fn fate_of(t: &[u32], c: usize, r: usize, crashed: bool) -> u32
 }
 
 // The cause of the interval in place p of c, if it has a record, gets its state.
-pub fn settle_cause(t: &mut [u32], c: usize, p: usize, crashed: bool)
+pub fn settle_cause(t: &mut [u32], c: usize, p: usize)
     requires { ⌜ (length (now t) ≡ tableWords) × Chain (state (now t)) c × (p < state (now t) (LiveCount c)) ⌝ }
-    ensures { λ _. ⌜ now (t .exit) ≡ words (causesIn (state (now (t .entry))) c p 1 (lostOrOffered (state (now (t .entry))) c crashed)) ⌝ }
+    ensures { λ _. ⌜ now (t .exit) ≡ words (causesIn (state (now (t .entry))) c p 1) ⌝ }
 {
     let m = table::cause(t, c, p);
     let r = table::find_record(t, m);
     if r < table::records_used(t) as usize {
-        let x = fate_of(t, c, r, crashed);
+        let x = fate_of(t, c, r);
         table::set_message_state(t, r, x);
     }
 }
 
 // The causes of the intervals of c from place k on get their states.
-pub fn settle_causes(t: &mut [u32], c: usize, k: usize, crashed: bool)
+pub fn settle_causes(t: &mut [u32], c: usize, k: usize)
     requires { ⌜ (length (now t) ≡ tableWords) × Chain (state (now t)) c × (k ≤ state (now t) (LiveCount c)) ⌝ }
-    ensures { λ _. ⌜ now (t .exit) ≡ words (causes (state (now (t .entry))) c k (lostOrOffered (state (now (t .entry))) c crashed)) ⌝ }
+    ensures { λ _. ⌜ now (t .exit) ≡ words (causes (state (now (t .entry))) c k) ⌝ }
 {
     let live = table::live_count(t, c) as usize;
     let mut p = k;
     while p < live {
-        settle_cause(t, c, p, crashed);
+        settle_cause(t, c, p);
         p += 1;
     }
 }

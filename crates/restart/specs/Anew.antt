@@ -1,4 +1,4 @@
--- The replay figure, and what starting anew writes, one call after the other.
+-- The replay figure, and what starting anew and removing intervals write, one call after the other.
 use mathlib.Core.Path.{_≡_, refl, sym, ap, ap₂, _∙_, subst}
 use mathlib.Core.List.{List}
 use Prim.Native.Nat.{ℕ, zero, suc, _+_, _-_, _≤_, _<_, zero-le}
@@ -11,10 +11,11 @@ use Rattle.table.specs.Layout.{controllers}
 use Rattle.table.specs.Words.{state, words, agree-words, called, then-put, then-part}
 use Rattle.table.specs.Numbering.{numberOf, number-from}
 use Rattle.rules.specs.Vector.{Vector, pair, placeVector, filtered}
-use Rattle.rules.specs.Shared.{placeRecord, newVector, placed, entered, restarted, dropHeld, startAnew, latestFlagged, replayed}
+use Rattle.rules.specs.Shared.{placeRecord, newVector, placed, entered, restarted, dropHeld, startAnew, causes, removed, latestFlagged, replayed}
 use Rattle.laws.specs.Facts.{Near}
 use Rattle.laws.specs.Agree.{agree-dropHeld, agree-entered}
-use Rattle.laws.specs.Chain.{Starts}
+use Rattle.laws.specs.Chain.{Starts, starts-words, starts-causes}
+use Rattle.laws.specs.Kept.{then-start}
 
 -- the latest checkpoint among the first k places has a number of theirs
 pub flagged-le : (σ : State) (c k : ℕ) → latestFlagged σ c k ≤ numberOf σ c k
@@ -62,3 +63,12 @@ begins t t₁ t₂ c k own x v eo ex ev e₁ e₂ =
 pub starts : (t t₁ t₂ : List ℕ) (c k : ℕ) → c < controllers → t₁ ≡ words (restarted (state t) c k) → t₂ ≡ words (dropHeld (state t₁) c k) → t₂ ≡ words (startAnew (state t) c k)
 unfolding startAnew
 starts t t₁ t₂ c k cl e₁ e₂ = called (λ σ. dropHeld σ c k) _ e₁ e₂ (agree-dropHeld _ _ (agree-words _ e₁) c k cl)
+
+-- the causes have their states, and the start is made on them
+module _ (t t₁ : List ℕ) (c k : ℕ) (s : Starts (state t) c k) (e₁ : t₁ ≡ words (causes (state t) c k)) where
+  pub settled-starts : Starts (state t₁) c k
+  settled-starts = starts-words _ c k e₁ (starts-causes (state t) c k k s)
+
+  pub removes : (t₂ : List ℕ) → t₂ ≡ words (startAnew (state t₁) c k) → t₂ ≡ words (removed (state t) c k)
+  unfolding removed
+  removes t₂ e₂ = then-start _ c k (starts-causes (state t) c k k s) e₁ e₂

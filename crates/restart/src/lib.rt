@@ -1,11 +1,11 @@
-// Starting anew after the k-th interval, and how many intervals are replayed then.
+// What a crash and a rollback share: how many intervals are replayed, starting anew, and removing intervals.
 ghost use mathlib.Core.Path.{_≡_};
 ghost use Prim.Native.Nat.{_≤_, _<_};
 ghost use lib.ListN.{length};
 ghost use Rattle.table.specs.Field.{LiveCount};
 ghost use Rattle.table.specs.Layout.{controllers, incarnations, tableWords};
 ghost use Rattle.table.specs.Words.{state, words};
-ghost use Rattle.rules.specs.Shared.{newVector, placed, entered, restarted, startAnew, replayed};
+ghost use Rattle.rules.specs.Shared.{newVector, placed, entered, restarted, startAnew, removed, replayed};
 ghost use Rattle.laws.specs.Chain.{Chain, Starts};
 
 // How many intervals are to be replayed after the k-th.
@@ -71,4 +71,13 @@ pub fn start_anew(t: &mut [u32], c: usize, k: u32)
 {
     begin_incarnation(t, c, k);
     removal::drop_held(t, c, k);
+}
+
+// The intervals of c from place k on are removed: their causes get their states, and c starts anew.
+pub fn remove_intervals(t: &mut [u32], c: usize, k: u32)
+    requires { ⌜ (length (now t) ≡ tableWords) × Starts (state (now t)) c k ⌝ }
+    ensures { λ _. ⌜ now (t .exit) ≡ words (removed (state (now (t .entry))) c k) ⌝ }
+{
+    removal::settle_causes(t, c, k as usize);
+    start_anew(t, c, k);
 }

@@ -11,7 +11,8 @@ use Rattle.table.specs.Numbering.{numberOf, used, lastGiven}
 use Rattle.rules.specs.Limits.{Limits, lastIncarnation}
 use Rattle.rules.specs.Vector.{Pair, Vector, incarnation, number, pairOf, placeVector, messageVector}
 
--- "States: 0 unused, 1 held, 2 released, 3 delivered, 4 lost, 5 dropped."
+-- "States: 0 unused, 1 held, 2 released, 3 delivered, 4 lost, 5 dropped." W1: "State 4 isn't given any more; a table that has it
+-- stays in form."
 abbrev pub stateHeld : ℕ
 stateHeld = 1
 

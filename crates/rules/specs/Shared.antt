@@ -32,18 +32,19 @@ loggedTo σ c k = cond (σ (StableCount c) <? k) (logged σ c k) σ
 unfoldable pub causedIn : State → ℕ → ℕ → ℕ → ℕ → Bool
 causedIn σ c k n r = (r <? used σ) && anyb n (λ (j : ℕ). σ (Cause c (k + j)) == messageOf σ r)
 
--- the causes of these intervals, each with the state that s gives it
-unfoldable pub causesIn : State → ℕ → ℕ → ℕ → (ℕ → ℕ) → State
-causesIn σ c k n s = putStates σ (λ (r : ℕ). cond (causedIn σ c k n r) (s r) (σ (MessageState r)))
-
--- The causes of the live intervals of c from place k on.
-unfoldable pub causes : State → ℕ → ℕ → (ℕ → ℕ) → State
-causes σ c k s = causesIn σ c k (σ (LiveCount c) - k) s
-
--- H: "each cause of an undone interval becomes dropped if its vector is condemned to b, else released again": the state of
--- the cause in record r
+-- H: "each cause of an undone interval becomes dropped if its vector is condemned to b, else released again"; W1: "On a crash,
+-- the cause of each lost interval becomes released again, or dropped if its vector is condemned to that controller by its ends
+-- after the crash": the state of the cause in record r
 unfoldable pub offeredAgain : State → ℕ → ℕ → ℕ
 offeredAgain σ c r = cond (condemned σ c (messageVector σ r)) stateDropped stateReleased
+
+-- the causes of these intervals, each with that state
+unfoldable pub causesIn : State → ℕ → ℕ → ℕ → State
+causesIn σ c k n = putStates σ (λ (r : ℕ). cond (causedIn σ c k n r) (offeredAgain σ c r) (σ (MessageState r)))
+
+-- The causes of the live intervals of c from place k on.
+unfoldable pub causes : State → ℕ → ℕ → State
+causes σ c k = causesIn σ c k (σ (LiveCount c) - k)
 
 -- "the kept vector filtered for c with c's own pair set to the new interval"
 unfoldable pub newVector : State → ℕ → ℕ → Vector
@@ -78,6 +79,10 @@ dropHeld σ c k = putStates σ (heldOrDropped σ c (numberOf σ c k))
 
 unfoldable pub startAnew : State → ℕ → ℕ → State
 startAnew σ c k = dropHeld (restarted σ c k) c k
+
+-- The intervals of c from place k on are removed, lost by X or undone by H: their causes get their states; "then start anew".
+unfoldable pub removed : State → ℕ → ℕ → State
+removed σ c k = startAnew (causes σ c k) c k
 
 -- "Replayed = k minus the highest flagged number on the chain that is at most k": of the first k places
 unfoldable pub latestFlagged : State → ℕ → ℕ → ℕ

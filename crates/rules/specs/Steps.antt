@@ -27,8 +27,8 @@ use Rattle.table.specs.Numbering.{numberOf, used, nextMessage, recordOf, posted
 use Rattle.rules.specs.Limits.{Limits, lastIncarnation}
 use Rattle.rules.specs.Refusal.{CONTROLLER, MESSAGE, DEGREE, SAME-CONTROLLER, STATE, LOG-COUNT, NO-SUCH-CRASH, ALREADY-HEARD, MESSAGES-USED-UP, PLACES-USED-UP, INCARNATIONS-USED-UP}
 use Rattle.rules.specs.Vector.{Vector, pair, noPair, placeVector, messageVector, flat, filtered, condemned, mask, conflict, merged}
-use Rattle.rules.specs.Form.{stateHeld, stateReleased, stateDelivered, stateLost, stateDropped}
-use Rattle.rules.specs.Shared.{newestPlace, placeRecord, logged, loggedTo, causes, offeredAgain, startAnew, replayed}
+use Rattle.rules.specs.Form.{stateHeld, stateReleased, stateDelivered, stateDropped}
+use Rattle.rules.specs.Shared.{newestPlace, placeRecord, logged, loggedTo, removed, replayed}
 use Rattle.rules.specs.declared.Answer.{Answer}
 use Rattle.rules.specs.declared.Answer.the-variants.{Done, Sent, Released, Held, Delivered, Dropped, Waits, Crashed, Heard, Rolled, Refused}
 
@@ -196,14 +196,13 @@ tellRefusals σ owner holder = ((noController σ owner || noController σ holder
 unfoldable pub stepTell : State → ℕ → ℕ → After
 stepTell σ owner holder = refusing (tellRefusals σ owner holder) σ (after Done (told σ owner holder))
 
--- X c: "k is the stable count. Causes of lost intervals get state lost. c's own end word for its incarnation becomes k. Then
--- start anew."
+-- X c: "k is the stable count .. c's own end word for its incarnation becomes k. Then start anew." Since W1 the end word comes
+-- first: the causes of the lost intervals are judged by the "ends after the crash".
 unfoldable pub crashed : State → ℕ → State
 crashed σ c =
     let k = σ (StableCount c) in
-    let settled = causes σ c k (λ (r : ℕ). stateLost) in
-    let ended = put settled (End c c (σ (Incarnation c))) (numberOf σ c k) in
-    startAnew ended c k
+    let ended = put σ (End c c (σ (Incarnation c))) (numberOf σ c k) in
+    removed ended c k
 
 -- "12 crash with 64 stable"; "13 crash in incarnation 15"
 abbrev pub crashRefusals : Limits → State → ℕ → List Case
@@ -233,10 +232,7 @@ lowestCondemned σ hearer = 1 + first (σ (LiveCount hearer) - 1) (λ (j : ℕ).
 -- "kept intervals not yet stable, if any, are logged as by L; each cause of an undone interval becomes dropped if its vector
 -- is condemned to b, else released again; then start anew."
 unfoldable pub rolledBack : State → ℕ → ℕ → State
-rolledBack σ hearer k =
-    let kept = loggedTo σ hearer k in
-    let settled = causes kept hearer k (offeredAgain kept hearer) in
-    startAnew settled hearer k
+rolledBack σ hearer k = let kept = loggedTo σ hearer k in removed kept hearer k
 
 -- H after its refusals; "If none, done. Otherwise that place's index is k"; "13 a hearing that must undo, in incarnation 15"
 unfoldable pub hear : State → ℕ → ℕ → ℕ → After

@@ -56,14 +56,12 @@ pub const LAST_INCARNATION: u32 = 15;
 
 pub const LAST_NUMBER: u32 = 64;
 
-// States of a message; 0 is unused.
+// States of a message. 0 is unused; 4, lost, is in form, but no step gives it.
 pub const HELD: u32 = 1;
 
 pub const RELEASED: u32 = 2;
 
 pub const DELIVERED: u32 = 3;
-
-pub const LOST: u32 = 4;
 
 pub const DROPPED: u32 = 5;
 

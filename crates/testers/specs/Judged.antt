@@ -36,9 +36,9 @@ record Told : Type 0 where
   live-first : member (interval 0 0 1) (told 7 .chain 0) ≡ true
   still-live : member (interval 0 0 1) (told 8 .chain 0) ≡ true
   -- message 2 was sent from what is lost later, and it wasn't stable at the release
-  sending-rests : told 9 .rests (told 9 .sending 2) (interval 1 0 2) ≡ true
+  sending-rests : told 10 .rests (told 10 .sending 2) (interval 1 0 2) ≡ true
   not-yet-stable : told 4 .stable (interval 1 0 2) ≡ false
-  lost-later : told 9 .lost (interval 1 0 2) 0 ≡ true
+  lost-later : told 10 .lost (interval 1 0 2) 0 ≡ true
 
 facts : Told
 unfolding all fed fedStep answers report valueAt sameInterval changedAt changedAtInterval newest member those oldest sentFrom joined leaving stabilized hearing losing opening delivering restarting crashing rollingBack
@@ -90,11 +90,11 @@ module _ (t : List ℕ) (long : length t ≡ tableWords) where
   pub still-live : member (interval 0 0 1) (sampleAt t 8 .history .chain 0) ≡ true
   still-live = ap (λ h. member (interval 0 0 1) (h .chain 0)) (history 8) ∙ facts .still-live
 
-  pub sending-rests : sampleAt t 9 .history .rests (sampleAt t 9 .history .sending 2) (interval 1 0 2) ≡ true
-  sending-rests = ap (λ h. h .rests (h .sending 2) (interval 1 0 2)) (history 9) ∙ facts .sending-rests
+  pub sending-rests : sampleAt t 10 .history .rests (sampleAt t 10 .history .sending 2) (interval 1 0 2) ≡ true
+  sending-rests = ap (λ h. h .rests (h .sending 2) (interval 1 0 2)) (history 10) ∙ facts .sending-rests
 
   pub not-yet-stable : sampleAt t 4 .history .stable (interval 1 0 2) ≡ false
   not-yet-stable = ap (λ h. h .stable (interval 1 0 2)) (history 4) ∙ facts .not-yet-stable
 
-  pub lost-later : sampleAt t 9 .history .lost (interval 1 0 2) 0 ≡ true
-  lost-later = ap (λ h. h .lost (interval 1 0 2) 0) (history 9) ∙ facts .lost-later
+  pub lost-later : sampleAt t 10 .history .lost (interval 1 0 2) 0 ≡ true
+  lost-later = ap (λ h. h .lost (interval 1 0 2) 0) (history 10) ∙ facts .lost-later

@@ -9,3 +9,4 @@ pub mod Judged
 pub mod Echo
 pub mod WrongMachines
 pub mod Written
+pub mod NoneLost

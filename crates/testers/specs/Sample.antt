@@ -12,7 +12,7 @@ use Rattle.table.specs.Layout.{controllers, tableWords}
 use Rattle.table.specs.Words.{words}
 use Rattle.rules.specs.Limits.{house}
 use Rattle.rules.specs.Vector.{Vector, pair, noPair, flat}
-use Rattle.rules.specs.Form.{stateHeld, stateReleased, stateDelivered, stateLost}
+use Rattle.rules.specs.Form.{stateHeld, stateReleased, stateDelivered}
 use Rattle.rules.specs.Shared.{placeRecord}
 use Rattle.rules.specs.Steps.{refusing, openHouse, stepOpen, messageRecord}
 use Rattle.rules.specs.Step.{perform, looksAtForm, stepOn, lent, step, Call, asks, stepCall}
@@ -20,7 +20,7 @@ use Rattle.rules.specs.declared.Answer.{Answer}
 use Rattle.rules.specs.declared.Answer.the-variants.{Done, Sent, Released, Delivered, Crashed, Heard, Rolled}
 use Rattle.rules.specs.declared.Command.{Command}
 use Rattle.rules.specs.declared.Command.the-variants.{Open, Send, Release, Deliver, Crash, Hear}
-use Rattle.listing.specs.Quiet.{steps, answers, quiet-put, quiet-part, quiet-causes, quiet-anew, quiet-rolled, quiet-opened, Run, end, next, run-answers, further}
+use Rattle.listing.specs.Quiet.{steps, answers, quiet-put, quiet-part, quiet-removed, quiet-rolled, quiet-opened, Run, end, next, run-answers, further}
 use Rattle.history.specs.Demand.{justOpened, FromOpening}
 use Rattle.history.specs.Examples.{ListingLine, line}
 use Rattle.image.specs.Stepped.{opening-done}
@@ -37,6 +37,8 @@ sample =
     ∷ line (Crash 1) (Crashed 1 0 1 1 0)
     -- 7 and 8: controllers 0 and 2 hear of it; controller 2 undoes (2;0,2)
     ∷ line (Hear 0 1 0) (Heard 0) ∷ line (Hear 2 1 0) (Rolled 2 1 1 0)
+    -- 9: message 1, from whose delivery the lost interval began, was offered again; now it begins (1;1,3)
+    ∷ line (Deliver 1) (Delivered 1 1 3)
     ∷ []
 
 abbrev pub asked : List ListingLine → List Command
@@ -58,10 +60,11 @@ sample-run =
     (next (λ q. quiet-put SentCount 2 refl (quiet-part (OfMessage 1 0) 0 (messageRecord stateHeld 1 2 0 2 9 one) (λ _. refl) q)) refl refl  -- S 1 2 9
     (next (λ q. quiet-put (MessageState 1) stateReleased refl (quiet-part (OfMessage 1 0) messageHead (flat one) (λ _. refl) q)) refl refl  -- R 2
     (next (λ q. quiet-put (MessageState 1) stateDelivered refl (quiet-put (LiveCount 2) 2 refl (quiet-part (OfPlace 2 1 0) 0 (placeRecord 0 2 2 0 two) (λ _. refl) q))) refl refl  -- D 2
-    (next (λ q. quiet-anew 1 1 refl refl refl (quiet-put (End 1 1 0) 1 refl (quiet-causes 1 1 (λ _. stateLost) (further 2 refl _) q))) refl refl  -- X 1
+    (next (λ q. quiet-removed 1 1 refl refl refl (further 2 refl _) (quiet-put (End 1 1 0) 1 refl q)) refl refl  -- X 1
     (next (λ q. quiet-put (Known 0 1 0) 1 refl (quiet-put (End 0 1 0) 1 refl q)) refl refl  -- H 0 1 0
     (next (λ q. quiet-rolled 2 1 refl refl refl refl (further 2 refl _) (quiet-put (Known 2 1 0) 1 refl (quiet-put (End 2 1 0) 1 refl q))) refl refl  -- H 2 1 0
-    end))))))))
+    (next (λ q. quiet-put (MessageState 0) stateDelivered refl (quiet-put (LiveCount 1) 3 refl (quiet-part (OfPlace 1 2 0) 0 (placeRecord 1 3 1 0 (set none 1 (pair 1 3))) (λ _. refl) q))) refl refl  -- D 1
+    end)))))))))
 
 -- ON TABLES OF WORDS
 -- the calls of some steps, and the answers to calls, each on the table that the last one left

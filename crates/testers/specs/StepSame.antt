@@ -27,10 +27,10 @@ use Rattle.rules.specs.declared.Command.{Command}
 use Rattle.rules.specs.declared.Command.the-variants.{Open, SetDegree, Send, Release, Deliver, Log, Checkpoint, Tell, Crash, Hear}
 use Rattle.laws.specs.Facts.{Form, form, below-8, controllerForm, messageForm, message-near}
 use Rattle.laws.specs.Allowed.{sendAllowed, messageAllowed, logAllowed, checkpointAllowed, tellAllowed, crashAllowed, hearAllowed}
-use Rattle.laws.specs.Agree.{incarnation-same, live-same, stable-same, state-same, placeVector-same, messageVector-same, filtered-same, condemned-same, replayed-same, lowestCondemned-same, agree-logged, agree-loggedTo, agree-causes, agree-sent, agree-begun, agree-noted, agree-told}
-use Rattle.laws.specs.Chain.{Chain, chain-form, chain-noted, Starts, starts-put, starts-causes}
+use Rattle.laws.specs.Agree.{incarnation-same, live-same, stable-same, state-same, placeVector-same, messageVector-same, filtered-same, condemned-same, replayed-same, lowestCondemned-same, agree-logged, agree-loggedTo, agree-sent, agree-begun, agree-noted, agree-told}
+use Rattle.laws.specs.Chain.{Chain, chain-form, chain-noted, Starts, starts-put}
 use Rattle.laws.specs.Found.{lowest}
-use Rattle.laws.specs.Kept.{agree-start, agree-rolled}
+use Rattle.laws.specs.Kept.{agree-removed, agree-rolled}
 use Rattle.testers.specs.FormSame.{inForm-same}
 
 -- the same answer, and states with the same words
@@ -234,8 +234,7 @@ module _ (σ τ : State) (e : Agree σ τ) where
         (record {
           answer-is = λ i. Crashed c (own i) (x i) (live i - k) (again i);
           left-is =
-              agree-start _ _ c k (starts-put _ c k (End c c (σ (Incarnation c))) _ refl (starts-causes σ c k k _ s))
-              (agree-put-to _ _ (ap (End c c) own) x (agree-causes σ τ e c k _ _ (w .named) (s .below) (w .live-le) (λ _ _. refl)));
+              agree-removed _ _ c k (starts-put σ c k (End c c (σ (Incarnation c))) _ refl s) (agree-put-to σ τ (ap (End c c) own) x e);
         }))
 
     -- the first refusals of H

@@ -29,7 +29,7 @@ pub(super) struct Chooser<'a> {
 }
 
 impl Chooser<'_> {
-    /// A step of this kind that isn't refused, as far as a look at the table can tell. A send is
+    /// A step of this kind that mostly isn't refused, as far as a look at the table can tell. A send is
     /// always found.
     pub(super) fn step(&mut self, kind: Kind) -> Option<Command> {
         let controller = self.controller();
@@ -94,8 +94,12 @@ impl Chooser<'_> {
         }
     }
 
-    /// Often the newest message in the state: fresh work is what crashes and rollbacks reach.
+    /// Often the newest message in the state: fresh work is what crashes and rollbacks reach. Seldom any
+    /// message: that a step is refused for a state tells of that state, too.
     fn message(&mut self, state: u32) -> Option<u32> {
+        if self.random.chance(3) {
+            return Some(self.random.below(self.table.sent()) + 1);
+        }
         let in_state: Vec<u32> = (1..=self.table.sent())
             .filter(|&message| self.table.message(message).state == state)
             .collect();

@@ -46,7 +46,14 @@ pub fn in_form_table(random: &mut Random) -> Vec<u32> {
     if let Some(table) = Table::new(&mut words[..]) {
         let n = random.within(1..=CONTROLLERS as u32);
         let sent = ranged(random, 0, LAST_MESSAGE);
-        Filler { random, n, sent }.fill(table);
+        let incarnations = [0; CONTROLLERS].map(|_| ranged(random, 0, LAST_INCARNATION));
+        let filler = Filler {
+            random,
+            n,
+            sent,
+            incarnations,
+        };
+        filler.fill(table);
     }
     words
 }
@@ -65,6 +72,8 @@ struct Filler<'a> {
     random: &'a mut Random,
     n: u32,
     sent: u32,
+    /// That of each controller.
+    incarnations: [u32; CONTROLLERS],
 }
 
 impl Filler<'_> {
@@ -72,11 +81,11 @@ impl Filler<'_> {
         table.set_n(self.n);
         table.set_sent(self.sent);
         for c in 0..self.n as usize {
-            let counts = self.counts();
+            let counts = self.counts(self.incarnations[c]);
             table.set_controller(c, counts);
             self.fill_rows(&mut table, c);
             for place in 0..counts.live {
-                let record = self.place(place, counts.incarnation);
+                let record = self.place(c, place);
                 table.set_place(c, place as usize, &record);
             }
         }
@@ -86,7 +95,7 @@ impl Filler<'_> {
         }
     }
 
-    fn counts(&mut self) -> Controller {
+    fn counts(&mut self, incarnation: u32) -> Controller {
         let live = ranged(self.random, 1, LAST_NUMBER);
         let stable = if self.random.chance(30) {
             live
@@ -95,7 +104,7 @@ impl Filler<'_> {
         };
         Controller {
             degree: self.random.within(0..=self.n),
-            incarnation: ranged(self.random, 0, LAST_INCARNATION),
+            incarnation,
             live,
             stable,
         }
@@ -116,16 +125,19 @@ impl Filler<'_> {
         }
     }
 
-    /// A place mostly has its controller's incarnation, as in a house, but not always.
-    fn place(&mut self, place: u32, incarnation: u32) -> Place {
-        let incarnation = if self.random.chance(70) {
-            incarnation
+    /// Mostly the incarnation that its controller is in, as in a house, but not always.
+    fn incarnation(&mut self, c: usize) -> u32 {
+        if self.random.chance(70) {
+            self.incarnations[c]
         } else {
             ranged(self.random, 0, LAST_INCARNATION)
-        };
+        }
+    }
+
+    fn place(&mut self, c: usize, place: u32) -> Place {
         let flagged = place == 0 || self.random.chance(20);
         Place {
-            incarnation,
+            incarnation: self.incarnation(c),
             number: place + 1,
             cause: self.random.within(0..=self.sent),
             flag: u32::from(flagged),
@@ -146,15 +158,13 @@ impl Filler<'_> {
     }
 
     /// Mostly empty pairs: a vector with many has little chance of being neither condemned nor in
-    /// conflict with another.
+    /// conflict with another. The others mostly name work that a crash could still lose.
     fn vector(&mut self) -> Vector {
         let mut vector = Vector::default();
-        for pair in vector.iter_mut().take(self.n as usize) {
+        for (owner, pair) in vector.iter_mut().enumerate().take(self.n as usize) {
             if self.random.chance(25) {
-                *pair = Pair::new(
-                    ranged(self.random, 0, LAST_INCARNATION),
-                    ranged(self.random, 1, LAST_NUMBER),
-                );
+                let incarnation = self.incarnation(owner);
+                *pair = Pair::new(incarnation, ranged(self.random, 1, LAST_NUMBER));
             }
         }
         vector

@@ -6,7 +6,7 @@
 use super::{Answer, Command};
 use crate::refusal;
 use crate::table::{state, Controller, Table, INCARNATIONS};
-use crate::vector::{Pair, Row, Vector};
+use crate::vector::{is_condemned, Pair, Row, Vector};
 use std::array;
 
 /// What is wrong with a machine.
@@ -28,6 +28,14 @@ pub enum Fault {
     KnownNotRaised,
     /// Leaving held what was sent from lost or undone intervals.
     HeldKept,
+    /// Giving the causes of lost intervals state lost, so that they are not offered again.
+    LostGiven,
+    /// Judging the causes of lost intervals by the ends from before the crash, so that what rests on the
+    /// lost work is offered again with the rest.
+    EndsBeforeCrash,
+    /// Offering the causes of lost and undone intervals again without looking whether they are
+    /// condemned.
+    CondemnedOffered,
     /// "A machine that refuses all."
     RefusesAll,
     /// "Or answers `done` to all."
@@ -55,7 +63,7 @@ pub enum Fault {
 
 impl Fault {
     /// Every planted fault.
-    pub const PLANTED: [Fault; 18] = [
+    pub const PLANTED: [Fault; 21] = [
         Fault::LargerAcrossIncarnations,
         Fault::NumbersWithoutIncarnations,
         Fault::StoredPairsCounted,
@@ -63,6 +71,9 @@ impl Fault {
         Fault::KeptNotLogged,
         Fault::KnownNotRaised,
         Fault::HeldKept,
+        Fault::LostGiven,
+        Fault::EndsBeforeCrash,
+        Fault::CondemnedOffered,
         Fault::RefusesAll,
         Fault::DoneToAll,
         Fault::WritesNoWord,
@@ -83,6 +94,9 @@ impl Fault {
                 | Fault::KeptNotLogged
                 | Fault::KnownNotRaised
                 | Fault::HeldKept
+                | Fault::LostGiven
+                | Fault::EndsBeforeCrash
+                | Fault::CondemnedOffered
                 | Fault::WritesNoWord
         )
     }
@@ -175,7 +189,19 @@ fn bend(fault: Fault, before: &[u32], after: &mut [u32], answer: Answer) {
             keep_held(&before, &mut after);
         }
         (
-            _,
+            Fault::LostGiven | Fault::EndsBeforeCrash | Fault::CondemnedOffered,
+            Answer::Crashed {
+                controller, kept, ..
+            },
+        )
+        | (
+            Fault::CondemnedOffered,
+            Answer::Rolled {
+                controller, kept, ..
+            },
+        ) => bend_causes(fault, &before, &mut after, controller as usize, kept),
+        (
+            Fault::EndWordOnRollback | Fault::KeptNotLogged | Fault::KnownNotRaised,
             Answer::Rolled {
                 controller, kept, ..
             },
@@ -205,6 +231,30 @@ fn bend_rollback(
         if fault == Fault::KeptNotLogged {
             let counts = after.controller(hearer);
             after.set_controller(hearer, Controller { stable, ..counts });
+        }
+    }
+}
+
+/// A crash or a rollback to `kept` that made something else of the causes of the intervals above it.
+fn bend_causes(
+    fault: Fault,
+    before: &Table<&[u32]>,
+    after: &mut Table<&mut [u32]>,
+    controller: usize,
+    kept: u32,
+) {
+    let ends = before.ends(controller);
+    for place in kept..before.controller(controller).live {
+        let cause = before.place(controller, place as usize).cause;
+        if cause != 0 {
+            let state = match fault {
+                Fault::LostGiven => state::LOST,
+                Fault::EndsBeforeCrash if is_condemned(&before.message(cause).vector, &ends) => {
+                    state::DROPPED
+                }
+                _ => state::RELEASED,
+            };
+            after.set_state(cause, state);
         }
     }
 }

@@ -217,8 +217,9 @@ impl House<'_> {
         Ok(Answer::Done)
     }
 
-    /// "k is the stable count. Causes of lost intervals get state lost. c's own end word for its
-    /// incarnation becomes k. Then start anew."
+    /// "k is the stable count. .. c's own end word for its incarnation becomes k. Then start anew." The
+    /// causes of lost intervals are settled in between, since they are judged by the "ends after the
+    /// crash".
     fn crash(&mut self, controller: u32) -> Outcome {
         let c = self.controller(controller)?;
         let counts = self.table.controller(c);
@@ -229,10 +230,8 @@ impl House<'_> {
             refusal::INCARNATIONS_USED_UP,
         )?;
         let replayed = self.replayed(c, kept);
-        for cause in self.causes_above(c, kept) {
-            self.table.set_state(cause, state::LOST);
-        }
         self.table.set_end(c, c, counts.incarnation, kept);
+        self.settle_causes(c, kept);
         self.start_anew(c, kept);
         Ok(Answer::Crashed {
             controller,
@@ -266,7 +265,7 @@ impl House<'_> {
             None => Answer::Heard {
                 controller: hearer as u32,
             },
-            Some(kept) => self.roll_back(hearer, kept, &ends),
+            Some(kept) => self.roll_back(hearer, kept),
         })
     }
 }
@@ -346,27 +345,35 @@ impl House<'_> {
     }
 
     /// "That place's index is k: kept intervals not yet stable, if any, are logged as by L; each
-    /// cause of an undone interval becomes dropped if its vector is condemned to b, else released
-    /// again; then start anew."
-    fn roll_back(&mut self, hearer: usize, kept: u32, ends: &Row) -> Answer {
+    /// cause of an undone interval becomes dropped .. [or] released again; then start anew."
+    fn roll_back(&mut self, hearer: usize, kept: u32) -> Answer {
         let undone = self.table.controller(hearer).live - kept;
         let replayed = self.replayed(hearer, kept);
         self.log_up_to(hearer, kept);
-        for cause in self.causes_above(hearer, kept) {
-            let condemned = self.condemned(&self.table.message(cause).vector, ends);
-            let state = if condemned {
-                state::DROPPED
-            } else {
-                state::RELEASED
-            };
-            self.table.set_state(cause, state);
-        }
+        self.settle_causes(hearer, kept);
         self.start_anew(hearer, kept);
         Answer::Rolled {
             controller: hearer as u32,
             kept,
             undone,
             replayed,
+        }
+    }
+
+    /// What becomes of the causes of intervals that leave the chain, at a crash: "the cause of each lost
+    /// interval becomes released again, or dropped if its vector is condemned to that controller by
+    /// its ends after the crash"; and at a rollback: "each cause of an undone interval becomes dropped
+    /// if its vector is condemned to b, else released again". The step has written its end word by now.
+    fn settle_causes(&mut self, c: usize, kept: u32) {
+        let ends = self.table.ends(c);
+        for cause in self.causes_above(c, kept) {
+            let condemned = self.condemned(&self.table.message(cause).vector, &ends);
+            let state = if condemned {
+                state::DROPPED
+            } else {
+                state::RELEASED
+            };
+            self.table.set_state(cause, state);
         }
     }
 

@@ -1,16 +1,15 @@
--- The causes and the end word are those of the rule, and the start is made on them (lost-words).
+-- The end word is that of the rule, and the intervals are removed on a table with it (lost-words).
 use borrow.Author.Needs.{needs}
 use Rattle.recovery.specs.Crashing.{lost-starts, lost-words}
 use Rattle.recovery.proofs.lose.Statement.{statement}
 use Rattle.recovery.proofs.lose.Tie as tie
 
-start-anew-requires : tie.Need-start-anew-requires
-start-anew-requires c κs =
+remove-intervals-requires : tie.Need-remove-intervals-requires
+remove-intervals-requires c κs =
     let end = c .before .before .before in
-    let settle = end .before .before .before .before in
-    let read = settle .before .before .before .before in
+    let read = end .before .before .before .before in
     let start = read .before .before .before .before .before in
-    (search needs, lost-starts (start .args .t .now) _ _ _ _ _ _ (start .pre .1) (read .stable-count .ensures) (settle .settle-causes .ensures) (end .set-end .ensures))
+    (search needs, lost-starts (start .args .t .now) _ _ _ _ _ (start .pre .1) (read .stable-count .ensures) (end .set-end .ensures))
 
 returns : tie.Need-returns
 returns c = search lost-words
@@ -19,5 +18,5 @@ pub lose-spec : {M : Type 1} → statement M
 lose-spec =
     tie.close
     (tie.spec
-    (λ c κs. search needs) (λ c. search needs) (λ c κs. search needs) (λ c κs. search needs) (λ c. search needs)
-    (λ c κs. search needs) (λ c κs. search needs) start-anew-requires (λ c. search needs) returns)
+    (λ c κs. search needs) (λ c. search needs) (λ c κs. search needs) (λ c κs. search needs)
+    (λ c κs. search needs) remove-intervals-requires (λ c. search needs) returns)

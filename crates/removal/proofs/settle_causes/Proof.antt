@@ -8,10 +8,10 @@ use Rattle.removal.proofs.settle_causes.Statement.{statement}
 use Rattle.removal.proofs.settle_causes.Tie as tie
 
 abbrev Inv-loop : tie.InvT-loop
-Inv-loop t₀ c k crashed live p₀ t p = Walk (state t₀) c k crashed live t p
+Inv-loop t₀ c k live p₀ t p = Walk (state t₀) c k live t p
 
 abbrev μ-loop : tie.MeasureT-loop
-μ-loop t₀ c k crashed live p₀ t p = live - p
+μ-loop t₀ c k live p₀ t p = live - p
 
 loop-holds : tie.Need-loop-holds Inv-loop μ-loop
 loop-holds c = search walk-none
