@@ -5,14 +5,10 @@ use Prim.Native.Nat.{ℕ, _-_}
 use native.Mathlib.Omega.{arith}
 use Rattle.table.specs.Field.{State}
 use Rattle.table.specs.Words.{state, words, Agree, agree-words, called}
-use Rattle.rules.specs.Shared.{causes, startAnew, removed}
+use Rattle.rules.specs.Shared.{startAnew, removed}
 use Rattle.rules.specs.Steps.{rolledBack}
 use Rattle.laws.specs.Agree.{agree-causes, agree-loggedTo, agree-startAnew}
 use Rattle.laws.specs.Chain.{Starts, starts-words, starts-causes, starts-loggedTo}
-
--- causes that got their states
-agree-offered : (σ τ : State) (c k : ℕ) → Starts σ c k → Agree σ τ → Agree (causes σ c k) (causes τ c k)
-agree-offered σ τ c k s e = let w = s .chain in agree-causes σ τ e c k (w .named) (s .below) (w .live-le) (w .message-near)
 
 agree-start : (σ τ : State) (c k : ℕ) → Starts σ c k → Agree σ τ → Agree (startAnew σ c k) (startAnew τ c k)
 agree-start σ τ c k s e =
@@ -25,7 +21,9 @@ then-start σ c k s e q = called (λ τ. startAnew τ c k) σ e q (agree-start _
 -- intervals from place k on were removed
 pub agree-removed : (σ τ : State) (c k : ℕ) → Starts σ c k → Agree σ τ → Agree (removed σ c k) (removed τ c k)
 unfolding removed
-agree-removed σ τ c k s e = agree-start _ _ c k (starts-causes σ c k k s) (agree-offered σ τ c k s e)
+agree-removed σ τ c k s e =
+    let w = s .chain in
+    agree-start _ _ c k (starts-causes σ c k k s) (agree-causes σ τ e c k (w .named) (s .below) (w .live-le) (w .message-near))
 
 -- they were removed on a table with the words of σ
 pub then-removed : (σ : State) (c k : ℕ) {t u : List ℕ} → Starts σ c k → t ≡ words σ → u ≡ words (removed (state t) c k) → u ≡ words (removed σ c k)

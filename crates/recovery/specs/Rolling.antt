@@ -1,5 +1,5 @@
 -- What rolling back counts on, and what it leaves.
-use mathlib.Core.Path.{_≡_}
+use mathlib.Core.Path.{_≡_, ap, _∙_}
 use mathlib.Core.List.{List}
 use Prim.Native.Nat.{ℕ, _-_}
 use Rattle.table.specs.Field.{State, LiveCount}
@@ -12,17 +12,17 @@ use Rattle.rules.specs.declared.Answer.the-variants.{Rolled}
 use Rattle.laws.specs.Chain.{Starts, starts-words, starts-loggedTo}
 use Rattle.laws.specs.Kept.{then-removed}
 
--- t₁ has the kept intervals logged.
-module _ (t t₁ : List ℕ) (hearer k : ℕ) (s : Starts (state t) hearer k) (e₁ : t₁ ≡ words (loggedTo (state t) hearer k)) where
-  kept-starts : Starts (loggedTo (state t) hearer k) hearer k
-  kept-starts = starts-loggedTo (state t) hearer k k s
+-- t₁ has the j oldest intervals logged.
+module _ (t t₁ : List ℕ) (hearer j k : ℕ) (s : Starts (state t) hearer k) (e₁ : t₁ ≡ words (loggedTo (state t) hearer j)) where
+  kept-starts : Starts (loggedTo (state t) hearer j) hearer k
+  kept-starts = starts-loggedTo (state t) hearer k j s
 
   pub undone-starts : Starts (state t₁) hearer k
   undone-starts = starts-words _ hearer k e₁ kept-starts
 
-  pub undone-words : (t₂ : List ℕ) → t₂ ≡ words (removed (state t₁) hearer k) → t₂ ≡ words (rolledBack (state t) hearer k)
+  pub undone-words : (t₂ : List ℕ) → j ≡ k → t₂ ≡ words (removed (state t₁) hearer k) → t₂ ≡ words (rolledBack (state t) hearer k)
   unfolding rolledBack
-  undone-words t₂ e₂ = then-removed _ hearer k kept-starts e₁ e₂
+  undone-words t₂ all e₂ = then-removed _ hearer k kept-starts e₁ e₂ ∙ ap (λ j. words (removed (loggedTo (state t) hearer j) hearer k)) all
 
 -- what is answered and left where the intervals of the hearer from place k on are undone
 abbrev pub undoing : State → ℕ → ℕ → After
