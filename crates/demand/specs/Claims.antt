@@ -1,26 +1,29 @@
 -- What a tester looks for by name, each claim under the sentence that it answers.
 use mathlib.Core.Path.{_≡_, refl, sym, ap, _∙_, subst}
 use mathlib.Core.Bool.{true, true≢false}
-use mathlib.Core.List.{List, _++_, _∷_}
+use mathlib.Core.List.{List, [], _++_, _∷_}
+use mathlib.Core.Logic.{_≢_}
 use Prim.Native.Nat.{ℕ, _≤_, _<_}
 use native.Mathlib.Omega.{arith}
 use lib.Count.{ones}
 use lib.ListN.{length, take, drop}
-use borrow.Author.Tests.{eqb-true}
+use borrow.Author.Tests.{eqb-true, eq-eqb}
 use Rattle.base.specs.Choice.{_==_, cond-ind}
 use Rattle.table.specs.Field.{MessageState}
 use Rattle.table.specs.Layout.{controllers, messages, tableWords}
 use Rattle.table.specs.Words.{state, words, words-state, word-at}
 use Rattle.rules.specs.Limits.{house}
 use Rattle.rules.specs.Form.{stateLost}
+use Rattle.rules.specs.Steps.{openHouse}
 use Rattle.rules.specs.Step.{Out, stepOn, lent, step, Call, asks, stepCall}
-use Rattle.rules.specs.declared.Answer.the-variants.{Released, Held, Refused}
+use Rattle.rules.specs.declared.Answer.the-variants.{Done, Released, Held, Refused}
 use Rattle.rules.specs.declared.Command.{Command}
-use Rattle.rules.specs.declared.Command.the-variants.{Checkpoint, Release}
+use Rattle.rules.specs.declared.Command.the-variants.{Open, Checkpoint, Release}
 use Rattle.lines.specs.Program.{houseWrites}
 use Rattle.history.specs.History.{interval}
-use Rattle.history.specs.Demand.{runs, justOpened, Accepted, answersHeard, answersRolled, RestsOnLost, named, FromOpening, upTo, end}
+use Rattle.history.specs.Demand.{Run, next, runs, justOpened, Accepted, answersHeard, answersRolled, RestsOnLost, named, FromOpening, upTo, end}
 use Rattle.image.specs.Mask.{count}
+use Rattle.image.specs.Stepped.{opening-done}
 use Rattle.demand.specs.Demanded.{demand-3}
 use Rattle.testers.specs.StepSame.{same-written, step-words}
 use Rattle.testers.specs.Refused.{keeps-refused}
@@ -112,3 +115,18 @@ lost-is-never-given t x r h =
 pub lost-is-never-given-by-a-call : (t : List ℕ) (x : Call) (r : ℕ) → r < messages → state (stepCall t x .table) (MessageState r) ≡ stateLost → state t (MessageState r) ≡ stateLost
 unfolding stepCall
 lost-is-never-given-by-a-call t (asks x) = lost-is-never-given t x
+
+-- along a list
+lost-before : (s : Run) (l : List Call) (r : ℕ) → r < messages → state (runs s l .table) (MessageState r) ≡ stateLost → state (s .table) (MessageState r) ≡ stateLost
+unfolding runs next
+lost-before s [] r h q = q
+lost-before s (x ∷ l) r h q = lost-is-never-given-by-a-call (s .table) x r h (lost-before (next x s) l r h q)
+
+-- so no message of a house just opened ever is
+pub no-message-is-lost : (t : List ℕ) (n k : ℕ) (l : List Call) → step t (Open n k) .answer ≡ Done → (r : ℕ) → r < messages → state (upTo t n k l .table) (MessageState r) ≢ stateLost
+unfolding justOpened openHouse
+no-message-is-lost t n k l done r h q =
+    let f = MessageState r in
+    let lost = lost-before (justOpened t n k) l r h q in
+    let unused = ap (λ u. state u f) (opening-done t n k done .table-is) ∙ word-at (openHouse n k) f (h, omega arith) in
+    absurd (true≢false (sym (eq-eqb 0 stateLost (sym unused ∙ lost))))
