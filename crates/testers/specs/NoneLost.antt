@@ -9,7 +9,7 @@ use lib.Count.{ones}
 use borrow.Author.Tests.{eq-eqb, ne-eqb}
 use Rattle.base.specs.Choice.{_==_, _≤?_, _<?_, cond-ind}
 use Rattle.base.specs.Cases.{Case, firstOf}
-use Rattle.table.specs.Field.{Field, State, OfPlace, OfMessage, Known, End, Degree, Incarnation, LiveCount, StableCount, SentCount, Flag, MessageState, Sender, Receiver, wordOf, messageHead, owner}
+use Rattle.table.specs.Field.{Field, State, OfPlace, OfMessage, Known, End, Degree, Incarnation, LiveCount, StableCount, SentCount, Flag, MessageState, Sender, Receiver, wordOf, messageHead}
 use Rattle.table.specs.Change.{put, putPart, clearPlaces, putStates, isState, put-ind, part-ind, clear-ind, states-ind, is-state}
 use Rattle.table.specs.Layout.{places}
 use Rattle.table.specs.Numbering.{numberOf, used, posted}
