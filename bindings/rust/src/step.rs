@@ -56,8 +56,8 @@ pub enum Step {
         holder: u32,
     },
     /// Crashes a controller: its live intervals that are not stable are lost. The messages that began
-    /// them are released again, and can be delivered once more; those that rest on lost work
-    /// themselves are dropped.
+    /// them are released again, and can be delivered once more; those that rest themselves on work lost
+    /// in this crash, or in another that the controller has heard of, are dropped.
     Crash {
         /// Who crashes.
         controller: u32,

@@ -103,7 +103,7 @@ at-most-K-named t n k l O before after m echoed mask e a =
 pub listing-A-written : houseWrites leftColumn ≡ rightColumn
 listing-A-written = listing-written
 
--- 6. W1: "State 4 isn't given any more": a message has it after a step only if it had it before, on every table.
+-- 6. W1: "State 4 isn't given any more": on every table, a record has it after a step only if it had it before.
 pub lost-is-never-given : (t : List ℕ) (x : Command) (r : ℕ) → r < messages → state (step t x .table) (MessageState r) ≡ stateLost → state t (MessageState r) ≡ stateLost
 unfolding step lent
 lost-is-never-given t x r h =
@@ -122,7 +122,7 @@ unfolding runs next
 lost-before s [] r h q = q
 lost-before s (x ∷ l) r h q = lost-is-never-given-by-a-call (s .table) x r h (lost-before (next x s) l r h q)
 
--- so no message of a house just opened ever is
+-- so in a house just opened no message is ever lost, whatever calls follow
 pub no-message-is-lost : (t : List ℕ) (n k : ℕ) (l : List Call) → step t (Open n k) .answer ≡ Done → (r : ℕ) → r < messages → state (upTo t n k l .table) (MessageState r) ≢ stateLost
 unfolding justOpened openHouse
 no-message-is-lost t n k l done r h q =

@@ -10,6 +10,7 @@ use Rattle.rules.specs.Steps.{rolledBack}
 use Rattle.laws.specs.Agree.{agree-causes, agree-loggedTo, agree-startAnew}
 use Rattle.laws.specs.Chain.{Starts, starts-words, starts-causes, starts-loggedTo}
 
+-- a start
 agree-start : (σ τ : State) (c k : ℕ) → Starts σ c k → Agree σ τ → Agree (startAnew σ c k) (startAnew τ c k)
 agree-start σ τ c k s e =
     agree-startAnew σ τ e c k (s .chain .named) (omega (arith, s .room)) (s .kept) (s .chain .near (k - 1) (omega (arith, s .kept, s .below)))

@@ -28,11 +28,11 @@ two-unstable = put (put blank (LiveCount 0) 3) (StableCount 0) 1
 abbrev one-held : State
 one-held = put (put two-unstable (MessageState 0) stateHeld) (SendingNumber 0) 3
 
--- message 1, in record 0, is the cause of the second
+-- it began the second of these from message 1, in record 0
 abbrev one-taken : State
 one-taken = put (put two-unstable SentCount 1) (Cause 0 1) 1
 
--- and it rests on that interval itself: it has the pair (0,2) of controller 0
+-- and that message rests on the interval itself: it has the pair (0,2) of controller 0
 abbrev one-returned : State
 one-returned = put one-taken (MessagePairNumber 0 0) 2
 
