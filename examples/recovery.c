@@ -1,6 +1,7 @@
 /*
- * A crash in a library of four controllers, and what follows from it, told in words. It comes across
- * every answer, and shows a refusal and the two returns that are no answers.
+ * A crash in a library of four controllers, what follows from it, and readings that go out to be cited,
+ * told in words. It comes across every answer, and shows two refusals and the two returns that are no
+ * answers.
  *
  *     rt staticlib goulvizad
  *     cc examples/recovery.c -Iinclude -Ltarget/staticlib -lgoulvizad -o recovery
@@ -16,6 +17,9 @@ static const char *const names[CONTROLLERS] = {"arm", "drive", "catalogue", "ben
 
 /* The house. A real one is kept where it survives: these words are all that the machine knows. */
 static uint32_t table[GOULVIZAD_TABLE_WORDS];
+
+/* What it has published. It belongs to the table, and is kept with it. */
+static uint32_t ledger[GOULVIZAD_LEDGER_WORDS];
 
 static const char *name(uint32_t controller)
 {
@@ -92,6 +96,8 @@ static const char *refusal(uint32_t number)
         return "the table has another length";
     case GOULVIZAD_FORM:
         return "the table is not in form";
+    case GOULVIZAD_LEDGER:
+        return "the ledger has another length or is not in order";
     case GOULVIZAD_CONTROLLER:
         return "no such controller";
     case GOULVIZAD_MESSAGE:
@@ -114,6 +120,8 @@ static const char *refusal(uint32_t number)
         return "the places are used up";
     case GOULVIZAD_INCARNATIONS_USED_UP:
         return "the incarnations are used up";
+    case GOULVIZAD_LEDGER_USED_UP:
+        return "the ledger is used up";
     default:
         return "unknown";
     }
@@ -160,8 +168,8 @@ static uint32_t step(const char *what, char letter, uint32_t a, uint32_t b, uint
     uint32_t values[GOULVIZAD_VALUE_WORDS];
     uint32_t answer;
 
-    answer = goulvizad_step(table, GOULVIZAD_TABLE_WORDS, (uint32_t)letter, a, b, c, 0, values,
-                            GOULVIZAD_VALUE_WORDS);
+    answer = goulvizad_step(table, GOULVIZAD_TABLE_WORDS, ledger, GOULVIZAD_LEDGER_WORDS,
+                            (uint32_t)letter, a, b, c, 0, values, GOULVIZAD_VALUE_WORDS);
     printf("%s: ", what);
     print_answer(answer, values);
     return answer;
@@ -193,6 +201,10 @@ static void work(void)
     step("deliver 5", 'D', 5, 0, 0);
     step("bench sends 6 to drive", 'S', BENCH, DRIVE, 6);
     step("release 6", 'R', 6, 0, 0);
+
+    /* The drive counts frames. A reading goes out of the house only when nobody could revoke it. */
+    step("drive sends 23 to desk", 'S', DRIVE, GOULVIZAD_DESK, 23);
+    step("release 7", 'R', 7, 0, 0);
 }
 
 /* The drive crashes and works on, and the others hear of it one by one. */
@@ -205,12 +217,12 @@ static void crash(void)
     step("deliver 2", 'D', 2, 0, 0);
     step("deliver 6", 'D', 6, 0, 0);
     step("drive sends 2 to arm", 'S', DRIVE, ARM, 2);
-    step("release 7", 'R', 7, 0, 0);
+    step("release 8", 'R', 8, 0, 0);
 
     /* The arm's work rests on the ended incarnation: it must hear of the crash first. */
-    if (step("deliver 7", 'D', 7, 0, 0) == GOULVIZAD_WAITS) {
+    if (step("deliver 8", 'D', 8, 0, 0) == GOULVIZAD_WAITS) {
         step("arm hears of drive", 'H', ARM, DRIVE, 0);
-        step("deliver 7", 'D', 7, 0, 0);
+        step("deliver 8", 'D', 8, 0, 0);
     }
 
     /* Whatever rests on lost work is undone or dropped, and nothing else. */
@@ -218,8 +230,43 @@ static void crash(void)
     step("bench hears of drive", 'H', BENCH, DRIVE, 0);
     step("deliver 4", 'D', 4, 0, 0);
 
-    /* A refused step changes nothing. */
+    /* A refused step changes nothing. The reading was dropped too: it never goes out. */
     step("bench hears of drive", 'H', BENCH, DRIVE, 0);
+    step("release 7", 'R', 7, 0, 0);
+}
+
+/* The bench counts the frames again, from what the drive sends it. */
+static void publish(void)
+{
+    step("drive sends 3 to bench", 'S', DRIVE, BENCH, 3);
+    step("release 9", 'R', 9, 0, 0);
+    step("deliver 9", 'D', 9, 0, 0);
+    step("bench sends 24 to desk", 'S', BENCH, GOULVIZAD_DESK, 24);
+
+    /* Both have to write their work, and the bench has to be told that the drive did. */
+    if (step("release 10", 'R', 10, 0, 0) == GOULVIZAD_HELD) {
+        step("bench logs 1", 'L', BENCH, 1, 0);
+        step("drive logs 3", 'L', DRIVE, 3, 0);
+        step("release 10", 'R', 10, 0, 0);
+        step("drive tells bench", 'T', DRIVE, BENCH, 0);
+        step("release 10", 'R', 10, 0, 0);
+    }
+
+    /* What the drive reads from written work goes out at once, and no later crash takes it back. */
+    step("drive sends 18 to desk", 'S', DRIVE, GOULVIZAD_DESK, 18);
+    step("release 11", 'R', 11, 0, 0);
+    step("drive crashes", 'X', DRIVE, 0, 0);
+}
+
+/* The ledger for the printed filmography, in the order of publishing. */
+static void cite(void)
+{
+    uint32_t i;
+
+    for (i = 0; i < ledger[0]; i++) {
+        printf("cited from message %" PRIu32, ledger[1 + 2 * i]);
+        printf(": %" PRIu32 " frames\n", ledger[2 + 2 * i]);
+    }
 }
 
 /* Two faults of a caller, which change nothing either. */
@@ -229,20 +276,22 @@ static void no_steps(void)
     uint32_t answer;
 
     step("a letter of no step", 'Q', 0, 0, 0);
-    answer = goulvizad_step(table, GOULVIZAD_TABLE_WORDS, 'C', ARM, 0, 0, 0, values,
-                            GOULVIZAD_VALUE_WORDS - 1);
+    answer = goulvizad_step(table, GOULVIZAD_TABLE_WORDS, ledger, GOULVIZAD_LEDGER_WORDS, 'C', ARM, 0,
+                            0, 0, values, GOULVIZAD_VALUE_WORDS - 1);
     printf("a value buffer too short: ");
     print_answer(answer, values);
 }
 
 int main(void)
 {
-    /* A table that was saved in form is a house that goes on. This one is all zeros. */
+    /* A table that was saved in form, with its ledger, is a house that goes on. These are all zeros. */
     if (goulvizad_in_form(table, GOULVIZAD_TABLE_WORDS) == 0)
         if (step("open a house of four, degree 1", 'O', CONTROLLERS, 1, 0) != GOULVIZAD_DONE)
             return 1;
     work();
     crash();
+    publish();
+    cite();
     no_steps();
     return 0;
 }

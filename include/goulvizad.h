@@ -1,23 +1,27 @@
 /*
- * The house recovery machine: one step function over one lent table. README.md says what it is for,
- * examples/recovery.c shows a crash and all that follows, docs/GUIDE.md leads through the rules, and
- * crates/rules/specs has them.
+ * The house recovery machine: one step function over a lent table and a lent ledger. README.md says what
+ * it is for, examples/recovery.c shows a crash, all that follows, and two readings that go out,
+ * docs/GUIDE.md leads through the rules, and crates/rules/specs has them.
  *
- * The caller owns the table and lends it for one call at a time. All that the machine knows stands in
- * it; nothing is kept between calls.
+ * The caller owns both buffers and lends them for one call at a time. All that the machine knows stands
+ * in them; nothing is kept between calls.
  *
  * For the length of a call
  * - each pointer is to as many words, aligned for uint32_t, as the length beside it says; with length 0
  *   it may be null;
- * - the table and the value buffer must not overlap;
- * - nobody else writes the table, nor reads it during goulvizad_step. Different tables, each call with
- *   a value buffer of its own, may be used from several threads at once.
+ * - the table, the ledger and the value buffer must not overlap;
+ * - nobody else writes the table or the ledger, nor reads them during goulvizad_step. Different houses,
+ *   each with a table, a ledger and a value buffer of its own, may be used from several threads at once.
  *
- * A table that is saved or moved between calls is the same house. One that anybody else has written
- * to in between is looked at as it stands: in form it is taken for a house, else it is refused. It is in
- * form when each word is in its range, and all that n, the live counts and the messages sent leave
- * unused is 0 (crates/rules/specs/Form.antt). What 'O' and steps after it leave is in form; but form
- * alone doesn't say that steps have led there.
+ * A table and its ledger that are saved or moved between calls are the same house. They belong together
+ * and are saved together, as the same step left them. A ledger that is older than its table lacks what
+ * was published meanwhile, and no later release makes up for it. One that is younger cites a message
+ * which the table still holds: its work can still be lost.
+ *
+ * A table that anybody else has written to in between is looked at as it stands: in form it is taken for
+ * a house, else it is refused. It is in form when each word is in its range, and all that n, the live
+ * counts and the messages sent leave unused is 0 (crates/rules/specs/Form.antt). What 'O' and steps
+ * after it leave is in form; but form alone doesn't say that steps have led there.
  *
  * To build, first with Rattle's rt, then with any C compiler:
  *     rt staticlib goulvizad
@@ -35,9 +39,13 @@
 extern "C" {
 #endif
 
-/* The lengths of the two buffers, in words of 32 bits. */
+/* The lengths of the three buffers, in words of 32 bits. */
 #define GOULVIZAD_TABLE_WORDS 15152
+#define GOULVIZAD_LEDGER_WORDS 257
 #define GOULVIZAD_VALUE_WORDS 6
+
+/* The receiver that is no controller: the desk, where readings leave the house. The same for every n. */
+#define GOULVIZAD_DESK 8
 
 /*
  * The steps. A letter is given by its ASCII code ('O' and so on), its numbers as a, b, c and d in the
@@ -47,8 +55,8 @@ extern "C" {
  *   letter  a           b         c
  *   'O'     n           degree                 open a house of n controllers (1 to 8), degree 0 to n
  *   'K'     controller  degree                 set its degree
- *   'S'     sender      receiver  payload      send a payload (any word)
- *   'R'     message                            release a message
+ *   'S'     sender      receiver  payload      send a payload (any word), to a controller or the desk
+ *   'R'     message                            release a message; one to the desk is published
  *   'D'     message                            deliver a message at its receiver
  *   'L'     controller  count                  log so many of its oldest live intervals not yet stable
  *   'C'     controller                         take a checkpoint
@@ -62,6 +70,27 @@ extern "C" {
  */
 
 /*
+ * The desk and the ledger. A message to GOULVIZAD_DESK is held until nobody could revoke it, whatever
+ * the degree of its sender: its release answers GOULVIZAD_RELEASED with mask 0, or GOULVIZAD_HELD with
+ * those who could. If the work that it was sent from is lost or undone meanwhile, it is dropped. Once it
+ * is released it is published: it is never delivered, and it stands in the ledger.
+ *
+ * A published reading may be cited. In a house that was opened, and whose table and ledger only steps
+ * have written since, the interval that sent it is never lost or undone before the next opening.
+ *
+ *   word       of the ledger, i from 0
+ *   0          how many messages were published since the opening, at most 128
+ *   1 + 2 * i  the number of the message that was published i-th
+ *   2 + 2 * i  its payload
+ *
+ * All words past the last pair are 0. An 'O' that is done makes every word 0, and an 'R' that publishes
+ * appends a pair; nothing else writes the ledger, and the caller mustn't either. Every 'R', whatever the
+ * receiver of its message, looks at the count and at the words past the last pair. No step looks at the
+ * pairs themselves: one that somebody else has put there is not found out. The other eight steps don't
+ * look at the ledger at all, and take one of any length and content, null with length 0 too.
+ */
+
+/*
  * What goulvizad_step returns, and the values that it writes. Zeros follow them, up to the sixth word.
  * A mask has 2 to the power c for each controller c that it names. Kept is the highest number that is
  * kept.
@@ -69,57 +98,70 @@ extern "C" {
 enum {
     GOULVIZAD_DONE = 0,      /* no values: to O, K, L, C and T */
     GOULVIZAD_SENT = 1,      /* message: the number given to it */
-    GOULVIZAD_RELEASED = 2,  /* message, mask: let out; who could still revoke it */
-    GOULVIZAD_HELD = 3,      /* message, mask: kept back; who could revoke it, more than the degree */
+    GOULVIZAD_RELEASED = 2,  /* message, mask: let out; who could still revoke it, nobody at the desk */
+    GOULVIZAD_HELD = 3,      /* message, mask: kept back; who could revoke it, more than the degree, or
+                                for the desk anybody at all */
     GOULVIZAD_DELIVERED = 4, /* message, incarnation, number: of the new interval */
     GOULVIZAD_DROPPED = 5,   /* message: it rests on what was lost */
     GOULVIZAD_WAITS = 6,     /* message: not yet; its receiver has more to hear or to be told first */
     GOULVIZAD_CRASHED = 7,   /* controller, ended incarnation, kept, lost, replayed */
     GOULVIZAD_HEARD = 8,     /* hearer: nothing to undo */
     GOULVIZAD_ROLLED = 9,    /* hearer, kept, undone, replayed */
-    GOULVIZAD_REFUSED = 10,  /* number: one of the refusals below; no word of the table changed */
+    GOULVIZAD_REFUSED = 10,  /* number: one of the refusals below; no word of the table or of the ledger
+                                changed */
 
     /*
-     * These two are no answers, and change neither the table nor the value buffer. The length of the
-     * value buffer is looked at first, then the letter; both come before GOULVIZAD_LENGTH.
+     * These two are no answers, and change neither the table nor the ledger nor the value buffer. The
+     * length of the value buffer is looked at first, then the letter; both come before
+     * GOULVIZAD_LENGTH.
      */
     GOULVIZAD_UNKNOWN_LETTER = 100, /* the letter is none of the ten */
     GOULVIZAD_WRONG_VALUES = 101    /* the value buffer hasn't GOULVIZAD_VALUE_WORDS words */
 };
 
 /*
- * The refusals, by whom they are caused. Where several apply, the lowest number is given.
+ * The refusals, by whom they are caused. Where several apply, the one that stands first here is given.
+ * That is the lowest number, but for two: GOULVIZAD_LEDGER comes directly after GOULVIZAD_FORM at R, and
+ * directly after GOULVIZAD_LENGTH at O, which doesn't look at the form; GOULVIZAD_LEDGER_USED_UP comes
+ * last.
  */
 enum {
-    /* The host that lends the table: */
-    GOULVIZAD_LENGTH = 1, /* the length is not GOULVIZAD_TABLE_WORDS */
-    GOULVIZAD_FORM = 2,   /* the table is not in form; not looked at by O */
+    /* The host that lends the table and the ledger: */
+    GOULVIZAD_LENGTH = 1,  /* the table's length is not GOULVIZAD_TABLE_WORDS */
+    GOULVIZAD_FORM = 2,    /* the table is not in form; not looked at by O */
+    GOULVIZAD_LEDGER = 14, /* R and O: the ledger's length is not GOULVIZAD_LEDGER_WORDS; R: its count is
+                              above 128, or a word past its last pair is not 0 */
 
     /* The caller naming things: */
-    GOULVIZAD_CONTROLLER = 3,      /* a controller not below n */
+    GOULVIZAD_CONTROLLER = 3,      /* a controller not below n; a receiver may be GOULVIZAD_DESK */
     GOULVIZAD_MESSAGE = 4,         /* message number 0, or above the messages sent */
     GOULVIZAD_DEGREE = 5,          /* n not 1 to 8, or a degree above n */
     GOULVIZAD_SAME_CONTROLLER = 6, /* the two controllers of S or T are equal */
 
     /* The order of steps: */
-    GOULVIZAD_STATE = 7,         /* release of a message not held, delivery of one not released */
+    GOULVIZAD_STATE = 7,         /* release of a message not held, delivery of one not released: one to
+                                    the desk is never delivered */
     GOULVIZAD_LOG_COUNT = 8,     /* the count is 0, or above the live intervals that are not stable */
     GOULVIZAD_NO_SUCH_CRASH = 9, /* no crash ended that incarnation, or it is above 15 */
     GOULVIZAD_ALREADY_HEARD = 10, /* the hearer has heard of it; a controller has heard its own */
 
     /* Too much used: */
-    GOULVIZAD_MESSAGES_USED_UP = 11,    /* 128 messages were sent since the opening */
-    GOULVIZAD_PLACES_USED_UP = 12,      /* delivery with 64 live intervals, unless it drops or waits;
-                                           crash with 64 stable ones */
-    GOULVIZAD_INCARNATIONS_USED_UP = 13 /* crash, or a hearing that must undo, in incarnation 15 */
+    GOULVIZAD_MESSAGES_USED_UP = 11,     /* 128 messages were sent since the opening */
+    GOULVIZAD_PLACES_USED_UP = 12,       /* delivery with 64 live intervals, unless it drops or waits;
+                                            crash with 64 stable ones */
+    GOULVIZAD_INCARNATIONS_USED_UP = 13, /* crash, or a hearing that must undo, in incarnation 15 */
+    GOULVIZAD_LEDGER_USED_UP = 18        /* R that would publish, with all 128 pairs used. Steps after
+                                            an opening never come to it: messages are as few */
 };
 
 /*
- * Does one step on the table, whatever its length and content, and whatever the numbers. Returns a
- * number of the first list above. A house begins with 'O', on a table with any content.
+ * Does one step on the table and the ledger, whatever their lengths and content, and whatever the
+ * numbers. Returns a number of the first list above. A house begins with 'O', on a table and a ledger
+ * with any content.
  */
-uint32_t goulvizad_step(uint32_t *table, size_t table_words, uint32_t letter, uint32_t a, uint32_t b,
-                        uint32_t c, uint32_t d, uint32_t *values, size_t values_words);
+uint32_t goulvizad_step(uint32_t *table, size_t table_words, uint32_t *ledger, size_t ledger_words,
+                        uint32_t letter, uint32_t a, uint32_t b, uint32_t c, uint32_t d,
+                        uint32_t *values, size_t values_words);
 
 /* 1 where the table has GOULVIZAD_TABLE_WORDS words and is in form, else 0. Writes nothing. */
 uint32_t goulvizad_in_form(const uint32_t *table, size_t table_words);

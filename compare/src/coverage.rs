@@ -1,10 +1,13 @@
 //! What a comparison has come across, so that a test can ask for all of it.
 
+use crate::agreement::Lent;
+use reference::ledger::Ledger;
 use reference::lines;
 use reference::machine::{Answer, Command};
 use reference::refusal::{self, Refusal};
 use reference::table::{Table, CONTROLLERS};
 use std::collections::{BTreeMap, BTreeSet};
+use std::ops::RangeBounds;
 
 /// The answers but the refusals, in the order of the alphabet.
 const ANSWERS: [&str; 10] = [
@@ -21,7 +24,7 @@ const ANSWERS: [&str; 10] = [
 ];
 
 /// Which steps can be given each refusal, in the order of their letters.
-const REFUSED: [(Refusal, &str); 13] = [
+const REFUSED: [(Refusal, &str); 15] = [
     (refusal::LENGTH, "CDHKLORSTX"),
     (refusal::FORM, "CDHKLRSTX"),
     (refusal::CONTROLLER, "CHKLSTX"),
@@ -35,6 +38,8 @@ const REFUSED: [(Refusal, &str); 13] = [
     (refusal::MESSAGES_USED_UP, "S"),
     (refusal::PLACES_USED_UP, "DX"),
     (refusal::INCARNATIONS_USED_UP, "HX"),
+    (refusal::LEDGER, "OR"),
+    (refusal::LEDGER_USED_UP, "R"),
 ];
 
 /// How far a house went.
@@ -46,14 +51,18 @@ pub struct Extent {
     pub live: u32,
     /// The most messages sent.
     pub sent: u32,
+    /// The most messages published.
+    pub published: u32,
 }
 
 impl Extent {
-    /// As far as a house can go: incarnation 15, 64 live intervals, 128 messages.
+    /// As far as a house can go: incarnation 15, 64 live intervals, 128 messages, and all of them
+    /// published.
     pub const UTMOST: Extent = Extent {
         incarnation: 15,
         live: 64,
         sent: 128,
+        published: 128,
     };
 
     fn farther(self, other: Extent) -> Extent {
@@ -61,20 +70,22 @@ impl Extent {
             incarnation: self.incarnation.max(other.incarnation),
             live: self.live.max(other.live),
             sent: self.sent.max(other.sent),
+            published: self.published.max(other.published),
         }
     }
 
-    fn of(table: Table<&[u32]>) -> Extent {
+    fn of(table: Table<&[u32]>, ledger: Ledger<&[u32]>) -> Extent {
         let counts = (0..CONTROLLERS).map(|controller| table.controller(controller));
         let none = Extent {
             sent: table.sent(),
+            published: ledger.count(),
             ..Extent::default()
         };
         counts.fold(none, |extent, counts| {
             extent.farther(Extent {
                 incarnation: counts.incarnation,
                 live: counts.live,
-                sent: 0,
+                ..none
             })
         })
     }
@@ -89,8 +100,8 @@ pub struct Seen {
     answers: BTreeSet<String>,
     /// The refusals, each with the letter of its step.
     refusals: BTreeSet<(Refusal, char)>,
-    /// How often each case of causes came up.
-    causes: BTreeMap<String, u64>,
+    /// How often each case of causes and of the desk came up.
+    cases: BTreeMap<String, u64>,
     /// How far the houses went.
     pub extent: Extent,
 }
@@ -109,17 +120,19 @@ impl Seen {
         }
     }
 
-    /// Takes note of what became of causes, by the words of [`reference::causes`].
-    pub fn note_causes(&mut self, cases: impl IntoIterator<Item = String>) {
+    /// Takes note of what became of causes and of readings for the desk, by the words of
+    /// [`reference::causes`] and [`desk`](crate::desk).
+    pub fn note_cases(&mut self, cases: impl IntoIterator<Item = String>) {
         for case in cases {
-            *self.causes.entry(case).or_default() += 1;
+            *self.cases.entry(case).or_default() += 1;
         }
     }
 
-    /// Takes note of how far a house went, by a table in form.
-    pub fn note_extent(&mut self, words: &[u32]) {
-        if let Some(table) = Table::new(words) {
-            self.extent = self.extent.farther(Extent::of(table));
+    /// Takes note of how far a house went, by a table in form and its ledger.
+    pub fn note_extent(&mut self, lent: &Lent) {
+        let ledger = Ledger::new(&lent.ledger[..]);
+        if let (Some(table), Some(ledger)) = (Table::new(&lent.table[..]), ledger) {
+            self.extent = self.extent.farther(Extent::of(table, ledger));
         }
     }
 
@@ -128,35 +141,37 @@ impl Seen {
         self.steps += other.steps;
         self.answers.extend(other.answers);
         self.refusals.extend(other.refusals);
-        for (case, count) in other.causes {
-            *self.causes.entry(case).or_default() += count;
+        for (case, count) in other.cases {
+            *self.cases.entry(case).or_default() += count;
         }
         self.extent = self.extent.farther(other.extent);
         self
     }
 
-    /// Every answer was given, and every refusal from this one on, each to every step it can be given
-    /// to.
+    /// Every answer was given, and every refusal with one of these numbers, each to every step it can be
+    /// given to.
     ///
     /// # Panics
     /// If one is missing.
-    pub fn assert_all(&self, first: Refusal) {
+    pub fn assert_all(&self, refusals: impl RangeBounds<Refusal>) {
         assert!(self.answers.iter().eq(&ANSWERS), "{:?}", self.answers);
         for (refusal, letters) in REFUSED {
-            if refusal >= first {
+            if refusals.contains(&refusal) {
                 assert_eq!(self.refused(refusal), letters, "refused {refusal}");
             }
         }
     }
 
-    /// These cases of causes came up, each of them and no other.
+    /// These cases came up, each of them and no other.
     ///
     /// # Panics
     /// If one is missing or there is another.
-    pub fn assert_causes<S: AsRef<str>>(&self, cases: &[S]) {
-        println!("{:#?}", self.causes);
-        let seen = self.causes.keys().map(String::as_str);
-        assert!(seen.eq(cases.iter().map(S::as_ref)));
+    pub fn assert_cases<S: AsRef<str>>(&self, causes: &[S], desk: &[&str]) {
+        println!("{:#?}", self.cases);
+        let causes = causes.iter().map(S::as_ref);
+        let expected: BTreeSet<&str> = causes.chain(desk.iter().copied()).collect();
+        let seen = self.cases.keys().map(String::as_str).collect();
+        assert_eq!(expected, seen);
     }
 
     /// The letters of the steps that were refused so.

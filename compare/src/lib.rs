@@ -4,10 +4,12 @@
 //! - [`proved`]: the proved machine, through its binding for Rust, and so through the C interface.
 //! - [`house`]: the proved program, through its standard input and output.
 //! - [`agreement`]: the same step on both machines, and the first thing in which they differ.
+//! - [`desk`]: what became of the releases of readings for the desk, in words.
 //! - [`coverage`]: what a comparison has come across, so that a test can ask for all of it.
 
 pub mod agreement;
 pub mod coverage;
+pub mod desk;
 pub mod house;
 pub mod proved;
 

@@ -5,12 +5,12 @@ use goulvizad::{raw, Refusal, Step};
 use reference::machine::{Answer, Command};
 use reference::refusal;
 
-/// Does one step on a lent table of any length and content.
+/// Does one step on a lent table and a lent ledger of any length and content.
 ///
 /// # Panics
 /// If what comes back is no answer: a number that none has, or values that aren't zero after its own.
-pub fn step(table: &mut [u32], command: Command) -> Answer {
-    match goulvizad::step(table, asked(command)) {
+pub fn step(table: &mut [u32], ledger: &mut [u32], command: Command) -> Answer {
+    match goulvizad::step(table, ledger, asked(command)) {
         Ok(answer) => answered(answer),
         Err(refusal) => Answer::Refused {
             number: number(refusal),
@@ -117,6 +117,7 @@ fn number(refusal: Refusal) -> refusal::Refusal {
     match refusal {
         Refusal::Length => refusal::LENGTH,
         Refusal::Form => refusal::FORM,
+        Refusal::Ledger => refusal::LEDGER,
         Refusal::Controller => refusal::CONTROLLER,
         Refusal::Message => refusal::MESSAGE,
         Refusal::Degree => refusal::DEGREE,
@@ -128,5 +129,6 @@ fn number(refusal: Refusal) -> refusal::Refusal {
         Refusal::MessagesUsedUp => refusal::MESSAGES_USED_UP,
         Refusal::PlacesUsedUp => refusal::PLACES_USED_UP,
         Refusal::IncarnationsUsedUp => refusal::INCARNATIONS_USED_UP,
+        Refusal::LedgerUsedUp => refusal::LEDGER_USED_UP,
     }
 }

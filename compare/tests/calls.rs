@@ -1,13 +1,16 @@
 //! The C interface itself: letters that are no steps, value buffers of another length, numbers that
-//! aren't looked at, and what stands in the values.
+//! aren't looked at, what stands in the values, and that nothing else is written.
 
+use compare::agreement::Lent;
 use compare::effort;
 use goulvizad::raw::returned::{DONE, REFUSED, UNKNOWN_LETTER, WRONG_VALUES};
 use goulvizad::raw::{call, VALUE_WORDS};
-use reference::generate::{in_form_table, senseless, wrong_length, Profile, Random, Walk};
+use reference::generate::{
+    in_form_table, senseless, sound_ledger, wrong_length, Profile, Random, Walk,
+};
 use reference::machine::{step, Answer, Command};
 use reference::table::WORDS;
-use reference::{lines, refusal};
+use reference::{ledger, lines, refusal};
 use std::collections::BTreeSet;
 
 const LETTERS: &[u8] = b"OKSRDLCTXH";
@@ -68,29 +71,45 @@ impl From<Command> for Call {
     }
 }
 
+/// A call with what is lent and this value buffer; returns its number.
+fn called(lent: &mut Lent, asked: Call, values: &mut [u32]) -> u32 {
+    let Lent { table, ledger } = lent;
+    call(table, ledger, asked.letter, asked.numbers, values)
+}
+
 /// A call that must give this number and change nothing.
-fn assert_rejected(words: &[u32], asked: Call, values: usize, number: u32) {
-    let mut table = words.to_vec();
+fn assert_rejected(lent: &Lent, asked: Call, values: usize, number: u32) {
+    let mut after = lent.clone();
     let mut values = vec![UNTOUCHED; values];
-    let given = call(&mut table, asked.letter, asked.numbers, &mut values);
+    let given = called(&mut after, asked, &mut values);
     let label = || format!("{asked:?} with {} values: {given}", values.len());
     assert_eq!(given, number, "{}", label());
-    assert!(table == words, "{}: wrote to the table", label());
+    assert!(after.table == lent.table, "{}: wrote to the table", label());
+    assert!(
+        after.ledger == lent.ledger,
+        "{}: wrote to the ledger",
+        label()
+    );
     let untouched = values.iter().all(|&value| value == UNTOUCHED);
     assert!(untouched, "{}: wrote to the values", label());
 }
 
-/// A house in which much can be done, one that was never opened, and tables of another length.
-fn tables() -> [Vec<u32>; 4] {
+/// A house in which much can be done, one that was never opened, and tables and ledgers of another
+/// length.
+fn houses() -> [Lent; 6] {
     let mut walk = Walk::new(3, &Profile::CRASHES);
     walk.by_ref().for_each(drop);
     let mut random = Random::new(1);
+    let house = Lent::by(&walk);
     [
-        walk.table().to_vec(),
-        vec![0; WORDS],
-        wrong_length(&mut random),
-        Vec::new(),
+        (house.table.clone(), vec![0; ledger::WORDS - 1]),
+        (house.table.clone(), Vec::new()),
+        (house.table, house.ledger),
+        (vec![0; WORDS], vec![UNTOUCHED; ledger::WORDS]),
+        (wrong_length(&mut random), sound_ledger(&mut random)),
+        (Vec::new(), Vec::new()),
     ]
+    .map(|(table, ledger)| Lent { table, ledger })
 }
 
 /// Every code of a byte but those of the ten letters, those of the letters with higher bits set, and
@@ -111,10 +130,10 @@ fn letters_of_no_step() -> BTreeSet<u32> {
 fn other_letters_are_unknown() {
     let letters = letters_of_no_step();
     assert!(letters.len() > 1_400);
-    for words in tables() {
+    for lent in houses() {
         for &letter in &letters {
             let asked = Call::new(letter, &[1, 0, 1]);
-            assert_rejected(&words, asked, VALUE_WORDS, UNKNOWN_LETTER);
+            assert_rejected(&lent, asked, VALUE_WORDS, UNKNOWN_LETTER);
         }
     }
 }
@@ -122,37 +141,51 @@ fn other_letters_are_unknown() {
 #[test]
 fn other_value_buffers_are_rejected() {
     let mut random = Random::new(3);
-    let lengths = (0..=8).chain([10, 100, WORDS]);
-    for words in tables() {
+    let lengths = (0..=8).chain([10, 100, ledger::WORDS, WORDS]);
+    for lent in houses() {
         for values in lengths.clone().filter(|&values| values != VALUE_WORDS) {
             for _ in 0..20 {
                 let asked = senseless(&mut random).into();
-                assert_rejected(&words, asked, values, WRONG_VALUES);
+                assert_rejected(&lent, asked, values, WRONG_VALUES);
             }
             // The buffer is looked at before the letter.
             for &letter in LETTERS.iter().chain(b"Qo\0") {
                 let asked = Call::new(letter.into(), &[1, 0, 0]);
-                assert_rejected(&words, asked, values, WRONG_VALUES);
+                assert_rejected(&lent, asked, values, WRONG_VALUES);
             }
         }
     }
 }
 
-/// What is no call of a step is told before the table's length is looked at.
+/// What is no call of a step is told before the lengths of the table and of the ledger are looked at.
 #[test]
 fn calls_of_no_step_come_before_the_refusals() {
     let mut random = Random::new(6);
-    for length in [0, 1, WORDS - 1, WORDS + 1, 2 * WORDS] {
-        let words: Vec<u32> = (0..length).map(|_| random.word()).collect();
+    for (table, ledger, number) in [
+        (0, 0, refusal::LENGTH),
+        (1, 1, refusal::LENGTH),
+        (WORDS - 1, ledger::WORDS, refusal::LENGTH),
+        (WORDS + 1, ledger::WORDS - 1, refusal::LENGTH),
+        (2 * WORDS, ledger::WORDS + 1, refusal::LENGTH),
+        (ledger::WORDS, WORDS, refusal::LENGTH),
+        (WORDS, 0, refusal::LEDGER),
+        (WORDS, ledger::WORDS - 1, refusal::LEDGER),
+        (WORDS, ledger::WORDS + 1, refusal::LEDGER),
+    ] {
+        let mut noise = |length| (0..length).map(|_| random.word()).collect();
+        let (table, ledger) = (noise(table), noise(ledger));
+        let lent = Lent { table, ledger };
+        let opening = Call::new(b'O'.into(), &[9, 0, 0]);
+        let refused = (REFUSED, [number, 0, 0, 0, 0, 0]);
+        assert_eq!(told(&mut lent.clone(), opening), refused);
         for &letter in LETTERS {
             let asked = Call::new(letter.into(), &[1, 0, 0]);
-            let refused = (REFUSED, [refusal::LENGTH, 0, 0, 0, 0, 0]);
-            assert_eq!(told(&mut words.clone(), asked), refused, "{asked:?}");
-            assert_rejected(&words, asked, VALUE_WORDS - 1, WRONG_VALUES);
+            assert_eq!(told(&mut lent.clone(), asked).0, REFUSED, "{asked:?}");
+            assert_rejected(&lent, asked, VALUE_WORDS - 1, WRONG_VALUES);
         }
         let unknown = Call::new(b'Q'.into(), &[1, 0, 0]);
-        assert_rejected(&words, unknown, VALUE_WORDS, UNKNOWN_LETTER);
-        assert_rejected(&words, unknown, VALUE_WORDS + 1, WRONG_VALUES);
+        assert_rejected(&lent, unknown, VALUE_WORDS, UNKNOWN_LETTER);
+        assert_rejected(&lent, unknown, VALUE_WORDS + 1, WRONG_VALUES);
     }
 }
 
@@ -171,9 +204,9 @@ fn listed(answer: Answer) -> (u32, [u32; VALUE_WORDS]) {
 }
 
 /// One call, and the number and values that it gives.
-fn told(table: &mut [u32], asked: Call) -> (u32, [u32; VALUE_WORDS]) {
+fn told(lent: &mut Lent, asked: Call) -> (u32, [u32; VALUE_WORDS]) {
     let mut values = [UNTOUCHED; VALUE_WORDS];
-    let number = call(table, asked.letter, asked.numbers, &mut values);
+    let number = called(lent, asked, &mut values);
     (number, values)
 }
 
@@ -194,14 +227,14 @@ fn the_fourth_number_is_not_looked_at() {
     for profile in Profile::ALL {
         for seed in 0..effort(6) {
             let walk = Walk::new(seed, profile);
-            let mut table = walk.table().to_vec();
-            let mut other = table.clone();
+            let mut lent = Lent::by(&walk);
+            let mut other = lent.clone();
             for (command, _) in walk {
                 let mut asked = Call::from(command);
-                let answer = told(&mut table, asked);
+                let answer = told(&mut lent, asked);
                 asked.numbers[3] = random.word();
                 assert_eq!(told(&mut other, asked), answer, "{asked:?}");
-                assert!(table == other, "{asked:?}");
+                assert!(lent == other, "{asked:?}");
                 accepted.extend((answer.0 != REFUSED).then_some(asked.letter));
             }
         }
@@ -217,12 +250,12 @@ fn values_are_those_of_the_line() {
     for profile in Profile::ALL {
         for seed in 0..effort(12) {
             let mut walk = Walk::new(seed, profile);
-            let mut table = walk.table().to_vec();
+            let mut lent = Lent::by(&walk);
             while let Some((command, answer)) = walk.next() {
                 let asked = with_idle_numbers(&mut random, command);
-                let (number, values) = told(&mut table, asked);
+                let (number, values) = told(&mut lent, asked);
                 assert_eq!((number, values), listed(answer), "{asked:?}");
-                assert!(table == walk.table(), "{asked:?}");
+                assert!(lent == Lent::by(&walk), "{asked:?}");
                 numbers.insert(number);
             }
         }
@@ -230,35 +263,43 @@ fn values_are_those_of_the_line() {
     assert!(numbers.into_iter().eq(DONE..=REFUSED));
 }
 
-/// A table and values lent out of larger buffers: what stands beside them stays.
+/// How many words stand before and after a lent buffer.
+const MARGIN: usize = 2_000;
+
+/// These words within a larger buffer.
+fn within_margins(words: &[u32]) -> Vec<u32> {
+    let margin = [UNTOUCHED; MARGIN];
+    [&margin, words, &margin].concat()
+}
+
+/// All but the margins.
+fn inner(buffer: &mut [u32]) -> &mut [u32] {
+    let end = buffer.len() - MARGIN;
+    &mut buffer[MARGIN..end]
+}
+
+/// A table, a ledger and values lent out of larger buffers: what stands beside them stays.
 #[test]
 fn nothing_beside_the_buffers_is_written() {
-    const MARGIN: usize = 2_000;
     let mut random = Random::new(5);
     for _ in 0..effort(200) {
         let command = senseless(&mut random);
-        let mut expected = in_form_table(&mut random);
-        let margin = vec![UNTOUCHED; MARGIN];
-        let mut words = [&margin[..], &expected, &margin].concat();
-        let mut values = [UNTOUCHED; 3 * VALUE_WORDS];
+        let (mut table, mut ledger) = (in_form_table(&mut random), sound_ledger(&mut random));
+        let [mut lent_table, mut lent_ledger] =
+            [&table, &ledger].map(|words| within_margins(words));
+        let mut lent_values = within_margins(&[UNTOUCHED; VALUE_WORDS]);
         let asked = Call::from(command);
         let number = call(
-            &mut words[MARGIN..][..WORDS],
+            inner(&mut lent_table),
+            inner(&mut lent_ledger),
             asked.letter,
             asked.numbers,
-            &mut values[VALUE_WORDS..][..VALUE_WORDS],
+            inner(&mut lent_values),
         );
-        let listed = listed(step(&mut expected, command));
+        let listed = listed(step(&mut table, &mut ledger, command));
         assert_eq!(number, listed.0, "{command:?}");
-        let around = [UNTOUCHED; VALUE_WORDS];
-        assert_eq!(
-            values[..],
-            [around, listed.1, around].concat(),
-            "{command:?}"
-        );
-        assert!(
-            words == [&margin[..], &expected, &margin].concat(),
-            "{command:?}"
-        );
+        assert!(lent_values == within_margins(&listed.1), "{command:?}");
+        assert!(lent_table == within_margins(&table), "{command:?}");
+        assert!(lent_ledger == within_margins(&ledger), "{command:?}");
     }
 }

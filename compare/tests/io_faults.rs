@@ -35,7 +35,9 @@ fn example(name: &str) -> Vec<u8> {
 /// A script for many reads with all steps and lines of every kind, the last one without line feed; and
 /// its answers, of all kinds, in which both implementations agree.
 fn script() -> (Vec<u8>, Vec<u8>) {
-    let mut script = [example("listing_a.in"), example("paper.in")].concat();
+    let mut script = ["listing_a.in", "paper.in", "desk.in"]
+        .map(example)
+        .concat();
     script.extend(b"C 1\nT 1 0\n\n\n \n\0\n\xff\nS 0 1 7\r\nS 0 1\n");
     for length in [63, 64, 65, 66, 1_000] {
         script.extend(vec![b'0'; length]);
@@ -263,8 +265,8 @@ fn wherever_reads_end_the_output_is_the_same() {
     }
 }
 
-/// Without an environment, which would lie on the stack too. On less than its table the program can't
-/// run: the limit is one.
+/// Without an environment, which would lie on the stack too. On less than its table and its ledger the
+/// program can't run: the limit is one.
 #[test]
 fn a_stack_of_128_kilobytes_is_enough() {
     let (script, right) = script();

@@ -1,9 +1,10 @@
-//! Random lists of steps: after each step the answer and every word agree, the table is in form, and
-//! demand 3 holds of the proved machine's own answers.
+//! Random lists of steps: after each step the answer and every word of the table and of the ledger
+//! agree, the table is in form, the ledger is the one that the steps say, and demand 3 holds of the
+//! proved machine's own answers.
 
-use compare::agreement::{beside, Difference, Parting};
+use compare::agreement::{beside, Buffer, Difference, Lent, Parting};
 use compare::coverage::{Extent, Seen};
-use compare::{effort, in_form};
+use compare::{desk, effort, in_form};
 use reference::causes::{self, Offers};
 use reference::demand::Judge;
 use reference::generate::{Profile, Walk};
@@ -12,13 +13,14 @@ use reference::refusal;
 use std::thread;
 
 /// How many lists of each profile.
-const LISTS: [(&Profile, u64); 6] = [
+const LISTS: [(&Profile, u64); 7] = [
     (&Profile::MIXED, 1_600),
     (&Profile::CRASHES, 700),
     (&Profile::PARTIAL, 500),
     (&Profile::FULL, 60),
     (&Profile::WORN, 120),
     (&Profile::WILD, 1_500),
+    (&Profile::DESK, 60),
 ];
 
 fn compare_list(profile: &'static Profile, seed: u64, seen: &mut Seen) {
@@ -26,16 +28,23 @@ fn compare_list(profile: &'static Profile, seed: u64, seen: &mut Seen) {
     let mut opened = false;
     let mut offers = Offers::default();
     let walk = Walk::new(seed, profile);
-    let mut before = walk.table().to_vec();
-    let together = beside(walk, |command, answer, table| {
+    let mut before = Lent::by(&walk);
+    let together = beside(walk, |command, answer, lent| {
+        let label = || format!("{} list {seed}: {command:?}, {answer:?}", profile.name);
         opened |= matches!((command, answer), (Command::Open { .. }, Answer::Done));
-        assert_eq!(in_form(table), opened, "list {seed}: {command:?}");
+        assert_eq!(in_form(&lent.table), opened, "{}", label());
+        if let Answer::Refused { .. } = answer {
+            assert!(*lent == before, "{}: words changed", label());
+        }
         judge.feed(command, answer);
+        judge.see_ledger(&lent.ledger);
         seen.note(command, answer);
-        seen.note_causes(causes::cases(&before, command, answer, table));
-        seen.note_causes(offers.feed(&before, command, answer, table));
-        seen.note_extent(table);
-        before.copy_from_slice(table);
+        let (before_it, after_it) = (&before.table, &lent.table);
+        seen.note_cases(causes::cases(before_it, command, answer, after_it));
+        seen.note_cases(offers.feed(before_it, command, answer, after_it));
+        seen.note_cases(desk::case(&before, command, answer));
+        seen.note_extent(lent);
+        before.clone_from(lent);
     });
     assert_eq!(together, Ok(()), "{} list {seed}", profile.name);
     assert_eq!(judge.finish(), [], "{} list {seed}", profile.name);
@@ -58,9 +67,12 @@ fn the_machines_agree_on_every_step() {
         .map(|worker| worker.join().expect("a comparison that went well"))
         .fold(Seen::default(), Seen::join);
     assert!(seen.steps > 300_000, "only {} steps", seen.steps);
-    // No list is lent a table that is too short or, after its opening, not in form.
-    seen.assert_all(refusal::CONTROLLER);
-    seen.assert_causes(&causes::IN_LISTS);
+    // No list is lent a table that is too short or, after its opening, not in form; nor a ledger that
+    // is refused. And there are no more messages than pairs in the ledger.
+    seen.assert_all(refusal::CONTROLLER..=refusal::INCARNATIONS_USED_UP);
+    assert_eq!(seen.refused(refusal::LEDGER), "");
+    assert_eq!(seen.refused(refusal::LEDGER_USED_UP), "");
+    seen.assert_cases(&causes::IN_LISTS, &desk::IN_LISTS);
     assert_eq!(seen.extent, Extent::UTMOST);
 }
 
@@ -75,22 +87,32 @@ fn parting(fault: Fault) -> Option<Parting> {
     })
 }
 
-/// The comparison can fail: a machine with any one of the planted faults doesn't pass for the same.
+/// The comparison can fail: a machine with any one of the planted faults doesn't pass for the same. The
+/// faults that no list shows are found on lent tables and ledgers.
 #[test]
-fn every_planted_fault_is_found() {
-    for fault in Fault::PLANTED {
+fn every_planted_fault_that_lists_show_is_found() {
+    let shown = |fault: &Fault| fault.shows_in_lists();
+    for fault in Fault::PLANTED.into_iter().filter(shown) {
         let found = parting(fault).unwrap_or_else(|| panic!("{fault:?} is not found"));
         println!("{fault:?}: {found:?}");
     }
     assert_eq!(parting(Fault::None), None);
 }
 
-/// Both halves of the comparison can fail: some faults show in an answer first, some in a word.
+/// All parts of the comparison can fail: some faults show in an answer first, some in a word of the
+/// table, and some in the ledger alone.
 #[test]
 fn faults_are_found_by_answers_and_by_words() {
     let difference = |fault| parting(fault).map(|parting| parting.difference);
     let by_answer = difference(Fault::InventsReplayed);
     assert!(matches!(by_answer, Some(Difference::Answer { .. })));
-    let by_word = difference(Fault::KnownNotRaised);
-    assert!(matches!(by_word, Some(Difference::Word { .. })));
+    for (fault, place) in [
+        (Fault::KnownNotRaised, Buffer::Table),
+        (Fault::PublishedWithoutEntry, Buffer::Ledger),
+        (Fault::EntryOutOfOrder, Buffer::Ledger),
+    ] {
+        let by_word = difference(fault);
+        let found = matches!(by_word, Some(Difference::Word { buffer, .. }) if buffer == place);
+        assert!(found, "{fault:?}: {by_word:?}");
+    }
 }

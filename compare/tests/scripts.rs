@@ -26,11 +26,11 @@ fn listing_a() -> Vec<(String, String)> {
     lines(&script).into_iter().zip(lines(&answers)).collect()
 }
 
-/// The examples that README and the guide show: Listing A, the worked example of the method's paper, and
-/// a message that is offered again after a crash.
+/// The examples that README and the guide show: Listing A, the worked example of the method's paper, a
+/// message that is offered again after a crash, and readings for the desk.
 #[test]
 fn stored_examples_are_answered_as_stored() {
-    for name in ["listing_a", "paper", "offered_again"] {
+    for name in ["listing_a", "paper", "offered_again", "desk"] {
         let [script, expected] = stored(name);
         assert_eq!(played(&script), expected, "{name}");
         assert_eq!(lines::run(&script), expected, "{name}");
@@ -92,6 +92,40 @@ fn messages_run_out() {
     assert_eq!(last, ["sent 127", "sent 128", "refused 11"]);
 }
 
+/// Each message of a house is published, and none is left that would find the ledger full. The next
+/// opening clears the ledger, though nothing of it is shown: all can be published once more.
+#[test]
+fn a_house_publishes_all_its_messages() {
+    let (mut input, mut expected) = (String::new(), String::new());
+    for _ in 0..2 {
+        input += "O 3 0\n";
+        expected += "done\n";
+        for message in 1..=128 {
+            input += &format!("S {} 8 {message}\nR {message}\n", message % 3);
+            expected += &format!("sent {message}\nreleased {message} 0\n");
+        }
+        input += "S 0 8 1\nR 128\nD 128\n";
+        expected += "refused 11\nrefused 7\nrefused 7\n";
+    }
+    assert_eq!(played(input.as_bytes()), expected.as_bytes());
+}
+
+/// Receiver 8 is the desk however many controllers there are; those between are none.
+#[test]
+fn the_desk_is_receiver_8_in_every_house() {
+    for n in 1..=8 {
+        let mut input = format!("O {n} {n}\n");
+        let mut expected = "done\n".to_owned();
+        for receiver in (n..8).chain([9, 10, u32::MAX]) {
+            input += &format!("S 0 {receiver} 7\n");
+            expected += "refused 3\n";
+        }
+        input += "S 8 8 7\nS 0 8 7\nD 1\nR 1\nD 1\n";
+        expected += "refused 3\nsent 1\nrefused 7\nreleased 1 0\nrefused 7\n";
+        assert_eq!(played(input.as_bytes()), expected.as_bytes());
+    }
+}
+
 #[test]
 fn random_scripts_with_malformed_lines() {
     let mut lines = 0;
@@ -110,14 +144,25 @@ fn written(walk: Walk) -> (String, String) {
         .unzip()
 }
 
-/// The comparison through the program can fail: every planted fault shows in some answer.
+/// Whether a fault can show in what the program writes: its ledger isn't shown.
+fn shows_in_answers(fault: Fault) -> bool {
+    let in_the_ledger_alone = matches!(
+        fault,
+        Fault::PublishedWithoutEntry | Fault::LedgerWrittenOnHeld | Fault::EntryOutOfOrder
+    );
+    fault.shows_in_lists() && !in_the_ledger_alone
+}
+
+/// The comparison through the program can fail: every planted fault shows in some answer, but for those
+/// that only a ledger or a lent table shows.
 #[test]
-fn every_planted_fault_is_found() {
+fn every_planted_fault_that_answers_show_is_found() {
     let differs = |fault, seed| {
         let (input, output) = written(Walk::with_fault(seed, &Profile::CRASHES, fault));
         played(input.as_bytes()) != output.as_bytes()
     };
-    for fault in Fault::PLANTED {
+    let shown = |&fault: &Fault| shows_in_answers(fault);
+    for fault in Fault::PLANTED.into_iter().filter(shown) {
         assert!((0..60).any(|seed| differs(fault, seed)), "{fault:?}");
     }
     assert!(!(0..10).any(|seed| differs(Fault::None, seed)));

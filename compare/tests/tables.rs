@@ -1,16 +1,17 @@
-//! Random lent tables, that no list of steps leads to: both machines answer the same, leave the same
-//! words, and find the same tables in form.
+//! Random lent tables with lent ledgers, that no list of steps leads to: both machines answer the same,
+//! leave the same words in both, and find the same tables in form.
 
-use compare::agreement::on_lent;
+use compare::agreement::{on_lent, on_lent_with, Lent};
 use compare::coverage::Seen;
-use compare::{effort, in_form};
-use reference::causes;
+use compare::{desk, effort, in_form};
 use reference::generate::{
-    damaged, in_form_table, named, noise, senseless, wrong_length, Profile, Random, Walk,
+    damaged, damaged_ledger, in_form_table, named, noise, senseless, sound_ledger, wrong_length,
+    Profile, Random, Walk,
 };
-use reference::machine::Command;
-use reference::refusal;
-use reference::table::{self, WORDS};
+use reference::machine::{self, Answer, Command, Fault};
+use reference::table::state::{DROPPED, HELD, PUBLISHED};
+use reference::table::{self, Message, Table, DESK, WORDS};
+use reference::{causes, ledger, refusal};
 
 /// A step of each letter with sensible numbers, where the table has its length, and ten with any.
 fn steps(random: &mut Random, words: &[u32]) -> Vec<Command> {
@@ -19,15 +20,28 @@ fn steps(random: &mut Random, words: &[u32]) -> Vec<Command> {
     steps
 }
 
-/// Does each of many steps on the table as it was lent.
-fn compare_table(random: &mut Random, words: &[u32], seen: &mut Seen) {
-    assert_eq!(in_form(words), table::in_form(words));
-    for command in steps(random, words) {
-        let agreed = on_lent(words, command);
+/// Mostly a sound one: a release looks no further than a damaged one.
+fn any_ledger(random: &mut Random) -> Vec<u32> {
+    if random.chance(20) {
+        damaged_ledger(random)
+    } else {
+        sound_ledger(random)
+    }
+}
+
+/// Does each of many steps on the table and the ledger as they were lent.
+fn compare_table(random: &mut Random, lent: &Lent, seen: &mut Seen) {
+    assert_eq!(in_form(&lent.table), table::in_form(&lent.table));
+    for command in steps(random, &lent.table) {
+        let agreed = on_lent(lent, command);
         let (answer, after) =
             agreed.unwrap_or_else(|difference| panic!("{command:?}: {difference:?}"));
+        if let Answer::Refused { .. } = answer {
+            assert!(after == *lent, "{command:?}: words changed");
+        }
         seen.note(command, answer);
-        seen.note_causes(causes::cases(words, command, answer, &after));
+        seen.note_cases(causes::cases(&lent.table, command, answer, &after.table));
+        seen.note_cases(desk::case(lent, command, answer));
     }
 }
 
@@ -35,8 +49,11 @@ fn compare_tables(seed: u64, tables: u64, lent: impl Fn(&mut Random) -> Vec<u32>
     let mut random = Random::new(seed);
     let mut seen = Seen::default();
     for _ in 0..effort(tables) {
-        let words = lent(&mut random);
-        compare_table(&mut random, &words, &mut seen);
+        let lent = Lent {
+            table: lent(&mut random),
+            ledger: any_ledger(&mut random),
+        };
+        compare_table(&mut random, &lent, &mut seen);
     }
     seen
 }
@@ -45,8 +62,8 @@ fn compare_tables(seed: u64, tables: u64, lent: impl Fn(&mut Random) -> Vec<u32>
 fn tables_in_form() {
     let seen = compare_tables(1, 4_000, in_form_table);
     assert!(seen.steps >= 80_000);
-    seen.assert_all(refusal::CONTROLLER);
-    seen.assert_causes(&causes::on_lent_tables());
+    seen.assert_all(refusal::CONTROLLER..);
+    seen.assert_cases(&causes::on_lent_tables(), &desk::ON_LENT);
 }
 
 #[test]
@@ -54,7 +71,7 @@ fn damaged_tables() {
     let seen = compare_tables(2, 3_000, |random| damaged(random).0);
     assert!(seen.steps >= 60_000);
     // Many of them are in form still.
-    seen.assert_all(refusal::FORM);
+    seen.assert_all(refusal::FORM..);
 }
 
 #[test]
@@ -67,6 +84,8 @@ fn tables_of_another_length_and_noise() {
     assert_eq!(seen.refused(refusal::LENGTH), "CDHKLORSTX");
     // An opening doesn't look at the form.
     assert_eq!(seen.refused(refusal::FORM), "CDHKLRSTX");
+    // A release has been refused by then.
+    assert_eq!(seen.refused(refusal::LEDGER), "O");
 }
 
 /// Lengths near the right one, near none, and at powers of two, of a table in form before it was cut.
@@ -76,18 +95,47 @@ fn every_wrong_length_is_refused() {
     let mut whole = in_form_table(&mut random);
     whole.resize(4 * WORDS, 0);
     let lengths = [
-        0, 1, 2, 5, 15, 16, 48, 255, 256, 4_096, 12_336, 15_150, 15_151, 15_153, 15_154, 16_384,
-        30_304, 60_608,
+        0, 1, 2, 5, 15, 16, 48, 255, 256, 257, 4_096, 12_336, 15_150, 15_151, 15_153, 15_154,
+        16_384, 30_304, 60_608,
     ];
     let mut seen = Seen::default();
     for length in lengths {
+        let lent = Lent {
+            table: whole[..length].to_vec(),
+            ledger: any_ledger(&mut random),
+        };
         for _ in 0..10 {
-            compare_table(&mut random, &whole[..length], &mut seen);
+            compare_table(&mut random, &lent, &mut seen);
         }
-        assert!(!in_form(&whole[..length]), "{length} words");
+        assert!(!in_form(&lent.table), "{length} words");
     }
     assert_eq!(seen.refused(refusal::LENGTH), "CDHKLORSTX");
     assert!(in_form(&whole[..WORDS]));
+}
+
+/// The comparison can fail here too: each planted fault that no list shows is found on some table in
+/// form, or damaged, with some ledger.
+#[test]
+fn every_planted_fault_that_no_list_shows_is_found() {
+    let mut random = Random::new(6);
+    let mut left: Vec<Fault> = Fault::PLANTED.to_vec();
+    left.retain(|fault| !fault.shows_in_lists());
+    assert!(!left.is_empty());
+    for round in 0..1_000 {
+        let table = match round % 2 {
+            0 => in_form_table(&mut random),
+            _ => damaged(&mut random).0,
+        };
+        let ledger = any_ledger(&mut random);
+        let lent = Lent { table, ledger };
+        for command in steps(&mut random, &lent.table) {
+            left.retain(|&fault| on_lent_with(fault, &lent, command).is_ok());
+        }
+        if left.is_empty() {
+            return println!("all found by table {round}");
+        }
+    }
+    panic!("not found: {left:?}");
 }
 
 /// A table as a long list of steps leaves it.
@@ -100,7 +148,7 @@ fn walked(seed: u64) -> Vec<u32> {
 /// Changes each word of the table, one at a time, to its neighbours and to edges of ranges, and
 /// returns in how many cases the table is out of form by that.
 fn change_each_word(random: &mut Random, mut words: Vec<u32>) -> usize {
-    const EDGES: [u32; 10] = [0, 1, 5, 6, 8, 15, 16, 64, 65, 129];
+    const EDGES: [u32; 12] = [0, 1, 5, 6, 7, 8, 9, 15, 16, 64, 65, 129];
     let mut spoilt = 0;
     for position in 0..WORDS {
         let word = words[position];
@@ -129,6 +177,40 @@ fn every_word_has_the_same_range() {
             assert!(in_form(&words));
             let spoilt = change_each_word(&mut random, words);
             assert!((WORDS..4 * WORDS).contains(&spoilt), "{spoilt} spoilt");
+        }
+    }
+}
+
+/// A house of n controllers with one message, for this receiver and in this state.
+fn with_message(n: u32, receiver: u32, state: u32) -> Vec<u32> {
+    let (mut words, mut ledger) = (vec![0; WORDS], [0; ledger::WORDS]);
+    machine::step(&mut words, &mut ledger, Command::Open { n, degree: 0 });
+    let message = Message {
+        state,
+        receiver,
+        number: 1,
+        ..Message::default()
+    };
+    let mut table = Table::new(&mut words[..]).expect("a table of its length");
+    table.set_sent(1);
+    table.set_message(1, &message);
+    words
+}
+
+/// A message for the desk is held, dropped or published, and no other is published. A receiver past the
+/// last controller is none but the desk.
+#[test]
+fn receivers_and_states_fit_together() {
+    let pairs = || (0..=10).flat_map(|receiver| (0..=8).map(move |state| (receiver, state)));
+    for n in 1..=8 {
+        for (receiver, state) in pairs() {
+            let expected = match receiver {
+                DESK => [HELD, DROPPED, PUBLISHED].contains(&state),
+                _ => receiver < n && (HELD..=DROPPED).contains(&state),
+            };
+            let words = with_message(n, receiver, state);
+            let formed = [in_form(&words), table::in_form(&words)];
+            assert_eq!(formed, [expected; 2], "{n}: {receiver}, {state}");
         }
     }
 }

@@ -5,21 +5,35 @@
 
 use crate::machine::{Answer, Command};
 use crate::refusal;
-use crate::table::{state, Table};
+use crate::table::{state, Message, Table, DESK};
 use crate::vector::is_condemned;
 use std::collections::BTreeMap;
 
 /// The states by name.
-const STATES: [&str; 6] = ["unused", "held", "released", "delivered", "lost", "dropped"];
+const STATES: [&str; 7] = [
+    "unused",
+    "held",
+    "released",
+    "delivered",
+    "lost",
+    "dropped",
+    "published",
+];
 
 /// What lists of steps come across. A cause is delivered while its interval is live, and no end that
-/// was heard by then condemns it: a crash drops what rests on the work just lost, and that alone.
-pub const IN_LISTS: [&str; 16] = [
+/// was heard by then condemns it: a crash drops what rests on the work just lost, and that alone. No
+/// message for the desk is a cause.
+pub const IN_LISTS: [&str; 21] = [
     "D of a delivered message refused",
+    "D of a dropped message for the desk refused",
     "D of a dropped message refused",
+    "D of a held message for the desk refused",
     "D of a held message refused",
+    "D of a published message for the desk refused",
     "R of a delivered message refused",
+    "R of a dropped message for the desk refused",
     "R of a dropped message refused",
+    "R of a published message for the desk refused",
     "R of a released message refused",
     "crash: delivered becomes dropped",
     "crash: delivered becomes released",
@@ -34,20 +48,32 @@ pub const IN_LISTS: [&str; 16] = [
 ];
 
 /// What single steps on lent tables come across: causes of any state, lost ones too, and some that an
-/// end from before the step condemns.
+/// end from before the step condemns. What is for the desk stays as it was, but for what is held and
+/// was sent from there.
 pub fn on_lent_tables() -> Vec<String> {
     let mut cases = Vec::new();
-    for name in &STATES[1..] {
-        for step in ["crash", "rollback"] {
+    for step in ["crash", "rollback"] {
+        for name in ["held", "released", "delivered", "lost", "dropped"] {
             for end in ["dropped", "dropped by an older end", "released"] {
                 cases.push(format!("{step}: {name} becomes {end}"));
             }
         }
-        for (letter, taken) in [('D', "released"), ('R', "held")] {
-            if *name != taken {
-                cases.push(format!("{letter} of a {name} message refused"));
-            }
+        for name in ["held", "dropped", "published"] {
+            cases.push(format!("{step}: {name} for the desk stays"));
         }
+        cases.push(format!("{step}: held for the desk becomes dropped"));
+    }
+    for name in ["held", "delivered", "lost", "dropped"] {
+        cases.push(format!("D of a {name} message refused"));
+    }
+    for name in ["released", "delivered", "lost", "dropped"] {
+        cases.push(format!("R of a {name} message refused"));
+    }
+    for name in ["held", "dropped", "published"] {
+        cases.push(format!("D of a {name} message for the desk refused"));
+    }
+    for name in ["dropped", "published"] {
+        cases.push(format!("R of a {name} message for the desk refused"));
     }
     cases.sort();
     cases
@@ -59,10 +85,10 @@ pub fn cases(before: &[u32], command: Command, answer: Answer, after: &[u32]) ->
         == Answer::Refused {
             number: refusal::STATE,
         };
-    let state_of = |message| Table::new(before).map(|table| table.message(message).state);
+    let record = |message| Table::new(before).map(|table| table.message(message));
     match command {
-        Command::Release { message } if refused => refused_case('R', state_of(message)),
-        Command::Deliver { message } if refused => refused_case('D', state_of(message)),
+        Command::Release { message } if refused => refused_case('R', record(message)),
+        Command::Deliver { message } if refused => refused_case('D', record(message)),
         _ => {
             let settled = settled(before, answer, after).into_iter();
             settled.map(|cause| cause.case()).collect()
@@ -70,10 +96,21 @@ pub fn cases(before: &[u32], command: Command, answer: Answer, after: &[u32]) ->
     }
 }
 
-fn refused_case(letter: char, state: Option<u32>) -> Vec<String> {
-    let name = state.and_then(|state| STATES.get(state as usize));
-    let case = name.map(|name| format!("{letter} of a {name} message refused"));
+fn refused_case(letter: char, record: Option<Message>) -> Vec<String> {
+    let case = record.map(|record| {
+        let name = name_of(record.state);
+        let addressed = if record.receiver == DESK {
+            " for the desk"
+        } else {
+            ""
+        };
+        format!("{letter} of a {name} message{addressed} refused")
+    });
     case.into_iter().collect()
+}
+
+fn name_of(state: u32) -> &'static str {
+    STATES.get(state as usize).copied().unwrap_or("unknown")
 }
 
 /// The cause of an interval that a step took off its chain.
@@ -84,17 +121,22 @@ struct Settled {
     after: u32,
     /// Whether the ends that its controller had before the step condemn it.
     older: bool,
+    for_desk: bool,
 }
 
 impl Settled {
     fn case(&self) -> String {
-        let [before, after] = [self.before, self.after].map(|state| STATES[state as usize]);
-        let by = if self.older && self.after == state::DROPPED {
-            " by an older end"
-        } else {
-            ""
-        };
-        format!("{}: {before} becomes {after}{by}", self.step)
+        let step = self.step;
+        let [before, after] = [self.before, self.after].map(name_of);
+        let by_older = self.older && self.after == state::DROPPED;
+        match (self.for_desk, by_older) {
+            (true, _) if self.after == self.before => {
+                format!("{step}: {before} for the desk stays")
+            }
+            (true, _) => format!("{step}: {before} for the desk becomes {after}"),
+            (false, true) => format!("{step}: {before} becomes {after} by an older end"),
+            (false, false) => format!("{step}: {before} becomes {after}"),
+        }
     }
 }
 
@@ -123,6 +165,7 @@ fn settled(before: &[u32], answer: Answer, after: &[u32]) -> Vec<Settled> {
             before: record.state,
             after: after.message(message).state,
             older: is_condemned(&record.vector, &ends),
+            for_desk: record.receiver == DESK,
         }
     });
     causes.collect()

@@ -5,9 +5,14 @@
 //! one lost in a crash its controller has heard. And each message that a release in the list let out
 //! under a degree K was let out with at most K controllers named; these own every interval that its
 //! sending interval rests on, that wasn't stable at that release, and that is lost anywhere in the
-//! list, before it or after."
+//! list, before it or after." And "the sending interval of a published message is never lost or undone
+//! in any later steps before an opening".
+//!
+//! The ledger is judged with it, where its words are shown: in a house just opened it has the messages
+//! that the list's releases let out to the desk, in their order, with the payloads of their sends.
 
 use crate::history::{History, IntervalId, Unreadable};
+use crate::ledger;
 use crate::machine::{Answer, Command};
 
 /// Where demand 3 doesn't hold. Positions count the steps of the list from 0.
@@ -49,6 +54,18 @@ pub enum Breach {
         position: usize,
         /// The controller that should have been named.
         owner: usize,
+    },
+    /// A step lost or undid the sending interval of a message that had been published.
+    PublishedRevoked {
+        /// The crash or the hearing.
+        position: usize,
+        /// The message that can't be recalled.
+        message: u32,
+    },
+    /// The ledger isn't the one that the steps say.
+    LedgerDiffers {
+        /// The first position after those steps.
+        position: usize,
     },
     /// The history has no sentence for this answer. No claim of demand 3 but the ground of all.
     Unreadable {
@@ -93,6 +110,21 @@ impl Judge {
         self.history.as_ref()
     }
 
+    /// The 257 words that the ledger has by the steps since the latest opening. Nothing is claimed
+    /// before the first one; it is empty then.
+    pub fn ledger(&self) -> Vec<u32> {
+        let history = self.history.as_ref();
+        history.map_or_else(|| ledger::words_of(&[]), History::ledger)
+    }
+
+    /// Looks at the ledger that the steps so far have left.
+    pub fn see_ledger(&mut self, words: &[u32]) {
+        if self.history.is_some() && self.ledger() != words {
+            let position = self.position;
+            self.breaches.push(Breach::LedgerDiffers { position });
+        }
+    }
+
     /// Takes the next step with its answer.
     pub fn feed(&mut self, command: Command, answer: Answer) {
         let read = match (command, answer) {
@@ -132,6 +164,12 @@ impl Judge {
                 let live = live_of(history, hearer)?;
                 history.feed(command, answer)?;
                 self.judge_hearing(hearer as usize, &live);
+                self.judge_published(hearer as usize, &live);
+            }
+            (Command::Crash { controller }, Answer::Crashed { .. }) => {
+                let live = live_of(history, controller)?;
+                history.feed(command, answer)?;
+                self.judge_published(controller as usize, &live);
             }
             (Command::Release { .. }, Answer::Released { message, mask }) => {
                 history.feed(command, answer)?;
@@ -164,6 +202,21 @@ impl Judge {
                 position,
                 intervals,
             });
+        }
+    }
+
+    /// "The sending interval of a published message is never lost or undone", by a step that took some of
+    /// these intervals off their chain.
+    fn judge_published(&mut self, controller: usize, live_before: &[IntervalId]) {
+        let Some(history) = &self.history else { return };
+        let position = self.position;
+        let live_after = &history.controllers()[controller].chain;
+        for &message in history.published() {
+            let sending = history.messages()[&message].sending_interval;
+            if live_before.contains(&sending) && !live_after.contains(&sending) {
+                self.breaches
+                    .push(Breach::PublishedRevoked { position, message });
+            }
         }
     }
 

@@ -1,4 +1,4 @@
-//! What ties a table to the history of its house after each step of the sound machine.
+//! What ties a table and a ledger to the history of their house after each step of the sound machine.
 //!
 //! Only tests use it. The history and demand 3 never look at a table; this is the one place where
 //! the two meet.
@@ -8,14 +8,16 @@ use crate::table::{in_form, state, Table, CONTROLLERS, INCARNATIONS};
 use crate::vector::{Pair, Row, Vector};
 use std::array;
 
-/// Whether a table is in form and agrees with its history; otherwise the fact that doesn't hold.
-pub fn check(words: &[u32], history: &History) -> Result<(), &'static str> {
+/// Whether a table is in form and agrees with its history, and a ledger with both; otherwise the fact
+/// that doesn't hold.
+pub fn check(words: &[u32], ledger: &[u32], history: &History) -> Result<(), &'static str> {
     if !in_form(words) {
         return Err("the table is in form");
     }
     let table = Table::new(words).ok_or("the table has its length")?;
     let facts = Facts {
         table,
+        ledger,
         history,
         known: array::from_fn(|holder| table.known(holder)),
         ends: array::from_fn(|holder| table.ends(holder)),
@@ -30,6 +32,7 @@ pub fn check(words: &[u32], history: &History) -> Result<(), &'static str> {
 /// A table in form beside the history of its house, with the same number of controllers.
 struct Facts<'a> {
     table: Table<&'a [u32]>,
+    ledger: &'a [u32],
     history: &'a History,
     known: [Row; CONTROLLERS],
     ends: [Row; CONTROLLERS],
@@ -39,7 +42,7 @@ struct Facts<'a> {
 type Fact<'a> = (&'static str, fn(&Facts<'a>) -> bool);
 
 impl<'a> Facts<'a> {
-    const ALL: [Fact<'a>; 12] = [
+    const ALL: [Fact<'a>; 15] = [
         ("the chains agree", Self::chains_agree),
         ("the messages agree", Self::messages_agree),
         (
@@ -64,6 +67,15 @@ impl<'a> Facts<'a> {
         ("live vectors fit", Self::chain_vectors_fit),
         ("message vectors fit", Self::message_vectors_fit),
         ("no live interval is an orphan", Self::no_orphans),
+        (
+            "the published are those let out to the desk",
+            Self::published_are_let_out,
+        ),
+        (
+            "what is published rests on stable work and is live",
+            Self::published_is_stable,
+        ),
+        ("the ledger is that of the steps", Self::ledger_agrees),
     ];
 }
 
@@ -97,7 +109,8 @@ impl Facts<'_> {
             && self.history.messages().iter().all(|(&message, sent)| {
                 let record = self.table.message(message);
                 let sending = self.interval(sent.sending_interval);
-                record.receiver as usize == sent.receiver
+                record.receiver == sent.receiver
+                    && record.payload == sent.payload
                     && record.sender as usize == sending.owner
                     && Pair::new(record.incarnation, record.number) == name_of(sending)
             })
@@ -245,6 +258,32 @@ impl Facts<'_> {
     fn no_orphans(&self) -> bool {
         self.controllers()
             .all(|(c, controller)| self.history.orphans(c, &controller.chain).is_empty())
+    }
+
+    /// A message is published exactly when a release let it out to the desk, none is so twice, and its
+    /// vector is empty.
+    fn published_are_let_out(&self) -> bool {
+        let mut let_out = self.history.published().to_vec();
+        let_out.sort_unstable();
+        let published = (1..=self.table.sent()).filter(|&message| {
+            let record = self.table.message(message);
+            record.state == state::PUBLISHED && record.vector == Vector::default()
+        });
+        published.eq(let_out)
+    }
+
+    /// Nothing that a published message's sending interval rests on can be lost any more, and so nobody
+    /// has ever a cause to undo it.
+    fn published_is_stable(&self) -> bool {
+        self.history.published().iter().all(|message| {
+            let sending = self.history.messages()[message].sending_interval;
+            let mut rests_on = self.interval(sending).rests_on.iter();
+            self.is_live(sending) && rests_on.all(|id| self.interval(id).stable)
+        })
+    }
+
+    fn ledger_agrees(&self) -> bool {
+        self.ledger == self.history.ledger()
     }
 }
 

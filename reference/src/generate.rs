@@ -1,6 +1,7 @@
-//! Random lists of steps, lent tables and scripts, all from a seed.
+//! Random lists of steps, lent tables and ledgers, and scripts, all from a seed.
 
 mod choose;
+mod ledgers;
 mod lists;
 mod named;
 mod profile;
@@ -8,6 +9,7 @@ mod random;
 mod scripts;
 mod tables;
 
+pub use ledgers::{damaged_ledger, sound_ledger};
 pub use lists::{senseless, Walk};
 pub use named::named;
 pub use profile::Profile;

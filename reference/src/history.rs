@@ -7,8 +7,9 @@ mod set;
 
 pub use set::{IntervalId, IntervalSet};
 
+use crate::ledger::{self, Entry};
 use crate::machine::{Answer, Command};
-use crate::table::CONTROLLERS;
+use crate::table::{CONTROLLERS, DESK};
 use std::collections::{BTreeMap, BTreeSet};
 
 /// A crash, by the incarnation that it ended; none is ended twice.
@@ -54,10 +55,12 @@ pub struct Controller {
 /// What the history keeps of a message.
 #[derive(Clone, Copy, Debug, PartialEq, Eq)]
 pub struct Message {
-    /// The controller that it is for.
-    pub receiver: usize,
+    /// The controller that it is for, or the desk.
+    pub receiver: u32,
     /// The interval that it was sent from.
     pub sending_interval: IntervalId,
+    /// What it carries, for the ledger.
+    pub payload: u32,
 }
 
 /// An answer that the history has no sentence for: of another kind than the step gives, or about
@@ -71,6 +74,7 @@ pub struct History {
     controllers: Vec<Controller>,
     messages: BTreeMap<u32, Message>,
     intervals: Vec<Interval>,
+    published: Vec<u32>,
 }
 
 /// Reading.
@@ -88,6 +92,21 @@ impl History {
     /// The messages sent, by number.
     pub fn messages(&self) -> &BTreeMap<u32, Message> {
         &self.messages
+    }
+
+    /// The messages let out to the desk, in the order of their releases.
+    pub fn published(&self) -> &[u32] {
+        &self.published
+    }
+
+    /// The words of the ledger by these releases: "pairs of message number and payload, in the order of
+    /// publishing".
+    pub fn ledger(&self) -> Vec<u32> {
+        let entries = self.published.iter().map(|&message| Entry {
+            message,
+            payload: self.messages[&message].payload,
+        });
+        ledger::words_of(&entries.collect::<Vec<_>>())
     }
 
     /// Those of the given intervals that rest on one lost in a crash that the controller has heard:
@@ -120,6 +139,7 @@ impl History {
             controllers: Vec::new(),
             messages: BTreeMap::new(),
             intervals: Vec::new(),
+            published: Vec::new(),
         };
         for owner in 0..n {
             history.controllers.push(Controller {
@@ -145,13 +165,13 @@ impl History {
             (Command::SetDegree { controller, degree }, _) => self.set_degree(controller, degree),
             (
                 Command::Send {
-                    sender, receiver, ..
+                    sender,
+                    receiver,
+                    payload,
                 },
                 Answer::Sent { message },
-            ) => self.send(sender, receiver, message),
-            (Command::Release { message }, Answer::Released { .. }) => {
-                self.message(message).map(|_| ())
-            }
+            ) => self.send(sender, receiver, payload, message),
+            (Command::Release { message }, Answer::Released { .. }) => self.release(message),
             (Command::Deliver { message }, Answer::Delivered { .. }) => self.deliver(message),
             (Command::Log { controller, count }, _) => self.log(controller, count as usize),
             // "C: all of them do."
@@ -191,25 +211,41 @@ impl History {
     }
 
     /// "S: message m for r was sent from the newest live interval of s."
-    fn send(&mut self, sender: u32, receiver: u32, message: u32) -> Result<(), Unreadable> {
+    fn send(
+        &mut self,
+        sender: u32,
+        receiver: u32,
+        payload: u32,
+        message: u32,
+    ) -> Result<(), Unreadable> {
+        if receiver != DESK {
+            self.controller(receiver)?;
+        }
         let sent = Message {
-            receiver: self.controller(receiver)?,
+            receiver,
             sending_interval: self.newest(self.controller(sender)?)?,
+            payload,
         };
         self.messages.insert(message, sent);
         Ok(())
     }
 
-    /// "`delivered`: the receiver's next interval, not stable, joins its chain."
+    /// "`released`: m is let out." One for the desk is published so.
+    fn release(&mut self, message: u32) -> Result<(), Unreadable> {
+        if self.message(message)?.receiver == DESK {
+            self.published.push(message);
+        }
+        Ok(())
+    }
+
+    /// "`delivered`: the receiver's next interval, not stable, joins its chain." The desk has none.
     fn deliver(&mut self, message: u32) -> Result<(), Unreadable> {
-        let Message {
-            receiver,
-            sending_interval,
-        } = self.message(message)?;
+        let sent = self.message(message)?;
+        let receiver = self.controller(sent.receiver)?;
         let before = &self.intervals[self.newest(receiver)?];
         let number = before.number + 1;
         let mut rests_on = before.rests_on.clone();
-        rests_on.extend_from(&self.intervals[sending_interval].rests_on);
+        rests_on.extend_from(&self.intervals[sent.sending_interval].rests_on);
         self.join(receiver, number, false, rests_on);
         Ok(())
     }

@@ -4,6 +4,7 @@
 //! From the bottom up:
 //! - [`vector`]: dependency vectors; known stable, condemned, merged.
 //! - [`table`]: the words of the lent table, and when a table is in form.
+//! - [`ledger`]: the words of the lent ledger, and when it is sound.
 //! - [`refusal`]: the refusals by name.
 //! - [`machine`]: the step function, and planted faults.
 //! - [`lines`]: the text lines of the program `house`.
@@ -20,6 +21,7 @@ pub mod demand;
 pub mod facts;
 pub mod generate;
 pub mod history;
+pub mod ledger;
 pub mod lines;
 pub mod machine;
 pub mod refusal;

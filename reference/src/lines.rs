@@ -1,7 +1,7 @@
 //! The lines of the program `house`: text in, one line out for each line in.
 
 use crate::machine::{step, Answer, Command};
-use crate::table::WORDS;
+use crate::{ledger, table};
 
 /// "At most 64 bytes before the line feed."
 const LONGEST_LINE: usize = 64;
@@ -113,7 +113,7 @@ pub fn render(answer: &Answer) -> String {
     }
 }
 
-/// Plays a whole script from a table of zero words.
+/// Plays a whole script from a table and a ledger of zero words.
 pub fn run(input: &[u8]) -> Vec<u8> {
     let mut player = Player::new();
     let mut output = Vec::new();
@@ -125,15 +125,17 @@ pub fn run(input: &[u8]) -> Vec<u8> {
 /// A house that is played by text coming in parts of any length, in constant memory.
 pub struct Player {
     table: Vec<u32>,
+    ledger: Vec<u32>,
     /// The line so far: at most one byte more than a good line has, enough to know it is too long.
     line: Vec<u8>,
 }
 
 impl Player {
-    /// "`house` starts with a table of 15,152 zero words."
+    /// "`house` starts with a table of 15,152 zero words", and with a ledger of 257 beside it.
     pub fn new() -> Self {
         Player {
-            table: vec![0; WORDS],
+            table: vec![0; table::WORDS],
+            ledger: vec![0; ledger::WORDS],
             line: Vec::with_capacity(LONGEST_LINE + 1),
         }
     }
@@ -164,7 +166,7 @@ impl Player {
 
     fn answer(&mut self, output: &mut Vec<u8>) {
         let answer = match parse(&self.line) {
-            Some(command) => render(&step(&mut self.table, command)),
+            Some(command) => render(&step(&mut self.table, &mut self.ledger, command)),
             None => BAD.to_owned(),
         };
         self.line.clear();

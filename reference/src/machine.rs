@@ -1,4 +1,4 @@
-//! The recovery machine: one step function over one lent table.
+//! The recovery machine: one step function over one lent table and one lent ledger.
 
 mod fault;
 mod rules;
@@ -28,7 +28,7 @@ pub enum Command {
     Send {
         /// From whom.
         sender: u32,
-        /// To whom.
+        /// To whom; 8 is the desk.
         receiver: u32,
         /// What.
         payload: u32,
@@ -157,14 +157,16 @@ pub enum Answer {
     },
 }
 
-/// Does one step on a lent table of any length and content, or refuses it and changes no word.
-pub fn step(table: &mut [u32], command: Command) -> Answer {
-    step_with(Fault::None, table, command)
+/// Does one step on a lent table and a lent ledger of any length and content, or refuses it and
+/// changes no word of either.
+pub fn step(table: &mut [u32], ledger: &mut [u32], command: Command) -> Answer {
+    step_with(Fault::None, table, ledger, command)
 }
 
 /// The step of a machine with a planted fault; [`Fault::None`] is the sound one.
-pub fn step_with(fault: Fault, table: &mut [u32], command: Command) -> Answer {
-    fault::around(fault, table, command, |table| {
-        rules::perform(fault, table, command).unwrap_or_else(|number| Answer::Refused { number })
+pub fn step_with(fault: Fault, table: &mut [u32], ledger: &mut [u32], command: Command) -> Answer {
+    fault::around(fault, table, ledger, command, |table, ledger| {
+        rules::perform(fault, table, ledger, command)
+            .unwrap_or_else(|number| Answer::Refused { number })
     })
 }

@@ -1,14 +1,18 @@
-//! The refusals by name, "by whom it is caused". "Where several apply, the lowest number is given."
+//! The refusals by name, "by whom it is caused". "Where several apply, the lowest number is given",
+//! but for those whose place a request names.
 
 /// A refusal, by its number.
 pub type Refusal = u32;
 
-// The host that lends the table:
+// The host that lends the table and the ledger:
 
 /// "Length is not 15,152."
 pub const LENGTH: Refusal = 1;
 /// "Table not in form (not looked at by open)."
 pub const FORM: Refusal = 2;
+/// "When the ledger's length is not 257, its count is above 128, or a pair past the count is not 0; it
+/// stands directly after 2, at release and, for the length only, directly after 1 at opening."
+pub const LEDGER: Refusal = 14;
 
 // The caller naming things:
 
@@ -40,3 +44,5 @@ pub const MESSAGES_USED_UP: Refusal = 11;
 pub const PLACES_USED_UP: Refusal = 12;
 /// "Crash, or a hearing that must undo, in incarnation 15."
 pub const INCARNATIONS_USED_UP: Refusal = 13;
+/// "When publishing would carry the count past 128; it stands last at release."
+pub const LEDGER_USED_UP: Refusal = 18;

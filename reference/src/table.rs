@@ -22,6 +22,9 @@ pub const PLACES: usize = 64;
 /// The messages that may be sent since an opening.
 pub const MESSAGES: usize = 128;
 
+/// "Receiver 8 is the desk": the outside of the house, in a house of any size.
+pub const DESK: u32 = 8;
+
 /// The highest incarnation.
 pub const LAST_INCARNATION: u32 = INCARNATIONS as u32 - 1;
 /// The highest number of an interval, and the most live intervals.
@@ -29,7 +32,7 @@ pub const LAST_NUMBER: u32 = PLACES as u32;
 /// The highest message number.
 pub const LAST_MESSAGE: u32 = MESSAGES as u32;
 
-/// "States: 0 unused, 1 held, 2 released, 3 delivered, 4 lost, 5 dropped."
+/// "States: 0 unused, 1 held, 2 released, 3 delivered, 4 lost, 5 dropped"; and "6, published".
 pub mod state {
     /// Sent, and waiting at its sender for release.
     pub const HELD: u32 = 1;
@@ -43,6 +46,8 @@ pub mod state {
     pub const LOST: u32 = 4;
     /// Condemned, or sent from work that was taken back.
     pub const DROPPED: u32 = 5;
+    /// Let out to the desk, where it can't be recalled.
+    pub const PUBLISHED: u32 = 6;
 }
 
 const N_AT: usize = 0;
@@ -146,7 +151,7 @@ pub struct Message {
     pub state: u32,
     /// The controller that sent it.
     pub sender: u32,
-    /// The controller that it is for.
+    /// The controller that it is for, or [`DESK`].
     pub receiver: u32,
     /// The incarnation of the sending interval.
     pub incarnation: u32,

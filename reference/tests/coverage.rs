@@ -1,23 +1,25 @@
-//! The generators reach every answer, every refusal, the limits of a house, and all that becomes of
-//! the causes of lost and undone intervals.
+//! The generators reach every answer, every refusal, the limits of a house, all that becomes of the
+//! causes of lost and undone intervals, and all that becomes of messages for the desk.
 
 use reference::causes::{self, Offers};
 use reference::generate::{
-    damaged, in_form_table, named, senseless, wrong_length, Profile, Random, Walk,
+    damaged, damaged_ledger, in_form_table, named, senseless, sound_ledger, wrong_length, Profile,
+    Random, Walk,
 };
 use reference::lines;
 use reference::machine::{step, Answer, Command};
 use reference::refusal::{self, Refusal};
-use reference::table::Table;
+use reference::table::{state, Table, DESK};
 use std::collections::{BTreeMap, BTreeSet};
 
 /// The answers without their numbers, but a refusal with its own and the letter of its step; and how
-/// often each case of causes came up.
+/// often each case of causes and of the desk came up.
 #[derive(Default)]
 struct Seen {
     answers: BTreeSet<String>,
     refusals: BTreeSet<(Refusal, char)>,
     causes: BTreeMap<String, u64>,
+    desk: BTreeMap<&'static str, u64>,
 }
 
 impl Seen {
@@ -41,12 +43,65 @@ impl Seen {
         }
     }
 
+    /// What a step made of messages for the desk, and whether the ledger was full before it.
+    fn note_desk(&mut self, before: &[u32], full: bool, answer: Answer, after: &[u32]) {
+        let Some([before, after]) = tables(before, after) else {
+            return;
+        };
+        let for_desk = |message: u32| after.message(message).receiver == DESK;
+        let case = match answer {
+            Answer::Sent { message } if for_desk(message) => Some("sent"),
+            Answer::Held { message, .. } if for_desk(message) && full => Some("held, ledger full"),
+            Answer::Held { message, .. } if for_desk(message) => Some("held"),
+            Answer::Released { message, .. } if for_desk(message) => Some("published"),
+            Answer::Released { .. } if full => Some("released elsewhere, ledger full"),
+            Answer::Crashed { .. } if drops_for_desk(before, after) => Some("dropped by a crash"),
+            Answer::Rolled { .. } if drops_for_desk(before, after) => Some("dropped by a rollback"),
+            _ => None,
+        };
+        if let Some(case) = case {
+            *self.desk.entry(case).or_default() += 1;
+        }
+    }
+
     /// The letters of the steps that were refused so.
     fn refused(&self, refusal: Refusal) -> String {
         let refused = self.refusals.iter().filter(|(seen, _)| *seen == refusal);
         refused.map(|(_, letter)| letter).collect()
     }
 }
+
+fn tables<'a>(before: &'a [u32], after: &'a [u32]) -> Option<[Table<&'a [u32]>; 2]> {
+    Some([Table::new(before)?, Table::new(after)?])
+}
+
+/// Whether a message for the desk was held and is dropped.
+fn drops_for_desk(before: Table<&[u32]>, after: Table<&[u32]>) -> bool {
+    (1..=before.sent()).any(|message| {
+        let [before, after] = [before.message(message), after.message(message)];
+        before.receiver == DESK && before.state == state::HELD && after.state == state::DROPPED
+    })
+}
+
+/// What becomes of messages for the desk in lists. No ledger is full there while a message is held.
+const DESK_IN_LISTS: [&str; 5] = [
+    "dropped by a crash",
+    "dropped by a rollback",
+    "held",
+    "published",
+    "sent",
+];
+
+/// The same on lent tables beside lent ledgers.
+const DESK_ON_LENT: [&str; 7] = [
+    "dropped by a crash",
+    "dropped by a rollback",
+    "held",
+    "held, ledger full",
+    "published",
+    "released elsewhere, ledger full",
+    "sent",
+];
 
 const ANSWERS: [&str; 10] = [
     "crashed",
@@ -80,8 +135,8 @@ const REFUSED: [(Refusal, &str); 11] = [
 fn lists_reach_everything() {
     let mut seen = Seen::default();
     let mut sizes = BTreeSet::new();
-    let mut degrees_released = BTreeSet::new();
-    let (mut incarnation, mut live, mut sent) = (0, 0, 0);
+    let (mut degrees_released, mut degrees_published) = (BTreeSet::new(), BTreeSet::new());
+    let (mut incarnation, mut live, mut sent, mut published) = (0, 0, 0, 0);
     for profile in Profile::ALL {
         for seed in 0..150 {
             let mut walk = Walk::new(seed, profile);
@@ -91,13 +146,20 @@ fn lists_reach_everything() {
                 seen.note(command, answer);
                 seen.note_causes(causes::cases(&before, command, answer, walk.table()));
                 seen.note_causes(offers.feed(&before, command, answer, walk.table()));
+                seen.note_desk(&before, false, answer, walk.table());
                 before.copy_from_slice(walk.table());
                 let table = Table::new(walk.table()).expect("the right length");
                 sizes.insert(table.n());
                 sent = sent.max(table.sent());
+                published = published.max(walk.ledger()[0]);
                 if let Answer::Released { message, .. } = answer {
-                    let sender = table.message(message).sender as usize;
-                    degrees_released.insert(table.controller(sender).degree);
+                    let record = table.message(message);
+                    let degree = table.controller(record.sender as usize).degree;
+                    if record.receiver == DESK {
+                        degrees_published.insert(degree);
+                    } else {
+                        degrees_released.insert(degree);
+                    }
                 }
                 for c in 0..table.n() as usize {
                     incarnation = incarnation.max(table.controller(c).incarnation);
@@ -110,14 +172,22 @@ fn lists_reach_everything() {
     for (refusal, letters) in REFUSED {
         assert_eq!(seen.refused(refusal), letters, "refused {refusal}");
     }
-    println!("in lists: {:#?}", seen.causes);
+    // From an opening the ledger is sound, and never full while a message is held.
+    assert_eq!(seen.refused(refusal::LEDGER), "");
+    assert_eq!(seen.refused(refusal::LEDGER_USED_UP), "");
+    println!(
+        "in lists: {:#?}\nfor the desk: {:#?}",
+        seen.causes, seen.desk
+    );
     assert!(seen.causes.keys().eq(&causes::IN_LISTS));
-    assert_eq!((incarnation, live, sent), (15, 64, 128));
+    assert!(seen.desk.keys().eq(&DESK_IN_LISTS));
+    assert_eq!((incarnation, live, sent, published), (15, 64, 128, 128));
     assert!(sizes.iter().eq(&[1, 2, 3, 4, 5, 6, 7, 8]), "{sizes:?}");
     assert!(degrees_released.into_iter().eq(0..=8));
+    assert!(degrees_published.into_iter().eq(0..=8));
 }
 
-/// On lent tables a step of each letter is accepted, and each refusal is given.
+/// On lent tables beside lent ledgers a step of each letter is accepted, and each refusal is given.
 #[test]
 fn lent_tables_reach_everything() {
     let mut random = Random::new(21);
@@ -128,21 +198,33 @@ fn lent_tables_reach_everything() {
             1 => damaged(&mut random).0,
             _ => in_form_table(&mut random),
         };
+        let mut ledger = match random.below(4) {
+            0 => damaged_ledger(&mut random),
+            _ => sound_ledger(&mut random),
+        };
         for _ in 0..10 {
             let sensible = named(&mut random, &words);
             let sensible = random.pick(&sensible).filter(|_| random.chance(50));
             let command = sensible.unwrap_or_else(|| senseless(&mut random));
             let before = words.clone();
-            let answer = step(&mut words, command);
+            let full = ledger.first() == Some(&128);
+            let answer = step(&mut words, &mut ledger, command);
             seen.note(command, answer);
             seen.note_causes(causes::cases(&before, command, answer, &words));
+            seen.note_desk(&before, full, answer, &words);
         }
     }
-    println!("on lent tables: {:#?}", seen.causes);
+    println!(
+        "on lent tables: {:#?}\nfor the desk: {:#?}",
+        seen.causes, seen.desk
+    );
     assert!(seen.causes.keys().eq(&causes::on_lent_tables()));
+    assert!(seen.desk.keys().eq(&DESK_ON_LENT));
     assert!(seen.answers.iter().eq(&ANSWERS), "{:?}", seen.answers);
     assert_eq!(seen.refused(refusal::LENGTH), "CDHKLORSTX");
     assert_eq!(seen.refused(refusal::FORM), "CDHKLRSTX");
+    assert_eq!(seen.refused(refusal::LEDGER), "OR");
+    assert_eq!(seen.refused(refusal::LEDGER_USED_UP), "R");
     for (refusal, letters) in REFUSED {
         assert_eq!(seen.refused(refusal), letters, "refused {refusal}");
     }

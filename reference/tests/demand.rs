@@ -1,19 +1,20 @@
-//! The judge of demand 3, on lists written by hand: it accepts the right answers, and finds each kind
-//! of breach in wrong ones.
+//! The judge of demand 3, on lists written by hand: it accepts the right answers and ledgers, and finds
+//! each kind of breach in wrong ones.
 
-use reference::demand::{check, Breach};
+use reference::demand::{check, Breach, Judge};
 use reference::lines::{parse, render, run};
-use reference::machine::{Answer, Command};
+use reference::machine::{step, Answer, Command};
 use reference::refusal;
 
 /// Steps with the sound machine's answers.
 fn sound(script: &str) -> Vec<(Command, Answer)> {
     let mut table = vec![0; reference::table::WORDS];
+    let mut ledger = vec![0; reference::ledger::WORDS];
     let commands = script
         .lines()
         .map(|line| parse(line.as_bytes()).expect("a good line"));
     commands
-        .map(|command| (command, reference::machine::step(&mut table, command)))
+        .map(|command| (command, step(&mut table, &mut ledger, command)))
         .collect()
 }
 
@@ -170,6 +171,158 @@ fn a_loss_before_the_release_counts_too() {
         owner: 1,
     };
     assert_eq!(check(&list), [breach]);
+}
+
+/// Let out to the desk from work that isn't stable, as only a faulty machine would.
+mod published {
+    use super::*;
+
+    fn publish(message: u32) -> (Command, Answer) {
+        let released = Answer::Released { message, mask: 0 };
+        (Command::Release { message }, released)
+    }
+
+    /// The steps with the sound machine's answers, but for releases of these messages, which are let out.
+    fn with_published(script: &str, messages: &[u32]) -> Vec<(Command, Answer)> {
+        let mut list = sound(script);
+        for &message in messages {
+            let (release, released) = publish(message);
+            let mut steps = list.iter_mut();
+            let step = steps.find(|(command, _)| *command == release);
+            step.expect("a release").1 = released;
+        }
+        list
+    }
+
+    /// Message 2 goes out to the desk from an interval of 1 that is then lost, or not.
+    const READING: &str = "O 3 3\nS 0 1 7\nR 1\nD 1\nS 1 8 9\nR 2";
+
+    #[test]
+    fn and_its_sending_interval_lost() {
+        let revoked = Breach::PublishedRevoked {
+            position: 6,
+            message: 2,
+        };
+        let unnamed = Breach::OwnerNotNamed {
+            position: 5,
+            owner: 1,
+        };
+        let list = with_published(&format!("{READING}\nX 1\nX 1"), &[2]);
+        assert_eq!(check(&list), [revoked, unnamed]);
+        // Held by the sound machine, or never lost.
+        assert_eq!(check(&sound(&format!("{READING}\nX 1"))), []);
+        let list = with_published(&format!("{READING}\nX 0\nC 1\nX 1"), &[2]);
+        assert_eq!(check(&list), []);
+    }
+
+    #[test]
+    fn and_its_sending_interval_undone() {
+        // Message 3 rests on the work of 1 that message 2 was sent from.
+        let script = "O 3 3\nS 0 1 7\nR 1\nD 1\nS 1 2 9\nR 2\nD 2\nS 2 8 5\nR 3\nX 1";
+        let unnamed = Breach::OwnerNotNamed {
+            position: 8,
+            owner: 1,
+        };
+        let list = with_published(script, &[3]);
+        assert_eq!(check(&list), [unnamed], "not undone yet");
+        let list = with_published(&format!("{script}\nH 2 1 0"), &[3]);
+        let revoked = Breach::PublishedRevoked {
+            position: 10,
+            message: 3,
+        };
+        assert_eq!(check(&list), [revoked, unnamed]);
+    }
+
+    /// That any owner is named doesn't help: what is published can't be recalled.
+    #[test]
+    fn and_lost_though_its_owner_was_named() {
+        let mut list = with_published(&format!("{READING}\nX 1"), &[2]);
+        list[5].1 = Answer::Released {
+            message: 2,
+            mask: 2,
+        };
+        let revoked = Breach::PublishedRevoked {
+            position: 6,
+            message: 2,
+        };
+        assert_eq!(check(&list), [revoked]);
+    }
+
+    /// "In any later steps before an opening": what was lost before, or is lost in another house, is no
+    /// matter of this claim.
+    #[test]
+    fn and_lost_before_or_after_an_opening() {
+        let mut list = sound("O 3 3\nS 0 1 7\nR 1\nD 1\nS 1 8 9\nX 1");
+        list.push(publish(2));
+        let unnamed = Breach::OwnerNotNamed {
+            position: 6,
+            owner: 1,
+        };
+        assert_eq!(check(&list), [unnamed]);
+        let list = with_published(&format!("{READING}\nO 3 3\nX 1"), &[2]);
+        assert_eq!(check(&list), []);
+    }
+
+    #[test]
+    fn and_delivered_is_unreadable() {
+        let mut list = sound("O 3 3\nS 0 8 7\nR 1");
+        let delivered = Answer::Delivered {
+            message: 1,
+            incarnation: 0,
+            number: 2,
+        };
+        list.push((Command::Deliver { message: 1 }, delivered));
+        assert_eq!(check(&list), [Breach::Unreadable { position: 3 }]);
+    }
+}
+
+/// In a house just opened the ledger is that of the list's releases.
+mod ledger {
+    use super::*;
+
+    fn judge(script: &str) -> Judge {
+        let mut judge = Judge::default();
+        for (command, answer) in sound(script) {
+            judge.feed(command, answer);
+        }
+        judge
+    }
+
+    const READINGS: &str = "O 2 2\nS 0 8 70\nS 0 1 71\nS 1 8 72\nR 3\nR 2\nR 1\nR 1";
+
+    #[test]
+    fn is_read_off_the_steps() {
+        let mut judge = judge(READINGS);
+        let mut words = judge.ledger();
+        assert_eq!((words.len(), &words[..6]), (257, &[2, 3, 72, 1, 70, 0][..]));
+        judge.see_ledger(&words);
+        words[256] = 1;
+        judge.see_ledger(&words);
+        judge.see_ledger(&words[..256]);
+        let differs = Breach::LedgerDiffers { position: 8 };
+        assert_eq!(judge.finish(), [differs, differs]);
+    }
+
+    #[test]
+    fn is_empty_after_an_opening() {
+        let mut judge = judge(&format!("{READINGS}\nO 2 2"));
+        let empty = vec![0; 257];
+        assert_eq!(judge.ledger(), empty);
+        judge.see_ledger(&empty);
+        assert_eq!(judge.finish(), []);
+    }
+
+    #[test]
+    fn is_free_before_the_first_opening() {
+        let mut judge = Judge::default();
+        judge.see_ledger(&[9; 257]);
+        judge.feed(
+            Command::Open { n: 9, degree: 0 },
+            Answer::Refused { number: 5 },
+        );
+        judge.see_ledger(&[]);
+        assert_eq!(judge.finish(), []);
+    }
 }
 
 #[test]

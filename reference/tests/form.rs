@@ -1,12 +1,21 @@
-//! When a table is in form, said a second time: word by word, by position alone.
+//! When a table is in form and a ledger sound, said a second time: word by word, by position alone.
 
-use reference::generate::{damaged, in_form_table, noise, wrong_length, Profile, Random, Walk};
+mod common;
+
+use common::House;
+use reference::generate::{
+    damaged, damaged_ledger, in_form_table, noise, sound_ledger, wrong_length, Profile, Random,
+    Walk,
+};
+use reference::ledger::is_sound;
 use reference::machine::{step, Answer, Command};
 use reference::refusal;
 use reference::table::{in_form, WORDS};
+use std::collections::BTreeSet;
 use std::ops::RangeInclusive;
 
-/// The words that a position may hold, given the others.
+/// The words that a position may hold, given the others; but which states go with which receiver is
+/// said apart.
 fn range(words: &[u32], position: usize) -> RangeInclusive<u32> {
     let n = words[0];
     let is_controller = |c: usize| (c as u32) < n;
@@ -54,8 +63,9 @@ fn place_range(words: &[u32], position: usize, place: u32, field: usize) -> Rang
 
 fn message_range(words: &[u32], position: usize, field: usize) -> RangeInclusive<u32> {
     match field {
-        0 => 1..=5,
-        1 | 2 => 0..=words[0].wrapping_sub(1),
+        0 => 1..=6,
+        1 => 0..=words[0].wrapping_sub(1),
+        2 => 0..=8,
         3 => 0..=15,
         4 => 1..=64,
         5 => 0..=u32::MAX,
@@ -76,9 +86,26 @@ fn pair_range(words: &[u32], position: usize, field: usize) -> RangeInclusive<u3
     }
 }
 
+/// The states that a message for this receiver may have: "1, 5 or 6" for the desk, "1 to 5" for a
+/// controller.
+fn states(n: u32, receiver: u32) -> &'static [u32] {
+    match receiver {
+        8 => &[1, 5, 6],
+        _ if receiver < n => &[1, 2, 3, 4, 5],
+        _ => &[],
+    }
+}
+
+/// Whether the message at a record has a state that goes with its receiver.
+fn state_fits(words: &[u32], record: usize) -> bool {
+    let message = &words[12_336 + 22 * record..];
+    states(words[0], message[2]).contains(&message[0])
+}
+
 fn in_form_by_position(words: &[u32]) -> bool {
     words.len() == WORDS
         && (0..WORDS).all(|position| range(words, position).contains(&words[position]))
+        && (0..words[1] as usize).all(|record| state_fits(words, record))
 }
 
 #[test]
@@ -101,6 +128,56 @@ fn one_damaged_word() {
         spoilt += usize::from(!expected);
     }
     assert!((500..2_500).contains(&spoilt), "{spoilt} of 3000 damaged");
+}
+
+/// Every receiver with every state, in houses of every size.
+#[test]
+fn the_receiver_decides_the_states() {
+    for n in 1..=8 {
+        let mut house = House::after(&format!("O {n} 0\nS 0 8 7"));
+        for receiver in 0..=10 {
+            for state in 0..=8 {
+                house.words[12_336] = state;
+                house.words[12_338] = receiver;
+                let expected = states(n, receiver).contains(&state);
+                assert_eq!(in_form(&house.words), expected, "{n} {receiver} {state}");
+            }
+        }
+    }
+}
+
+/// The generator of damage comes across all that is out of form about receivers and states.
+#[test]
+fn damaged_receivers_and_states() {
+    let mut random = Random::new(4);
+    let mut seen = BTreeSet::new();
+    for _ in 0..2_000 {
+        let (words, position) = damaged(&mut random);
+        let record = position.saturating_sub(12_336) / 22;
+        if position >= 12_336 && record < words[1] as usize && !state_fits(&words, record) {
+            let message = &words[12_336 + 22 * record..];
+            let kind = match (message[2], message[0]) {
+                (8, state @ 2..=4) => format!("state {state} for the desk"),
+                (8, _) => "no state for the desk".to_owned(),
+                (9.., _) => "above the desk".to_owned(),
+                (receiver, _) if receiver >= words[0] => "between n and the desk".to_owned(),
+                (_, 6) => "published elsewhere".to_owned(),
+                _ => "no state for a controller".to_owned(),
+            };
+            seen.insert(kind);
+        }
+    }
+    let kinds = [
+        "above the desk",
+        "between n and the desk",
+        "no state for a controller",
+        "no state for the desk",
+        "published elsewhere",
+        "state 2 for the desk",
+        "state 3 for the desk",
+        "state 4 for the desk",
+    ];
+    assert!(seen.iter().eq(&kinds), "{seen:?}");
 }
 
 /// Every word of a house, just outside of its range on both sides.
@@ -128,6 +205,37 @@ fn every_word_has_its_range() {
     assert!(in_form(&words));
 }
 
+fn sound_by_position(words: &[u32]) -> bool {
+    let used = |position: usize| (position as u32) <= 2 * words[0];
+    words.len() == 257
+        && words[0] <= 128
+        && (1..257).all(|position| used(position) || words[position] == 0)
+}
+
+/// Sound ledgers, damaged ones, and sound ones with another word somewhere.
+#[test]
+fn ledgers() {
+    let mut random = Random::new(6);
+    let (mut sound, mut unsound) = (0, 0);
+    for round in 0..3_000 {
+        let words = match round % 3 {
+            0 => sound_ledger(&mut random),
+            1 => damaged_ledger(&mut random),
+            _ => {
+                let mut words = sound_ledger(&mut random);
+                let position = random.index(words.len());
+                let word = random.pick(&[0, 1, words[0], words[0] + 1]);
+                words[if random.chance(30) { 0 } else { position }] = word.unwrap_or(0);
+                words
+            }
+        };
+        let expected = sound_by_position(&words);
+        assert_eq!(is_sound(&words), expected, "{words:?}");
+        *(if expected { &mut sound } else { &mut unsound }) += 1;
+    }
+    assert!(sound > 1_200 && unsound > 1_200, "{sound} {unsound}");
+}
+
 #[test]
 fn noise_and_other_lengths_are_refused_and_left_alone() {
     let mut random = Random::new(3);
@@ -139,7 +247,7 @@ fn noise_and_other_lengths_are_refused_and_left_alone() {
         };
         assert!(!in_form(&words));
         let before = words.clone();
-        let answer = step(&mut words, Command::Checkpoint { controller: 0 });
+        let answer = step(&mut words, &mut [], Command::Checkpoint { controller: 0 });
         assert_eq!(answer, Answer::Refused { number });
         assert!(words == before);
     }

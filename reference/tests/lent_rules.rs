@@ -67,7 +67,7 @@ mod lost_causes {
     }
 
     #[test]
-    fn are_released_again_whatever_their_state_and_receiver() {
+    fn are_released_again_whatever_their_state_and_receiving_controller() {
         for (from, receiver) in (state::HELD..=state::DROPPED).flat_map(|s| [(s, 0), (s, 1)]) {
             let mut house = two_deliveries();
             // Still held, they would be dropped as sent from lost work.
@@ -408,9 +408,7 @@ mod filtering {
             house.lend(|table| table.set_known(0, 3, 2, 6));
             house.go_on("S 1 0 7\nR 1");
             let kept = pairs.map(|pair| if pair == STABLE { Pair::EMPTY } else { pair });
-            let mut receiving = House {
-                words: house.words.clone(),
-            };
+            let mut receiving = house.clone();
             set_newest(&mut receiving, 0, pairs);
             assert_eq!(receiving.say("D 1"), "delivered 1 0 2");
             assert_eq!(stored(&receiving), kept, "the receiver's");

@@ -3,8 +3,7 @@
 use reference::generate::{script, Profile};
 use reference::lines::{parse, render, run, write, Player};
 use reference::machine::{step, Answer, Command};
-use reference::refusal;
-use reference::table::WORDS;
+use reference::{ledger, refusal, table};
 use std::io::Write;
 use std::process::{Command as Process, Stdio};
 
@@ -52,8 +51,13 @@ fn every_answer_is_written() {
         replayed: 4,
     };
     assert_eq!(written(rolled), "rolled 1 2 3 4");
-    let number = refusal::INCARNATIONS_USED_UP;
-    assert_eq!(written(Answer::Refused { number }), "refused 13");
+    for (number, line) in [
+        (refusal::INCARNATIONS_USED_UP, "refused 13"),
+        (refusal::LEDGER, "refused 14"),
+        (refusal::LEDGER_USED_UP, "refused 18"),
+    ] {
+        assert_eq!(written(Answer::Refused { number }), line);
+    }
 }
 
 #[test]
@@ -132,6 +136,48 @@ fn before_the_first_opening() {
         answers(b"C 0\nO 9 9\nR 0\n"),
         ["refused 2", "refused 5", "refused 2"]
     );
+    assert_eq!(answers(b"S 0 8 7\nR 1\n"), ["refused 2", "refused 2"]);
+}
+
+/// The program has a sound ledger from the start, and an opening clears it: 129 readings go out.
+#[test]
+fn readings_go_out() {
+    let script =
+        b"O 2 1\nS 0 1 3\nR 1\nD 1\nS 1 8 9\nR 2\nS 0 8 5\nR 3\nC 1\nR 2\nR 2\nD 2\nS 0 7 9\n";
+    let expected = [
+        "done",
+        "sent 1",
+        "released 1 0",
+        "delivered 1 0 2",
+        "sent 2",
+        "held 2 2",
+        "sent 3",
+        "released 3 0",
+        "done",
+        "released 2 0",
+        "refused 7",
+        "refused 7",
+        "refused 3",
+    ];
+    assert_eq!(answers(script), expected);
+    let mut script = "O 1 0\n".to_owned();
+    for message in 1..=128 {
+        script.push_str(&format!("S 0 8 7\nR {message}\n"));
+    }
+    script.push_str("S 0 8 7\nO 1 0\nS 0 8 7\nR 1\n");
+    let answers = answers(script.as_bytes());
+    let released = answers.iter().filter(|line| line.starts_with("released"));
+    assert_eq!(released.count(), 129);
+    assert_eq!(
+        answers[256..],
+        [
+            "released 128 0",
+            "refused 11",
+            "done",
+            "sent 1",
+            "released 1 0"
+        ]
+    );
 }
 
 /// Reads a line by splitting text, as the sentence says it, where [`parse`] matches bytes.
@@ -167,11 +213,12 @@ fn random_scripts_are_answered_line_by_line() {
         }
         let answers = answers(&input);
         assert_eq!(answers.len(), lines.len(), "script {seed}");
-        let mut table = vec![0; WORDS];
+        let mut table = vec![0; table::WORDS];
+        let mut ledger = vec![0; ledger::WORDS];
         for (line, answer) in lines.into_iter().zip(answers) {
             let command = parse(line);
             assert_eq!(command.is_some(), reads_well(line), "{line:?}");
-            let expected = command.map(|command| render(&step(&mut table, command)));
+            let expected = command.map(|command| render(&step(&mut table, &mut ledger, command)));
             bad += usize::from(expected.is_none());
             assert_eq!(answer, expected.unwrap_or("bad".to_owned()));
         }

@@ -1,5 +1,5 @@
-//! Random lists of the sound machine: demand 3 holds, the table agrees with its history after each
-//! step, and a refused step changes no word.
+//! Random lists of the sound machine: demand 3 holds, the table and the ledger agree with their history
+//! after each step, and a refused step changes no word of either.
 
 use reference::demand::Judge;
 use reference::facts;
@@ -15,17 +15,21 @@ fn walk_list(profile: &'static Profile, seed: u64) -> usize {
     let mut walk = Walk::new(seed, profile);
     let mut judge = Judge::default();
     let mut before = walk.table().to_vec();
+    let mut ledger_before = walk.ledger().to_vec();
     let mut steps = 0;
     while let Some((command, answer)) = walk.next() {
         let label = || format!("{} list {seed}, step {steps}: {command:?}", profile.name);
         if matches!(answer, Answer::Refused { .. }) {
-            assert!(before == walk.table(), "{}: refused, and wrote", label());
+            let unwritten = before == walk.table() && ledger_before == walk.ledger();
+            assert!(unwritten, "{}: refused, and wrote", label());
         } else {
             before.copy_from_slice(walk.table());
+            ledger_before.copy_from_slice(walk.ledger());
         }
         judge.feed(command, answer);
+        judge.see_ledger(walk.ledger());
         let history = judge.history().expect("a list begins with an opening");
-        let facts = facts::check(walk.table(), history);
+        let facts = facts::check(walk.table(), walk.ledger(), history);
         assert_eq!(facts, Ok(()), "{}", label());
         steps += 1;
     }
@@ -56,6 +60,11 @@ fn full() {
 #[test]
 fn worn() {
     assert!(walk_lists(&Profile::WORN, 250) > 60_000);
+}
+
+#[test]
+fn desk() {
+    assert!(walk_lists(&Profile::DESK, 120) > 30_000);
 }
 
 #[test]

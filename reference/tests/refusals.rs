@@ -1,9 +1,10 @@
-//! Every refusal, and that the lowest number is given where several apply. [`House::say`] sees to it
-//! that no refusal changes a word.
+//! Every refusal, and which is given where several apply: the lowest number, but for the ledger's two.
+//! [`House::say`] sees to it that no refusal changes a word.
 
 mod common;
 
 use common::{bring, House};
+use reference::ledger::{self, words_of, Entry};
 use reference::machine::{step, Answer, Command};
 use reference::refusal::{self, Refusal};
 use reference::table::{in_form, state, Controller, WORDS};
@@ -23,19 +24,18 @@ const SENSELESS: [&str; 9] = [
 #[test]
 fn length_comes_before_all() {
     for length in [0, 1, WORDS - 1, WORDS + 1] {
-        let mut house = House {
-            words: vec![9; length],
-        };
-        expect(&mut house, refusal::LENGTH, &["O 1 0", "O 0 9"]);
-        expect(&mut house, refusal::LENGTH, &SENSELESS);
+        for ledger in [vec![0; ledger::WORDS], vec![], vec![9; ledger::WORDS]] {
+            let mut house = House::of(vec![9; length]);
+            house.ledger = ledger;
+            expect(&mut house, refusal::LENGTH, &["O 1 0", "O 0 9"]);
+            expect(&mut house, refusal::LENGTH, &SENSELESS);
+        }
     }
 }
 
 #[test]
 fn form_comes_next_and_opening_does_not_look_at_it() {
-    let mut house = House {
-        words: vec![0; WORDS],
-    };
+    let mut house = House::of(vec![0; WORDS]);
     expect(&mut house, refusal::FORM, &SENSELESS);
     expect(&mut house, refusal::DEGREE, &["O 0 0", "O 9 0", "O 3 4"]);
     let mut house = House::after("O 3 3");
@@ -43,6 +43,104 @@ fn form_comes_next_and_opening_does_not_look_at_it() {
     expect(&mut house, refusal::FORM, &SENSELESS);
     assert_eq!(house.say("O 2 1"), "done");
     assert!(in_form(&house.words));
+}
+
+/// Ledgers that a release refuses.
+fn unsound_ledgers() -> [Vec<u32>; 4] {
+    let mut past_the_count = vec![0; ledger::WORDS];
+    past_the_count[256] = 1;
+    let mut count_too_high = vec![0; ledger::WORDS];
+    count_too_high[0] = 129;
+    [vec![], vec![0; 258], past_the_count, count_too_high]
+}
+
+/// "It stands directly after 2, at release": the form comes before it, and messages, their states and a
+/// mask that isn't 0 after it.
+#[test]
+fn the_ledger_comes_next_at_release() {
+    for ledger in unsound_ledgers() {
+        let mut house = House::after("O 2 2");
+        bring(&mut house, 0, 1);
+        // Message 2 would be held, and 3 released.
+        house.go_on("S 1 8 7\nS 1 0 7");
+        house.ledger = ledger;
+        expect(
+            &mut house,
+            refusal::LEDGER,
+            &["R 0", "R 1", "R 2", "R 3", "R 4", "R 4294967295"],
+        );
+        house.words[2] = 1;
+        expect(&mut house, refusal::FORM, &["R 0", "R 1", "R 2", "R 3"]);
+        house.words.pop();
+        expect(&mut house, refusal::LENGTH, &["R 0", "R 1", "R 2", "R 3"]);
+    }
+}
+
+/// "For the length only, directly after 1 at opening", and so before 5.
+#[test]
+fn the_length_of_the_ledger_comes_next_at_opening() {
+    let mut house = House::after("O 2 2");
+    for length in [0, 1, 256, 258] {
+        house.ledger = vec![7; length];
+        expect(
+            &mut house,
+            refusal::LEDGER,
+            &["O 1 0", "O 0 0", "O 9 9", "O 3 4"],
+        );
+    }
+    house.words.pop();
+    expect(&mut house, refusal::LENGTH, &["O 1 0", "O 9 9"]);
+    for mut ledger in unsound_ledgers() {
+        ledger.resize(ledger::WORDS, 9);
+        let mut house = House::of(vec![9; WORDS]);
+        house.ledger = ledger;
+        expect(&mut house, refusal::DEGREE, &["O 0 0", "O 3 4"]);
+        assert_eq!(house.say("O 3 3"), "done");
+    }
+}
+
+/// "18 .. stands last at release": 4 and 7 come before it, and so does `held`.
+#[test]
+fn a_full_ledger_comes_last_at_release() {
+    let mut house = House::after("O 2 2\nS 0 8 7\nR 1");
+    bring(&mut house, 0, 1);
+    house.go_on("S 1 8 7\nS 0 8 7");
+    house.ledger = words_of(&[Entry::default(); 128]);
+    expect(&mut house, refusal::MESSAGE, &["R 0", "R 5"]);
+    expect(&mut house, refusal::STATE, &["R 1", "R 2"]);
+    assert_eq!(house.say("R 3"), "held 3 2");
+    expect(&mut house, refusal::LEDGER_USED_UP, &["R 4"]);
+    // Before it stands the ledger that isn't sound.
+    house.ledger[0] = 129;
+    expect(&mut house, refusal::LEDGER, &["R 4"]);
+}
+
+/// "Sends may name receiver 8", and no other past the last controller; nobody else is named so.
+#[test]
+fn the_desk_is_no_controller() {
+    for n in 1..=8 {
+        let mut house = House::after(&format!("O {n} 0"));
+        for receiver in (n..=7).chain([9, 10, 128, u32::MAX]) {
+            let line = format!("S 0 {receiver} 7");
+            expect(&mut house, refusal::CONTROLLER, &[&line]);
+        }
+        expect(
+            &mut house,
+            refusal::CONTROLLER,
+            &["K 8 0", "S 8 0 7", "S 8 8 7", "L 8 1", "C 8", "X 8"],
+        );
+        expect(
+            &mut house,
+            refusal::CONTROLLER,
+            &["T 0 8", "T 8 0", "T 8 8", "H 8 0 0", "H 0 8 0"],
+        );
+        assert_eq!(house.say("S 0 8 7"), "sent 1");
+    }
+    // The messages are used up by readings as by any others.
+    let mut house = House::after("O 1 0");
+    (0..128).for_each(|_| drop(house.say("S 0 8 7")));
+    expect(&mut house, refusal::MESSAGES_USED_UP, &["S 0 8 7"]);
+    expect(&mut house, refusal::CONTROLLER, &["S 0 1 7", "S 8 8 7"]);
 }
 
 #[test]
@@ -254,7 +352,7 @@ fn a_hearing_that_must_undo_needs_an_incarnation() {
 #[test]
 fn a_refusal_is_a_number() {
     let mut words = vec![0; WORDS];
-    let answer = step(&mut words, Command::Crash { controller: 0 });
+    let answer = step(&mut words, &mut [], Command::Crash { controller: 0 });
     assert_eq!(
         answer,
         Answer::Refused {

@@ -1,10 +1,11 @@
-//! A crash in a library of four controllers, and what follows from it, told in words:
-//! `examples/recovery.c` in Rust. There a caller can also ask for what is no step; here it can't.
+//! A crash in a library of four controllers, what follows from it, and readings that go out to be cited,
+//! told in words: `examples/recovery.c` in Rust. There a caller can also ask for what is no step; here
+//! it can't.
 //!
 //!     rt staticlib goulvizad
 //!     cargo run --example recovery
 
-use goulvizad::{Answer, Mask, Refusal, Step, Table};
+use goulvizad::{Answer, Citation, Mask, Refusal, Step, Table, DESK};
 
 const ARM: u32 = 0;
 const DRIVE: u32 = 1;
@@ -12,8 +13,12 @@ const CATALOGUE: u32 = 2;
 const BENCH: u32 = 3;
 const NAMES: [&str; 4] = ["arm", "drive", "catalogue", "bench"];
 
-fn name(controller: u32) -> &'static str {
-    NAMES.get(controller as usize).unwrap_or(&"unknown")
+/// The name of a controller, or of the desk.
+fn name(receiver: u32) -> &'static str {
+    if receiver == DESK {
+        return "desk";
+    }
+    NAMES.get(receiver as usize).unwrap_or(&"unknown")
 }
 
 /// The controllers that a mask names.
@@ -117,6 +122,16 @@ impl Story {
         self.step(&format!("deliver {message}"), Step::Deliver { message })
     }
 
+    fn log(&mut self, controller: u32, count: u32) -> Told {
+        let what = format!("{} logs {count}", name(controller));
+        self.step(&what, Step::Log { controller, count })
+    }
+
+    fn crash(&mut self, controller: u32) -> Told {
+        let what = format!("{} crashes", name(controller));
+        self.step(&what, Step::Crash { controller })
+    }
+
     /// The controller hears of the drive's first crash.
     fn hear(&mut self, hearer: u32) -> Told {
         let what = format!("{} hears of drive", name(hearer));
@@ -151,31 +166,34 @@ fn work(story: &mut Story) -> Result<(), Refusal> {
     // Two could revoke message 5, and the degree is 1: one of them has to write its work first.
     story.send(CATALOGUE, ARM, 5)?;
     if let Answer::Held { .. } = story.release(5)? {
-        let (controller, count) = (CATALOGUE, 1);
-        story.step("catalogue logs 1", Step::Log { controller, count })?;
+        story.log(CATALOGUE, 1)?;
         story.release(5)?;
     }
     story.deliver(5)?;
     story.send(BENCH, DRIVE, 6)?;
     story.release(6)?;
+
+    // The drive counts frames. A reading goes out of the house only when nobody could revoke it.
+    story.send(DRIVE, DESK, 23)?;
+    story.release(7)?;
     Ok(())
 }
 
 /// The drive crashes and works on, and the others hear of it one by one.
 fn crash(story: &mut Story) -> Result<(), Refusal> {
-    story.step("drive crashes", Step::Crash { controller: DRIVE })?;
+    story.crash(DRIVE)?;
 
     // Its work is lost, and not the messages: it is offered them again, beside one on its way.
     story.deliver(1)?;
     story.deliver(2)?;
     story.deliver(6)?;
     story.send(DRIVE, ARM, 2)?;
-    story.release(7)?;
+    story.release(8)?;
 
     // The arm's work rests on the ended incarnation: it must hear of the crash first.
-    if let Answer::Waits { .. } = story.deliver(7)? {
+    if let Answer::Waits { .. } = story.deliver(8)? {
         story.hear(ARM)?;
-        story.deliver(7)?;
+        story.deliver(8)?;
     }
 
     // Whatever rests on lost work is undone or dropped, and nothing else.
@@ -183,11 +201,41 @@ fn crash(story: &mut Story) -> Result<(), Refusal> {
     story.hear(BENCH)?;
     story.deliver(4)?;
 
-    // A refused step changes nothing.
-    if let Err(Refusal::AlreadyHeard) = story.hear(BENCH) {
-        return Ok(());
+    // A refused step changes nothing. The reading was dropped too: it never goes out.
+    assert_eq!(story.hear(BENCH), Err(Refusal::AlreadyHeard));
+    assert_eq!(story.release(7), Err(Refusal::State));
+    Ok(())
+}
+
+/// The bench counts the frames again, from what the drive sends it.
+fn publish(story: &mut Story) -> Result<(), Refusal> {
+    story.send(DRIVE, BENCH, 3)?;
+    story.release(9)?;
+    story.deliver(9)?;
+    story.send(BENCH, DESK, 24)?;
+
+    // Both have to write their work, and the bench has to be told that the drive did.
+    if let Answer::Held { .. } = story.release(10)? {
+        story.log(BENCH, 1)?;
+        story.log(DRIVE, 3)?;
+        story.release(10)?;
+        let (owner, holder) = (DRIVE, BENCH);
+        story.step("drive tells bench", Step::Tell { owner, holder })?;
+        story.release(10)?;
     }
-    unreachable!("a crash is heard of once")
+
+    // What the drive reads from written work goes out at once, and no later crash takes it back.
+    story.send(DRIVE, DESK, 18)?;
+    story.release(11)?;
+    story.crash(DRIVE)?;
+    Ok(())
+}
+
+/// The ledger for the printed filmography, in the order of publishing.
+fn cite(story: &mut Story) {
+    for Citation { message, payload } in story.table.citations() {
+        story.text += &format!("cited from message {message}: {payload} frames\n");
+    }
 }
 
 fn tell() -> Result<String, Refusal> {
@@ -196,6 +244,8 @@ fn tell() -> Result<String, Refusal> {
     story.step("open a house of four, degree 1", open)?;
     work(&mut story)?;
     crash(&mut story)?;
+    publish(&mut story)?;
+    cite(&mut story);
     Ok(story.text)
 }
 

@@ -17,14 +17,15 @@ pub enum Answer {
     Released {
         /// Which message.
         message: u32,
-        /// Who could still revoke it: at most as many as its sender's degree.
+        /// Who could still revoke it: at most as many as its sender's degree, and nobody if it went to
+        /// the desk.
         mask: Mask,
     },
     /// The message is kept back, and no word has changed.
     Held {
         /// Which message.
         message: u32,
-        /// Who could revoke it: more than its sender's degree.
+        /// Who could revoke it: more than its sender's degree, or anybody if it is for the desk.
         mask: Mask,
     },
     /// The message has begun an interval at its receiver.

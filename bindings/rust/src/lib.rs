@@ -1,9 +1,9 @@
-//! The proved house recovery machine for Rust programs: one step function over one table, by the
-//! C interface of its static library (`include/goulvizad.h`).
+//! The proved house recovery machine for Rust programs: one step function over a table and a ledger,
+//! by the C interface of its static library (`include/goulvizad.h`).
 //!
-//! A [`Table`] is a house that owns its words. Words that live elsewhere, as in a mapped file, are
-//! lent to [`step`] for one step at a time. A [`Step`] has an [`Answer`] or a [`Refusal`], which
-//! changes no word. Nothing is kept between calls, and different tables may be used from several
+//! A [`Table`] is a house that owns its words and its ledger. Words that live elsewhere, as in a mapped
+//! file, are lent to [`step`] for one step at a time. A [`Step`] has an [`Answer`] or a [`Refusal`],
+//! which changes no word. Nothing is kept between calls, and different houses may be used from several
 //! threads at once.
 //!
 //! ```
@@ -35,40 +35,71 @@
 //! assert_eq!(table.step(hearing), Err(Refusal::AlreadyHeard));
 //! # Ok::<(), Refusal>(())
 //! ```
+//!
+//! A reading that leaves the house is sent to the [`DESK`]. It is held until nobody could revoke it,
+//! and then it stands in the ledger, to be cited:
+//!
+//! ```
+//! use goulvizad::{Answer, Citation, Refusal, Step, Table, DESK};
+//!
+//! const ARM: u32 = 0;
+//! const BENCH: u32 = 1;
+//!
+//! let mut table = Table::new();
+//! table.step(Step::Open { n: 2, degree: 2 })?;
+//! table.step(Step::Send { sender: ARM, receiver: BENCH, payload: 7 })?;
+//! table.step(Step::Release { message: 1 })?;
+//! table.step(Step::Deliver { message: 1 })?;
+//! table.step(Step::Send { sender: BENCH, receiver: DESK, payload: 24 })?;
+//!
+//! // The bench could still lose the work that the reading rests on, and the degree doesn't matter.
+//! let reading = Step::Release { message: 2 };
+//! assert!(matches!(table.step(reading)?, Answer::Held { .. }));
+//! table.step(Step::Log { controller: BENCH, count: 1 })?;
+//! assert!(matches!(table.step(reading)?, Answer::Released { .. }));
+//! assert!(table.citations().eq([Citation { message: 2, payload: 24 }]));
+//! # Ok::<(), Refusal>(())
+//! ```
 
 #![deny(missing_docs)]
 
 mod answer;
+mod ledger;
 pub mod raw;
 mod refusal;
 mod step;
 mod table;
 
 pub use answer::{Answer, Mask};
-pub use raw::TABLE_WORDS;
+pub use ledger::{citations, Citation};
+pub use raw::{LEDGER_WORDS, TABLE_WORDS};
 pub use refusal::Refusal;
-pub use step::Step;
+pub use step::{Step, DESK};
 pub use table::Table;
 
-/// Does one step on lent words, whatever their number and content. A house begins with
-/// [`Step::Open`], on [`TABLE_WORDS`] words with any content.
+/// Does one step on the lent words of a table and of its ledger, whatever their number and content. A
+/// house begins with [`Step::Open`], on [`TABLE_WORDS`] and [`LEDGER_WORDS`] words with any content.
+///
+/// Only [`Step::Open`] and [`Step::Release`] look at the ledger; with all other steps it may be empty.
 ///
 /// ```
-/// use goulvizad::{step, Answer, Refusal, Step, TABLE_WORDS};
+/// use goulvizad::{step, Answer, Refusal, Step, LEDGER_WORDS, TABLE_WORDS};
 ///
-/// let mut words = vec![0; TABLE_WORDS];
+/// let (mut words, mut ledger) = (vec![0; TABLE_WORDS], [0; LEDGER_WORDS]);
 /// let open = Step::Open { n: 3, degree: 1 };
-/// assert_eq!(step(&mut words[1..], open), Err(Refusal::Length));
-/// assert_eq!(step(&mut words, open), Ok(Answer::Done));
+/// assert_eq!(step(&mut words[1..], &mut ledger, open), Err(Refusal::Length));
+/// assert_eq!(step(&mut words, &mut ledger[1..], open), Err(Refusal::Ledger));
+/// assert_eq!(step(&mut words, &mut ledger, open), Ok(Answer::Done));
+/// assert_eq!(step(&mut words, &mut [], Step::Checkpoint { controller: 0 }), Ok(Answer::Done));
 /// ```
 ///
 /// # Panics
 /// If what comes back is no answer: the linked library is of another version then.
-pub fn step(words: &mut [u32], step: Step) -> Result<Answer, Refusal> {
+pub fn step(words: &mut [u32], ledger: &mut [u32], step: Step) -> Result<Answer, Refusal> {
     let (letter, numbers) = step.lettered();
     // No value is what stood here before, so a word that the call left out would be noticed.
     let mut values = [u32::MAX; raw::VALUE_WORDS];
-    let number = raw::call(words, letter.into(), numbers, &mut values);
+    let number = raw::call(words, ledger, letter.into(), numbers, &mut values);
     answer::read(number, values)
         .unwrap_or_else(|| panic!("no answer to {step:?}: {number} with {values:?}"))
 }

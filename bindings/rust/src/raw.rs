@@ -4,6 +4,9 @@
 /// The words of a table.
 pub const TABLE_WORDS: usize = 15_152;
 
+/// The words of a ledger.
+pub const LEDGER_WORDS: usize = 257;
+
 /// The words of a value buffer.
 pub const VALUE_WORDS: usize = 6;
 
@@ -46,6 +49,8 @@ extern "C" {
     fn goulvizad_step(
         table: *mut u32,
         table_words: usize,
+        ledger: *mut u32,
+        ledger_words: usize,
         letter: u32,
         a: u32,
         b: u32,
@@ -61,16 +66,23 @@ extern "C" {
 /// [`returned`].
 ///
 /// ```
-/// use goulvizad::raw::{call, returned, TABLE_WORDS, VALUE_WORDS};
+/// use goulvizad::raw::{call, returned, LEDGER_WORDS, TABLE_WORDS, VALUE_WORDS};
 ///
-/// let (mut table, mut values) = (vec![0; TABLE_WORDS], [0; VALUE_WORDS]);
-/// let mut called = |letter| call(&mut table, letter, [3, 1, 0, 0], &mut values);
+/// let (mut table, mut ledger) = (vec![0; TABLE_WORDS], [0; LEDGER_WORDS]);
+/// let mut values = [0; VALUE_WORDS];
+/// let mut called = |letter| call(&mut table, &mut ledger, letter, [3, 1, 0, 0], &mut values);
 /// assert_eq!(called(u32::from(b'O')), returned::DONE);
 /// assert_eq!(called(u32::from(b'Q')), returned::UNKNOWN_LETTER);
 /// ```
-pub fn call(table: &mut [u32], letter: u32, numbers: [u32; 4], values: &mut [u32]) -> u32 {
+pub fn call(
+    table: &mut [u32],
+    ledger: &mut [u32],
+    letter: u32,
+    numbers: [u32; 4],
+    values: &mut [u32],
+) -> u32 {
     let [a, b, c, d] = numbers;
-    // SAFETY: both pointers come with the lengths of their slices, so all the words that the call may
+    // SAFETY: the pointers come with the lengths of their slices, so all the words that the call may
     // touch are initialised, aligned and writable. The slices are borrowed mutably until it returns,
     // so they don't overlap and nobody else reads or writes them meanwhile. It keeps no pointer.
     #[allow(unsafe_code)]
@@ -78,6 +90,8 @@ pub fn call(table: &mut [u32], letter: u32, numbers: [u32; 4], values: &mut [u32
         goulvizad_step(
             table.as_mut_ptr(),
             table.len(),
+            ledger.as_mut_ptr(),
+            ledger.len(),
             letter,
             a,
             b,
@@ -105,40 +119,89 @@ mod tests {
     use crate::Refusal;
     use std::ptr::null_mut;
 
-    const OPEN: u32 = b'O' as u32;
     const UNTOUCHED: u32 = 0xA5A5_A5A5;
 
-    /// A slice of Rust never has a null pointer; one of C may, with length 0.
-    fn with_null_table(letter: u32, values: &mut [u32]) -> u32 {
-        let (values, length) = (values.as_mut_ptr(), values.len());
-        // SAFETY: no word is behind a pointer with length 0; the values are a slice.
+    /// A slice of Rust never has a null pointer; one of C may, with length 0: that is None.
+    type Lent<'a> = Option<&'a mut [u32]>;
+
+    fn parts(buffer: Lent) -> (*mut u32, usize) {
+        buffer.map_or((null_mut(), 0), |words| (words.as_mut_ptr(), words.len()))
+    }
+
+    /// A call with the numbers 1, 0, 0, 0.
+    fn lent(table: Lent, ledger: Lent, letter: u8, values: Lent) -> u32 {
+        let (table, table_words) = parts(table);
+        let (ledger, ledger_words) = parts(ledger);
+        let (values, values_words) = parts(values);
+        // SAFETY: the pointers are those of slices, with their lengths, or null with length 0: no word
+        // is behind such a one.
         #[allow(unsafe_code)]
         unsafe {
-            goulvizad_step(null_mut(), 0, letter, 1, 0, 0, 0, values, length)
+            goulvizad_step(
+                table,
+                table_words,
+                ledger,
+                ledger_words,
+                letter.into(),
+                1,
+                0,
+                0,
+                0,
+                values,
+                values_words,
+            )
         }
     }
 
     #[test]
     fn a_null_table_of_no_words_is_refused() {
+        let mut ledger = [UNTOUCHED; LEDGER_WORDS];
         let mut values = [UNTOUCHED; VALUE_WORDS];
-        assert_eq!(with_null_table(OPEN, &mut values), returned::REFUSED);
+        let opened = lent(None, Some(&mut ledger), b'O', Some(&mut values));
+        assert_eq!(opened, returned::REFUSED);
         assert_eq!(values, [Refusal::Length.number(), 0, 0, 0, 0, 0]);
-        let unknown = with_null_table(u32::from(b'Q'), &mut values);
+        let unknown = lent(None, Some(&mut ledger), b'Q', Some(&mut values));
         assert_eq!(unknown, returned::UNKNOWN_LETTER);
+        assert_eq!(ledger, [UNTOUCHED; LEDGER_WORDS]);
         // SAFETY: no word is behind a pointer with length 0.
         #[allow(unsafe_code)]
         let formed = unsafe { goulvizad_in_form(null_mut(), 0) };
         assert_eq!(formed, 0);
     }
 
+    /// Openings and releases look at the ledger; for all other steps it may be none.
+    #[test]
+    fn a_null_ledger_of_no_words_is_refused_where_it_is_looked_at() {
+        let mut table = vec![0; TABLE_WORDS];
+        let mut values = [UNTOUCHED; VALUE_WORDS];
+        let (mut ledger, open) = ([UNTOUCHED; LEDGER_WORDS], u32::from(b'O'));
+        let opened = call(&mut table, &mut ledger, open, [2, 0, 0, 0], &mut values);
+        assert_eq!(opened, returned::DONE);
+        assert_eq!(ledger, [0; LEDGER_WORDS]);
+        let mut without = |letter| {
+            let number = lent(Some(&mut table), None, letter, Some(&mut values));
+            (number, values[0])
+        };
+        let refused = |refusal: Refusal| (returned::REFUSED, refusal.number());
+        assert_eq!(without(b'O'), refused(Refusal::Ledger));
+        assert_eq!(without(b'R'), refused(Refusal::Ledger));
+        assert_eq!(without(b'K'), (returned::DONE, 0));
+        assert_eq!(without(b'S'), (returned::SENT, 1));
+        assert_eq!(without(b'D'), refused(Refusal::State));
+        assert_eq!(without(b'L'), refused(Refusal::LogCount));
+        assert_eq!(without(b'C'), (returned::DONE, 0));
+        assert_eq!(without(b'T'), (returned::DONE, 0));
+        assert_eq!(without(b'X'), (returned::CRASHED, 1));
+        assert_eq!(without(b'H'), refused(Refusal::NoSuchCrash));
+    }
+
     #[test]
     fn a_null_value_buffer_of_no_words_is_rejected() {
         let mut table = vec![UNTOUCHED; TABLE_WORDS];
-        let words = table.as_mut_ptr();
-        // SAFETY: the table is a slice; no word is behind a pointer with length 0.
-        #[allow(unsafe_code)]
-        let number = unsafe { goulvizad_step(words, TABLE_WORDS, OPEN, 1, 0, 0, 0, null_mut(), 0) };
+        let mut ledger = [UNTOUCHED; LEDGER_WORDS];
+        let number = lent(Some(&mut table), Some(&mut ledger), b'O', None);
         assert_eq!(number, returned::WRONG_VALUES);
-        assert!(table.iter().all(|&word| word == UNTOUCHED));
+        assert!(table.iter().chain(&ledger).all(|&word| word == UNTOUCHED));
+        assert_eq!(lent(None, None, b'O', None), returned::WRONG_VALUES);
     }
 }

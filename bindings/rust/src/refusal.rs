@@ -3,16 +3,20 @@
 use std::error::Error;
 use std::fmt::{self, Display, Formatter};
 
-/// Why a step is refused, by the names of the header. Where several apply, the lowest is given; a
-/// refused step changes no word.
+/// Why a step is refused, by the names of the header. Where several apply, the one that stands first in
+/// [`ALL`](Refusal::ALL) is given; a refused step changes no word of the table or of the ledger.
 #[derive(Clone, Copy, Debug, PartialEq, Eq, PartialOrd, Ord, Hash)]
 #[repr(u32)]
 pub enum Refusal {
-    /// There aren't [`TABLE_WORDS`](crate::TABLE_WORDS) words.
+    /// The table hasn't [`TABLE_WORDS`](crate::TABLE_WORDS) words.
     Length = 1,
     /// The table is not in form. An opening doesn't look at that.
     Form = 2,
-    /// A controller is not below the number of controllers.
+    /// The ledger of an opening or a release hasn't [`LEDGER_WORDS`](crate::LEDGER_WORDS) words; that
+    /// of a release has a count above 128, or a word past its last pair that is not 0.
+    Ledger = 14,
+    /// A controller is not below the number of controllers. A receiver may also be the
+    /// [`DESK`](crate::DESK).
     Controller = 3,
     /// The message number is 0, or above the messages sent.
     Message = 4,
@@ -20,7 +24,8 @@ pub enum Refusal {
     Degree = 5,
     /// The two controllers of a sending or a telling are equal.
     SameController = 6,
-    /// The message to release is not held, or that to deliver not released.
+    /// The message to release is not held, or that to deliver not released; one to the desk is never
+    /// delivered.
     State = 7,
     /// The count is 0, or above the live intervals that are not stable.
     LogCount = 8,
@@ -34,13 +39,18 @@ pub enum Refusal {
     PlacesUsedUp = 12,
     /// A crash, or a hearing that must undo, in incarnation 15.
     IncarnationsUsedUp = 13,
+    /// A release that would publish, with all 128 pairs of the ledger used. Steps after an opening never
+    /// come to it: messages are as few.
+    LedgerUsedUp = 18,
 }
 
 impl Refusal {
-    /// All of them, in the order of their numbers.
-    pub const ALL: [Refusal; 13] = [
+    /// All of them, in the order in which they are given where several apply: that of their numbers,
+    /// but for the first of the two that concern the ledger.
+    pub const ALL: [Refusal; 15] = [
         Refusal::Length,
         Refusal::Form,
+        Refusal::Ledger,
         Refusal::Controller,
         Refusal::Message,
         Refusal::Degree,
@@ -52,6 +62,7 @@ impl Refusal {
         Refusal::MessagesUsedUp,
         Refusal::PlacesUsedUp,
         Refusal::IncarnationsUsedUp,
+        Refusal::LedgerUsedUp,
     ];
 
     /// Its number.
@@ -72,6 +83,7 @@ impl Display for Refusal {
         f.write_str(match self {
             Refusal::Length => "the table has another length",
             Refusal::Form => "the table is not in form",
+            Refusal::Ledger => "the ledger has another length or is not in order",
             Refusal::Controller => "no such controller",
             Refusal::Message => "no such message",
             Refusal::Degree => "not 1 to 8 controllers, or a degree above their number",
@@ -83,6 +95,7 @@ impl Display for Refusal {
             Refusal::MessagesUsedUp => "the messages are used up",
             Refusal::PlacesUsedUp => "the places are used up",
             Refusal::IncarnationsUsedUp => "the incarnations are used up",
+            Refusal::LedgerUsedUp => "the ledger is used up",
         })
     }
 }

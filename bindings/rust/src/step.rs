@@ -1,9 +1,13 @@
 //! The ten steps, and what the C interface is given for each.
 
+/// The receiver that is no controller: the desk, where readings leave the house. It is the same
+/// however many controllers there are.
+pub const DESK: u32 = 8;
+
 /// A step to be done, with its numbers by name. Controllers count from 0, messages from 1.
 #[derive(Clone, Copy, Debug, PartialEq, Eq, Hash)]
 pub enum Step {
-    /// Opens a house, whatever stood in the table.
+    /// Opens a house, whatever stood in the table and in the ledger, which is cleared.
     Open {
         /// How many controllers, 1 to 8.
         n: u32,
@@ -21,17 +25,21 @@ pub enum Step {
     Send {
         /// From whom.
         sender: u32,
-        /// To whom.
+        /// To whom: another controller, or the [`DESK`].
         receiver: u32,
         /// What: any word.
         payload: u32,
     },
-    /// Releases a held message, if no more controllers could revoke it than its sender's degree.
+    /// Releases a held message, if no more controllers could revoke it than its sender's degree. One to
+    /// the [`DESK`] is released only if nobody could, whatever the degree. It is published then: it
+    /// stands in the ledger and may be cited, since the interval that sent it is never lost or undone
+    /// before the next opening.
     Release {
         /// Which message.
         message: u32,
     },
-    /// Delivers a released message at its receiver, where it begins an interval.
+    /// Delivers a released message at its receiver, where it begins an interval. One to the [`DESK`] is
+    /// never delivered.
     Deliver {
         /// Which message.
         message: u32,

@@ -1,50 +1,59 @@
-//! A house that owns its words.
+//! A house that owns its words and its ledger.
 
-use crate::{in_form, Answer, Refusal, Step, TABLE_WORDS};
+use crate::{citations, in_form, Answer, Citation, Refusal, Step, LEDGER_WORDS, TABLE_WORDS};
 use std::fmt::{self, Debug, Formatter};
 
-/// A house that owns its words. Only steps change them.
+/// A house that owns its words and its ledger. Only steps change them, so they always belong together.
 #[derive(Clone, PartialEq, Eq)]
 pub struct Table {
     words: Box<[u32; TABLE_WORDS]>,
+    ledger: Box<[u32; LEDGER_WORDS]>,
 }
 
 impl Table {
-    /// Words that are all 0. No house is in them before [`Step::Open`].
+    /// Words and a ledger that are all 0. No house is in them before [`Step::Open`].
     pub fn new() -> Self {
         Table {
             words: Box::new([0; TABLE_WORDS]),
+            ledger: Box::new([0; LEDGER_WORDS]),
         }
     }
 
-    /// The house whose [`words`](Table::words) were saved. Others are refused as they would be at a
-    /// step: for their [`Length`](Refusal::Length), or as not in [`Form`](Refusal::Form).
+    /// The house whose [`words`](Table::words) and [`ledger`](Table::ledger) were saved. Others are
+    /// refused as they would be at a release: for the [`Length`](Refusal::Length) of the words, as not
+    /// in [`Form`](Refusal::Form), or for the [`Ledger`](Refusal::Ledger).
     ///
     /// ```
     /// use goulvizad::{Refusal, Step, Table};
     ///
     /// let mut table = Table::new();
     /// table.step(Step::Open { n: 2, degree: 0 })?;
-    /// let mut saved = table.words().to_vec();
-    /// assert!(Table::restore(&saved)? == table);
-    /// saved[0] = 9;
-    /// assert_eq!(Table::restore(&saved).err(), Some(Refusal::Form));
+    /// let (mut words, mut ledger) = (table.words().to_vec(), table.ledger().to_vec());
+    /// assert!(Table::restore(&words, &ledger)? == table);
+    /// ledger[1] = 7;
+    /// assert_eq!(Table::restore(&words, &ledger).err(), Some(Refusal::Ledger));
+    /// words[0] = 9;
+    /// assert_eq!(Table::restore(&words, &ledger).err(), Some(Refusal::Form));
     /// # Ok::<(), Refusal>(())
     /// ```
-    pub fn restore(words: &[u32]) -> Result<Self, Refusal> {
-        let words: Box<[u32]> = words.into();
-        let words = words.try_into().map_err(|_| Refusal::Length)?;
-        let table = Table { words };
-        if table.is_in_form() {
-            Ok(table)
-        } else {
-            Err(Refusal::Form)
+    pub fn restore(words: &[u32], ledger: &[u32]) -> Result<Self, Refusal> {
+        let (mut words, mut ledger): (Box<[u32]>, Box<[u32]>) = (words.into(), ledger.into());
+        // A release looks at all that is asked of both. There is no message 0, so this one is refused
+        // for it at the latest, and changes nothing.
+        let none = Step::Release { message: 0 };
+        match crate::step(&mut words, &mut ledger, none) {
+            Err(Refusal::Message) => Ok(Table {
+                words: words.try_into().map_err(|_| Refusal::Length)?,
+                ledger: ledger.try_into().map_err(|_| Refusal::Ledger)?,
+            }),
+            Err(refusal) => Err(refusal),
+            Ok(answer) => unreachable!("there is no message 0: {answer:?}"),
         }
     }
 
     /// Does one step, as [`step`](crate::step()) does on lent words.
     pub fn step(&mut self, step: Step) -> Result<Answer, Refusal> {
-        crate::step(&mut self.words[..], step)
+        crate::step(&mut self.words[..], &mut self.ledger[..], step)
     }
 
     /// Whether a house is in the words: true after an opening and the steps that follow it.
@@ -52,9 +61,19 @@ impl Table {
         in_form(&self.words[..])
     }
 
-    /// The words, to be saved.
+    /// The words, to be saved together with the [`ledger`](Table::ledger).
     pub fn words(&self) -> &[u32; TABLE_WORDS] {
         &self.words
+    }
+
+    /// The words of the ledger: a count, then pairs of message number and payload.
+    pub fn ledger(&self) -> &[u32; LEDGER_WORDS] {
+        &self.ledger
+    }
+
+    /// The readings that were published since the opening, in this order.
+    pub fn citations(&self) -> impl Iterator<Item = Citation> + '_ {
+        citations(&self.ledger[..])
     }
 }
 
@@ -69,6 +88,7 @@ impl Debug for Table {
     fn fmt(&self, f: &mut Formatter<'_>) -> fmt::Result {
         let mut table = f.debug_struct("Table");
         table.field("in_form", &self.is_in_form());
+        table.field("published", &self.citations().count());
         table.finish_non_exhaustive()
     }
 }

@@ -1,12 +1,13 @@
 //! Every number, length, letter and call of `include/goulvizad.h` is the one that is used here.
 
-use goulvizad::raw::{returned, TABLE_WORDS, VALUE_WORDS};
-use goulvizad::{Refusal, Step};
+use goulvizad::raw::{returned, LEDGER_WORDS, TABLE_WORDS, VALUE_WORDS};
+use goulvizad::{Refusal, Step, DESK};
 use std::fs;
 use std::path::Path;
 
-/// The entries of the header's enums, by their names without the prefix.
-const NAMED: [(&str, u32); 26] = [
+/// The entries of the header's enums, by their names without the prefix. The refusals come last, in the
+/// order in which they are given.
+const NAMED: [(&str, u32); 28] = [
     ("DONE", returned::DONE),
     ("SENT", returned::SENT),
     ("RELEASED", returned::RELEASED),
@@ -22,6 +23,7 @@ const NAMED: [(&str, u32); 26] = [
     ("WRONG_VALUES", returned::WRONG_VALUES),
     ("LENGTH", Refusal::Length as u32),
     ("FORM", Refusal::Form as u32),
+    ("LEDGER", Refusal::Ledger as u32),
     ("CONTROLLER", Refusal::Controller as u32),
     ("MESSAGE", Refusal::Message as u32),
     ("DEGREE", Refusal::Degree as u32),
@@ -33,14 +35,22 @@ const NAMED: [(&str, u32); 26] = [
     ("MESSAGES_USED_UP", Refusal::MessagesUsedUp as u32),
     ("PLACES_USED_UP", Refusal::PlacesUsedUp as u32),
     ("INCARNATIONS_USED_UP", Refusal::IncarnationsUsedUp as u32),
+    ("LEDGER_USED_UP", Refusal::LedgerUsedUp as u32),
 ];
 
-const LENGTHS: [(&str, usize); 2] = [("TABLE_WORDS", TABLE_WORDS), ("VALUE_WORDS", VALUE_WORDS)];
+/// What the header defines: the lengths of the buffers, and the receiver that is no controller.
+const DEFINED: [(&str, u32); 4] = [
+    ("TABLE_WORDS", TABLE_WORDS as u32),
+    ("LEDGER_WORDS", LEDGER_WORDS as u32),
+    ("VALUE_WORDS", VALUE_WORDS as u32),
+    ("DESK", DESK),
+];
 
 /// The calls that `raw.rs` declares.
 const CALLS: [&str; 2] = [
-    "uint32_t goulvizad_step(uint32_t *table, size_t table_words, uint32_t letter, uint32_t a, \
-     uint32_t b, uint32_t c, uint32_t d, uint32_t *values, size_t values_words)",
+    "uint32_t goulvizad_step(uint32_t *table, size_t table_words, uint32_t *ledger, \
+     size_t ledger_words, uint32_t letter, uint32_t a, uint32_t b, uint32_t c, uint32_t d, \
+     uint32_t *values, size_t values_words)",
     "uint32_t goulvizad_in_form(const uint32_t *table, size_t table_words)",
 ];
 
@@ -116,9 +126,9 @@ fn the_header_has_the_same_numbers() {
 }
 
 #[test]
-fn the_header_has_the_same_lengths() {
-    let lengths = LENGTHS.map(|(name, length)| (name.to_owned(), length as u32));
-    assert_eq!(numbers(&header(), "#define GOULVIZAD_", " "), lengths);
+fn the_header_has_the_same_lengths_and_the_same_desk() {
+    let defined = DEFINED.map(|(name, number)| (name.to_owned(), number));
+    assert_eq!(numbers(&header(), "#define GOULVIZAD_", " "), defined);
 }
 
 #[test]

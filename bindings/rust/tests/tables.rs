@@ -1,21 +1,27 @@
-//! Houses that are saved, lent, cloned, and used from several threads at once.
+//! Houses that are saved, lent, cloned, cited from, and used from several threads at once.
 
-use goulvizad::{in_form, step, Answer, Refusal, Step, Table, TABLE_WORDS};
+use goulvizad::{
+    citations, in_form, step, Answer, Citation, Refusal, Step, Table, DESK, LEDGER_WORDS,
+    TABLE_WORDS,
+};
 use std::thread;
 
-/// A house in which the second controller works on from the first one's message.
+/// A house in which the second controller works on from the first one's message, whose reading has gone
+/// out before.
 fn working() -> Table {
     let mut table = Table::new();
-    let sending = Step::Send {
+    let sending = |receiver| Step::Send {
         sender: 0,
-        receiver: 1,
+        receiver,
         payload: u32::MAX,
     };
     for step in [
         Step::Open { n: 2, degree: 2 },
-        sending,
+        sending(DESK),
         Step::Release { message: 1 },
-        Step::Deliver { message: 1 },
+        sending(1),
+        Step::Release { message: 2 },
+        Step::Deliver { message: 2 },
     ] {
         table.step(step).expect("a step that is not refused");
     }
@@ -43,7 +49,7 @@ fn a_new_table_is_no_house() {
 #[test]
 fn a_saved_house_goes_on() {
     let mut table = working();
-    let mut restored = Table::restore(table.words()).expect("a house");
+    let mut restored = Table::restore(table.words(), table.ledger()).expect("a house");
     assert_eq!(table, restored);
     assert_eq!(restored.step(CRASH), CRASHED);
     assert_ne!(table, restored);
@@ -53,26 +59,108 @@ fn a_saved_house_goes_on() {
 
 #[test]
 fn what_is_no_house_is_not_restored() {
-    let mut words = working().words().to_vec();
+    let (mut words, ledger) = (working().words().to_vec(), *working().ledger());
     for length in [0, 1, TABLE_WORDS - 1] {
-        assert_eq!(Table::restore(&words[..length]), Err(Refusal::Length));
+        let cut = Table::restore(&words[..length], &ledger);
+        assert_eq!(cut, Err(Refusal::Length));
     }
     words.push(0);
-    assert_eq!(Table::restore(&words), Err(Refusal::Length));
+    assert_eq!(Table::restore(&words, &ledger), Err(Refusal::Length));
     words.pop();
     words[0] = 0;
-    assert_eq!(Table::restore(&words), Err(Refusal::Form));
+    assert_eq!(Table::restore(&words, &ledger), Err(Refusal::Form));
+    // As at a release the table is looked at first.
+    assert_eq!(Table::restore(&words, &[]), Err(Refusal::Form));
+}
+
+#[test]
+fn what_is_no_ledger_is_not_restored() {
+    let (table, mut ledger) = (working(), working().ledger().to_vec());
+    let restored = |ledger: &[u32]| Table::restore(table.words(), ledger);
+    for length in [0, 1, LEDGER_WORDS - 1] {
+        assert_eq!(restored(&ledger[..length]), Err(Refusal::Ledger));
+    }
+    ledger.push(0);
+    assert_eq!(restored(&ledger), Err(Refusal::Ledger));
+    ledger.pop();
+    for (position, word) in [(0, 0), (0, 129), (3, 1), (4, 1), (LEDGER_WORDS - 1, 1)] {
+        let mut other = ledger.clone();
+        other[position] = word;
+        assert_eq!(restored(&other), Err(Refusal::Ledger), "word {position}");
+    }
+    // Pairs before the count are not looked at: that they are the right ones is the caller's to see.
+    ledger[1] = 99;
+    assert!(restored(&ledger).is_ok_and(|other| other != table));
 }
 
 #[test]
 fn lent_words_are_the_same_house() {
     let mut table = working();
-    let mut words = table.words().to_vec();
+    let (mut words, mut ledger) = (table.words().to_vec(), *table.ledger());
     assert!(in_form(&words) && !in_form(&words[1..]));
-    assert_eq!(step(&mut words, CRASH), CRASHED);
+    assert_eq!(step(&mut words, &mut ledger, CRASH), CRASHED);
     assert_eq!(table.step(CRASH), CRASHED);
     assert_eq!(table.words()[..], words);
-    assert_eq!(step(&mut words[1..], CRASH), Err(Refusal::Length));
+    assert_eq!(*table.ledger(), ledger);
+    let cut = step(&mut words[1..], &mut ledger, CRASH);
+    assert_eq!(cut, Err(Refusal::Length));
+}
+
+/// A reading for the desk.
+fn reading(sender: u32, payload: u32) -> Step {
+    Step::Send {
+        sender,
+        receiver: DESK,
+        payload,
+    }
+}
+
+/// The later reading is published first: nobody could revoke it.
+#[test]
+fn readings_are_cited_in_the_order_of_publishing() {
+    let mut table = working();
+    assert_eq!(table.step(reading(1, 24)), Ok(Answer::Sent { message: 3 }));
+    assert_eq!(table.step(reading(0, 18)), Ok(Answer::Sent { message: 4 }));
+    let mut released = |message| match table.step(Step::Release { message }) {
+        Ok(Answer::Held { mask, .. }) => (false, mask.bits()),
+        Ok(Answer::Released { mask, .. }) => (true, mask.bits()),
+        other => panic!("{other:?} to a release"),
+    };
+    assert_eq!(released(3), (false, 2));
+    assert_eq!(released(4), (true, 0));
+    let checkpoint = table.step(Step::Checkpoint { controller: 1 });
+    assert_eq!(checkpoint, Ok(Answer::Done));
+    assert!(table.step(Step::Release { message: 3 }).is_ok());
+    let cited = [(1, u32::MAX), (4, 18), (3, 24)];
+    let cited = cited.map(|(message, payload)| Citation { message, payload });
+    assert!(table.citations().eq(cited));
+    assert!(citations(table.ledger()).eq(cited));
+}
+
+/// Only an opening that is done takes them away.
+#[test]
+fn published_readings_stay() {
+    let mut table = working();
+    let ledger = *table.ledger();
+    let delivery = table.step(Step::Deliver { message: 1 });
+    assert_eq!(delivery, Err(Refusal::State));
+    let opening = table.step(Step::Open { n: 9, degree: 0 });
+    assert_eq!(opening, Err(Refusal::Degree));
+    assert_eq!(table.step(CRASH), CRASHED);
+    assert_eq!(*table.ledger(), ledger);
+    let opening = table.step(Step::Open { n: 1, degree: 0 });
+    assert_eq!(opening, Ok(Answer::Done));
+    assert_eq!(*table.ledger(), [0; LEDGER_WORDS]);
+}
+
+/// Words that nobody published have no more citations than they have pairs.
+#[test]
+fn any_words_can_be_cited_from() {
+    assert_eq!(citations(&[]).count(), 0);
+    assert_eq!(citations(&[u32::MAX]).count(), 0);
+    assert_eq!(citations(&[1, 7]).count(), 0);
+    assert_eq!(citations(&[u32::MAX; 6]).count(), 2);
+    assert_eq!(citations(&[u32::MAX; LEDGER_WORDS]).count(), 128);
 }
 
 /// Sixteen threads, each with its own house: each ends as one that was alone.
@@ -80,14 +168,17 @@ fn lent_words_are_the_same_house() {
 fn different_tables_from_several_threads() {
     const ROUNDS: u32 = 15;
     let play = |table: &mut Table| {
-        for _ in 0..ROUNDS {
+        for round in 0..ROUNDS {
             assert!(matches!(table.step(CRASH), Ok(Answer::Crashed { .. })));
+            assert!(table.step(reading(1, round)).is_ok());
+            assert!(table.step(Step::Release { message: 3 + round }).is_ok());
             assert!(table.is_in_form());
         }
         table.step(CRASH)
     };
     let mut alone = working();
     assert_eq!(play(&mut alone), Err(Refusal::IncarnationsUsedUp));
+    assert_eq!(alone.citations().count(), 1 + ROUNDS as usize);
     let house = working();
     thread::scope(|scope| {
         for _ in 0..16 {

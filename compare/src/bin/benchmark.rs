@@ -4,12 +4,14 @@
 //! With the argument `house_reference` it is the program of the reference, so that one command builds
 //! both sides.
 
+use compare::agreement::Lent;
 use compare::house::{self, Session};
 use compare::{in_form, proved};
 use reference::generate::{senseless, Profile, Random, Walk};
+use reference::ledger;
 use reference::lines::{self, Player};
 use reference::machine::{self, Answer, Command};
-use reference::table::{self, Table, LAST_MESSAGE, WORDS};
+use reference::table::{self, Table, DESK, LAST_MESSAGE};
 use std::env;
 use std::hint::black_box;
 use std::io::{self, Read, Write};
@@ -25,7 +27,7 @@ const CHECKS: usize = 3_000;
 /// How often each measure is taken. Every other time the reference goes first.
 const ROUNDS: usize = 9;
 
-type Machine = fn(&mut [u32], Command) -> Answer;
+type Machine = fn(&mut [u32], &mut [u32], Command) -> Answer;
 
 /// A script in two parts: steps that lead to a house, and the steps that are timed.
 struct Mix {
@@ -41,7 +43,7 @@ fn main() -> io::Result<()> {
     if cfg!(debug_assertions) {
         println!("Not a fair run: the reference is built with extra checks. Use --release.");
     }
-    let mixes = [small(), full(), no_sense()];
+    let mixes = [small(), full(), readings(), no_sense()];
     println!("Medians of {ROUNDS} rounds; ratio is proved to reference.\n");
     heading("microseconds a step");
     mixes.iter().for_each(time_steps);
@@ -136,6 +138,25 @@ fn in_full_house(random: &mut Random) -> Command {
     }
 }
 
+/// Readings sent to the desk and published, until the ledger is full and the house is opened anew.
+fn readings() -> Mix {
+    let opening = Command::Open { n: 8, degree: 0 };
+    let published = (1..=LAST_MESSAGE).flat_map(|message| {
+        let sending = Command::Send {
+            sender: message % 8,
+            receiver: DESK,
+            payload: message,
+        };
+        [sending, Command::Release { message }]
+    });
+    let house = std::iter::once(opening).chain(published);
+    Mix {
+        name: "readings published",
+        opening: Vec::new(),
+        steps: house.cycle().take(STEPS).collect(),
+    }
+}
+
 /// Steps with any numbers.
 fn no_sense() -> Mix {
     let mut random = Random::new(2);
@@ -147,13 +168,16 @@ fn no_sense() -> Mix {
 }
 
 impl Mix {
-    /// The table that the opening leads to.
-    fn house(&self) -> Vec<u32> {
-        let mut words = vec![0; WORDS];
+    /// The house that the opening leads to.
+    fn house(&self) -> Lent {
+        let mut house = Lent {
+            table: vec![0; table::WORDS],
+            ledger: vec![0; ledger::WORDS],
+        };
         for &command in &self.opening {
-            machine::step(&mut words, command);
+            machine::step(&mut house.table, &mut house.ledger, command);
         }
-        words
+        house
     }
 
     /// The lines of the whole script.
@@ -164,11 +188,14 @@ impl Mix {
     }
 
     /// The time of all steps with a machine.
-    fn play(&self, house: &[u32], machine: Machine) -> Duration {
-        let mut words = house.to_vec();
+    fn play(&self, house: &Lent, machine: Machine) -> Duration {
+        let Lent {
+            mut table,
+            mut ledger,
+        } = house.clone();
         let start = Instant::now();
         for &command in &self.steps {
-            black_box(machine(&mut words, black_box(command)));
+            black_box(machine(&mut table, &mut ledger, black_box(command)));
         }
         start.elapsed()
     }
@@ -178,13 +205,14 @@ impl Mix {
     /// # Panics
     /// If they differ: there is nothing to be timed then.
     fn outcome(&self) -> Vec<u32> {
-        let (mut words, mut others) = (self.house(), self.house());
+        let (mut house, mut other) = (self.house(), self.house());
         for &command in &self.steps {
-            let answer = proved::step(&mut words, command);
-            assert_eq!(answer, machine::step(&mut others, command), "{command:?}");
+            let answer = house.step(command);
+            let others = machine::step(&mut other.table, &mut other.ledger, command);
+            assert_eq!(answer, others, "{command:?}");
         }
-        assert!(words == others, "{}: the tables differ", self.name);
-        words
+        assert!(house == other, "{}: the houses differ", self.name);
+        house.table
     }
 }
 

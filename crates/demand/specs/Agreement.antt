@@ -17,7 +17,7 @@ use Rattle.model.specs.Invariant.{some-live}
 use Rattle.model.specs.Runs.{part}
 use Rattle.image.specs.Reads.{degree-is, incarnation-is, live-is, stable-is}
 use Rattle.image.specs.Stepped.{modelOf, opening-done}
-use Rattle.demand.specs.Demanded.{follows}
+use Rattle.demand.specs.Demanded.{table-inv, follows}
 
 -- the highest live number of c, and the highest stable one, by its counts
 abbrev pub lastLive : State → ℕ → ℕ
@@ -38,14 +38,14 @@ pub record Agrees (r : Run) (c : ℕ) : Type 0 where
   pub stable : (y : Interval) → member y (r .history .chain c) ≡ true → (r .history .stable y ≡ true) ↔ (y .number ≤ lastStable (state (r .table)) c)
 
 -- they agree after every first part of a list
-pub agrees : (t : List ℕ) (n k : ℕ) (l : List Call) → FromOpening t n k l → (before rest : List Call) → l ≡ before ++ rest →
-    (c : ℕ) → c < n → Agrees (upTo t n k before) c
-agrees t n k l O before rest e c below =
-    let v = part (follows n) t k l O before rest e .inv in
-    let fits = opening-done t n k (O .done) .size-le in
-    let σ = state (upTo t n k before .table) in
+pub agrees : (t g : List ℕ) (n k : ℕ) (l : List Call) → FromOpening t g n k l → (before rest : List Call) → l ≡ before ++ rest →
+    (c : ℕ) → c < n → Agrees (upTo t g n k before) c
+agrees t g n k l O before rest e c below =
+    let v = table-inv (part (follows n) t g k l O before rest e) in
+    let fits = opening-done t g n k (O .done) .size-le in
+    let σ = state (upTo t g n k before .table) in
     let ok = v .controller-ok c below in
-    let controller = modelOf (upTo t n k before .table) .controller c in
+    let controller = modelOf (upTo t g n k before .table) .controller c in
     let d = degree-is σ c (omega arith) in
     let i = incarnation-is σ c (omega arith) in
     let n = live-is σ c (omega arith) in

@@ -1,6 +1,6 @@
--- Beyond demand 3, also for every list: a done opening forgets what stood in the table, each controller that a release names
--- owns what the sender doesn't know to be stable, no delivery answers `dropped` without cause, and where no crash is accepted no
--- call answers `rolled` or `dropped`.
+-- Beyond demand 3, also for every list: a done opening forgets what stood in the table and in the ledger, each controller that a
+-- release names owns what the sender doesn't know to be stable, no delivery answers `dropped` without cause, the ledger says what was
+-- sent to the desk and let out, and where no crash is accepted no call answers `rolled` or `dropped`.
 use mathlib.Core.Path.{_≡_, refl, sym, _∙_, ap, subst}
 use mathlib.Core.Bool.{true, false}
 use mathlib.Core.List.{List, [], _∷_, _++_, append-nil}
@@ -14,7 +14,7 @@ use Rattle.rules.specs.declared.Answer.{Answer}
 use Rattle.rules.specs.declared.Answer.the-variants.{Done, Released, Dropped, Crashed, Rolled}
 use Rattle.rules.specs.declared.Command.the-variants.{Open, Release, Deliver, Crash}
 use Rattle.history.specs.History.{Interval, History, member, joined, stabilized, degreeSet, sentFrom, delivering, logging, checkpointing, opening, answers, fedStep, fed}
-use Rattle.history.specs.Demand.{Run, next, justOpened, RestsOnLost, named, FromOpening, upTo, end}
+use Rattle.history.specs.Demand.{Run, callIn, stepIn, next, justOpened, RestsOnLost, named, FromOpening, upTo, end, Cited}
 use Rattle.model.specs.Model.{Model}
 use Rattle.model.specs.Tests.{fails}
 use Rattle.model.specs.Invariant.{Inv, ext-refl}
@@ -25,12 +25,17 @@ use Rattle.image.specs.Reads.{known-is}
 use Rattle.image.specs.Outcome as O
 use Rattle.image.specs.Outcome.{Outcome}
 use Rattle.image.specs.Stepped.{opening-done}
+use Rattle.testers.specs.Citing.{RunCites, cites-next, cites-opened}
 use Rattle.demand.specs.Demanded.{fed-refused, found, outcome, follows}
 
--- "The list starts from the table that a done opening left, whatever stood in it before": it depends on n and k alone
-pub opening-forgets : (t u : List ℕ) (n k : ℕ) → step t (Open n k) .answer ≡ Done → step u (Open n k) .answer ≡ Done →
-    step t (Open n k) .table ≡ step u (Open n k) .table
-opening-forgets t u n k d e = opening-done t n k d .table-is ∙ sym (opening-done u n k e .table-is)
+-- "The list starts from the table that a done opening left, whatever stood in it before", and from the ledger that it left: the table
+-- depends on n and k alone, the ledger on nothing
+pub opening-forgets : (t g u h : List ℕ) (n k : ℕ) → step t g (Open n k) .answer ≡ Done → step u h (Open n k) .answer ≡ Done →
+    (step t g (Open n k) .table ≡ step u h (Open n k) .table) × (step t g (Open n k) .ledger ≡ step u h (Open n k) .ledger)
+opening-forgets t g u h n k d e =
+    let p = opening-done t g n k d in
+    let q = opening-done u h n k e in
+    (p .table-is ∙ sym (q .table-is), p .ledger-is ∙ sym (q .ledger-is))
 
 -- Why a release of message m, in a run, names c: c owns an interval that the sending interval rests on, and that is not "known
 -- stable" to the sender: its number is above the sender's known word for it.
@@ -56,8 +61,8 @@ Unheard h = (hearer crashed i : ℕ) → h .heard hearer crashed i ≡ false
 -- a delivery that drops message m has its reason
 dropping : {n : ℕ} {μ : Model} {h : History} {m j : ℕ} {μ′ : Model} → Inv n μ h → Outcome n μ (asks (Deliver m)) (Dropped m) j μ′ →
     RestsOnLost h h (h .receiver m) (h .sending m)
-dropping {h = h} v (O.dropped m p l z) =
-    subst (λ c. RestsOnLost h h c (h .sending m)) (sym (v .message-ok m p l .receiver-is)) (dropped-cause v m p l z)
+dropping {h = h} v (O.dropped m p l w z) =
+    subst (λ c. RestsOnLost h h c (h .sending m)) (sym (v .message-ok m p l .receiver-is)) (dropped-cause v m p l w z)
 
 -- the same of an answer that is said to be so
 dropped-reason : {n : ℕ} {μ : Model} {h : History} {m : ℕ} {y : Answer} {j : ℕ} {μ′ : Model} → Inv n μ h → Outcome n μ (asks (Deliver m)) y j μ′ → y ≡ Dropped m →
@@ -79,7 +84,7 @@ module _ {n : ℕ} {μ : Model} {h : History} (v : Inv n μ h) (u : Unheard h) w
   stays-unheard (O.sent s r payload sender receiver ne) o c = u
   stays-unheard (O.released m mask l w) o c = u
   stays-unheard (O.held m mask) o c = u
-  stays-unheard (O.dropped m p l z) o c = u
+  stays-unheard (O.dropped m p l w z) o c = u
   stays-unheard (O.waits m) o c = u
   stays-unheard (O.delivered m d e w) o c = u
   stays-unheard (O.logged d q below pos fits) o c = u
@@ -91,7 +96,7 @@ module _ {n : ℕ} {μ : Model} {h : History} (v : Inv n μ h) (u : Unheard h) w
 
   -- nothing is dropped
   none-dropped : {x : Call} {m j : ℕ} {μ′ : Model} → Outcome n μ x (Dropped m) j μ′ → ⊥
-  none-dropped (O.dropped m p l z) = unheard-not-condemned v (μ .message m .to) (v .message-ok m p l .to-below) (u (μ .message m .to)) (μ .message m .vec) z
+  none-dropped (O.dropped m p l w z) = unheard-not-condemned v (μ .message m .to) w (u (μ .message m .to)) (μ .message m .vec) z
 
   -- and nothing is rolled back
   none-rolled : {x : Call} {b k undone replayed j : ℕ} {μ′ : Model} → Outcome n μ x (Rolled b k undone replayed) j μ′ → ⊥
@@ -102,80 +107,88 @@ module _ {n : ℕ} {μ : Model} {h : History} (v : Inv n μ h) (u : Unheard h) w
   none-undone o (answersRolled b k undone replayed) = none-rolled o
   none-undone o (answersDropped m) = none-dropped o
 
-module _ (t : List ℕ) (n k : ℕ) (l : List Call) (O : FromOpening t n k l) where
+module _ (t g : List ℕ) (n k : ℕ) (l : List Call) (O : FromOpening t g n k l) where
   -- "each release names the controllers that could still revoke it", by what the sender knows: every one that it names has its
   -- reason
   pub release-reasons : (before after : List Call) (m mask : ℕ) → l ≡ before ++ asks (Release m) ∷ after →
-      step (upTo t n k before .table) (Release m) .answer ≡ Released m mask →
-      (c : ℕ) → named mask c ≡ true → Reason (upTo t n k before) m c
+      stepIn (upTo t g n k before) (Release m) .answer ≡ Released m mask →
+      (c : ℕ) → named mask c ≡ true → Reason (upTo t g n k before) m c
   unfolding stepCall
   release-reasons before after m mask e answer c is =
-      let s = in-list (follows n) t k l O before (asks (Release m)) after e .holds in
+      let s = in-list (follows n) t g k l O before (asks (Release m)) after e .holds in
       let v = s .inv in
-      let f = found (outcome (upTo t n k before .table) (asks (Release m)) (s .fits)) answer in
+      let f = found (outcome (asks (Release m)) (s .reads)) answer in
       let q = release-named v m (f .out .pos) (f .out .sent) c (sym (f .out .names c) ∙ is) in
       let begun = v .history .rests-begun _ _ (sending-begun v m (f .out .pos) (f .out .sent)) (q .rests) in
       let sender = v .history .owner-below _ (sending-begun v m (f .out .pos) (f .out .sent)) in
       let owner = v .history .owner-below _ begun in
       let top = v .controller-ok (q .on .owner) owner .body .begun-le (q .on .incarnation) (q .on .number) begun in
-      let fits = opening-done t n k (O .done) .size-le in
+      let fits = opening-done t g n k (O .done) .size-le in
       let is = q .owner-is in
       let unknown = q .unknown in
       let low = f .low (q .on .owner) owner in
-      let sent-by = upTo t n k before .history .sending m .owner in
-      let above : state (upTo t n k before .table) (Known sent-by c (q .on .incarnation)) < q .on .number =
-      omega (arith, known-is (state (upTo t n k before .table)) sent-by (omega arith) c (q .on .incarnation) (omega arith) (omega arith)) in
+      let sent-by = upTo t g n k before .history .sending m .owner in
+      let read = ap (λ (μ : Model). μ .controller sent-by .known c (q .on .incarnation)) (s .reads .model-is) in
+      let above : state (upTo t g n k before .table) (Known sent-by c (q .on .incarnation)) < q .on .number =
+      omega (arith, read, known-is (state (upTo t g n k before .table)) sent-by (omega arith) c (q .on .incarnation) (omega arith) (omega arith)) in
       record { on = q .on; owner-is = q .owner-is; rests = q .rests; unknown = above }
 
   -- and they own every interval that the sending interval rests on and that was not stable at that release, lost or not
   pub release-owners : (before after : List Call) (m mask : ℕ) → l ≡ before ++ asks (Release m) ∷ after →
-      step (upTo t n k before .table) (Release m) .answer ≡ Released m mask →
-      let h = upTo t n k before .history in
+      stepIn (upTo t g n k before) (Release m) .answer ≡ Released m mask →
+      let h = upTo t g n k before .history in
       (y : Interval) → h .rests (h .sending m) y ≡ true → h .stable y ≡ false → named mask (y .owner) ≡ true
   unfolding stepCall
   release-owners before after m mask e answer y rests unstable =
-      let s = in-list (follows n) t k l O before (asks (Release m)) after e .holds in
-      let o = found (outcome (upTo t n k before .table) (asks (Release m)) (s .fits)) answer .out in
-      o .names (y .owner) ∙ release-covers (s .inv) m (o .pos) (o .sent) (ext-refl (upTo t n k before .history)) refl y rests unstable .1
+      let s = in-list (follows n) t g k l O before (asks (Release m)) after e .holds in
+      let o = found (outcome (asks (Release m)) (s .reads)) answer .out in
+      o .names (y .owner) ∙ release-covers (s .inv) m (o .pos) (o .sent) (ext-refl (upTo t g n k before .history)) refl y rests unstable .1
 
   -- "no reading be undone without cause": where a delivery drops its message, the sending interval rests on one lost in a crash
   -- that the receiver has heard. (For hearings this is in demand 3.)
   pub drop-causes : (before after : List Call) (m : ℕ) → l ≡ before ++ asks (Deliver m) ∷ after →
-      step (upTo t n k before .table) (Deliver m) .answer ≡ Dropped m →
-      let h = upTo t n k before .history in
+      stepIn (upTo t g n k before) (Deliver m) .answer ≡ Dropped m →
+      let h = upTo t g n k before .history in
       RestsOnLost h h (h .receiver m) (h .sending m)
   unfolding stepCall
   drop-causes before after m e answer =
-      let s = in-list (follows n) t k l O before (asks (Deliver m)) after e .holds in
-      dropped-reason (s .inv) (outcome (upTo t n k before .table) (asks (Deliver m)) (s .fits)) answer
+      let s = in-list (follows n) t g k l O before (asks (Deliver m)) after e .holds in
+      dropped-reason (s .inv) (outcome (asks (Deliver m)) (s .reads)) answer
 
   -- what is lost anywhere in the list is stable at no time in it
   pub lost-unstable : (before rest : List Call) → l ≡ before ++ rest → (y : Interval) (crash : ℕ) →
-      end t n k l .lost y crash ≡ true → upTo t n k before .history .stable y ≡ false
+      end t g n k l .lost y crash ≡ true → upTo t g n k before .history .stable y ≡ false
   lost-unstable before rest e y crash lost =
-      fails _ (λ z. at-end (follows n) t k l O .inv .history .stable-not-lost y crash (later (follows n) t k l O before rest e .ext .stable-stays y z) lost)
+      fails _ (λ z. at-end (follows n) t g k l O .inv .history .stable-not-lost y crash (later (follows n) t g k l O before rest e .keeps .ext .stable-stays y z) lost)
+
+  -- W2: what a scholar cites is what was sent. The ledger's pairs are, in order, the messages for the desk that the list's releases let
+  -- out, with the payloads of their sends.
+  pub ledger-cites : Cited t g n k l
+  ledger-cites =
+      along (follows n) t g k l O RunCites (cites-opened t g n k (O .done)) (λ before x after e s. cites-next (upTo t g n k before) x (s .unopened)) l []
+      (sym (append-nil l)) .ledger-is
 
   -- where no crash in the list is accepted
   module _ (calm : (before after : List Call) (c : ℕ) → l ≡ before ++ asks (Crash c) ∷ after →
-      CrashAccepted (step (upTo t n k before .table) (Crash c) .answer) → ⊥) where
+      CrashAccepted (stepIn (upTo t g n k before) (Crash c) .answer) → ⊥) where
     -- none is ever heard
-    unheard : (before rest : List Call) → l ≡ before ++ rest → Unheard (upTo t n k before .history)
+    unheard : (before rest : List Call) → l ≡ before ++ rest → Unheard (upTo t g n k before .history)
     unfolding justOpened opening next stepCall
     unheard before rest e =
-        along (follows n) t k l O (λ r. Unheard (r .history)) (λ b a i. refl)
-        (λ first x after f s u. stays-unheard (s .holds .inv) u (outcome (upTo t n k first .table) x (s .holds .fits)) (s .unopened)
-        (λ c g z. calm first after c (f ∙ ap (λ y. first ++ y ∷ after) g) (subst (λ y. CrashAccepted (stepCall (upTo t n k first .table) y .answer)) g z)))
+        along (follows n) t g k l O (λ r. Unheard (r .history)) (λ b a i. refl)
+        (λ first x after f s u. stays-unheard (s .holds .inv) u (outcome x (s .holds .reads)) (s .unopened)
+        (λ c is z. calm first after c (f ∙ ap (λ y. first ++ y ∷ after) is) (subst (λ y. CrashAccepted (callIn (upTo t g n k first) y .answer)) is z)))
         before rest e
 
     -- no call rolls back or drops
     pub nothing-undone : (before after : List Call) (x : Call) → l ≡ before ++ x ∷ after →
-        Undoes (stepCall (upTo t n k before .table) x .answer) → ⊥
+        Undoes (callIn (upTo t g n k before) x .answer) → ⊥
     nothing-undone before after x e =
-        let s = in-list (follows n) t k l O before x after e .holds in
-        none-undone (s .inv) (unheard before (x ∷ after) e) (outcome (upTo t n k before .table) x (s .fits))
+        let s = in-list (follows n) t g k l O before x after e .holds in
+        none-undone (s .inv) (unheard before (x ∷ after) e) (outcome x (s .reads))
 
     -- and every interval that was begun is live at the end
-    pub all-live : (y : Interval) → end t n k l .begun y ≡ true → member y (end t n k l .chain (y .owner)) ≡ true
+    pub all-live : (y : Interval) → end t g n k l .begun y ≡ true → member y (end t g n k l .chain (y .owner)) ≡ true
     all-live y begun =
-        let v = at-end (follows n) t k l O .inv in
+        let v = at-end (follows n) t g k l O .inv in
         unheard-live v (y .owner) (v .history .owner-below y begun) (unheard l [] (sym (append-nil l)) (y .owner)) y refl begun

@@ -1,5 +1,6 @@
--- Demand 3 holds of every list of calls over lent tables: every outcome of a call keeps the invariant of the model.
-use mathlib.Core.Path.{_≡_, refl, sym, _∙_, subst}
+-- Demand 3 holds of every list of calls over a lent table and a lent ledger: every outcome of a call keeps the invariant of the
+-- model.
+use mathlib.Core.Path.{_≡_, refl, sym, subst}
 use mathlib.Core.List.{List}
 use Prim.Native.Nat.{ℕ, _<_}
 use Rattle.table.specs.Layout.{incarnations}
@@ -9,13 +10,13 @@ use Rattle.rules.specs.declared.Answer.{Answer}
 use Rattle.rules.specs.declared.Answer.the-variants.{Released, Refused}
 use Rattle.rules.specs.declared.Command.the-variants.{Open, SetDegree, Send, Release, Deliver, Log, Checkpoint, Tell, Crash, Hear}
 use Rattle.history.specs.History.{History, delivering, answers, valueAt, fedStep, fed}
-use Rattle.history.specs.Demand.{Accepted, FromOpening, Demand3}
+use Rattle.history.specs.Demand.{Run, callIn, next, justOpened, Accepted, FromOpening, Demand3}
 use Rattle.model.specs.Model.{Model, putController, beginController}
 use Rattle.model.specs.Invariant.{Inv}
 use Rattle.model.specs.Keeping.{Keeps, keeps-refl}
 use Rattle.model.specs.Steps.{LetsOut, keeps-degree, keeps-send, keeps-release, keeps-deliver, keeps-log, keeps-checkpoint, keeps-tell}
 use Rattle.model.specs.Recovery.{keeps-crash, keeps-heard, keeps-rolled}
-use Rattle.model.specs.Runs.{NoDoneOpening, Follows, demand3}
+use Rattle.model.specs.Runs.{NoDoneOpening, Holds, Follows, demand3}
 use Rattle.image.specs.Outcome.{Outcome, refused, opened, degree-set, sent, released, held, dropped, waits, delivered, logged, checkpointed, told, crashed, heard, rolled, kept-size}
 use Rattle.image.specs.Stepped.{modelOf, sizeOf, stepped, opening-done}
 
@@ -43,7 +44,7 @@ outcome-keeps (degree-set c k p q) o v = keeps-degree v c k p
 outcome-keeps (sent s r payload sender receiver ne) o v = keeps-send v s r sender receiver
 outcome-keeps (released m mask l w) o v = keeps-release v m (l .pos) (l .sent)
 outcome-keeps (held m mask) o v = keeps-refl v
-outcome-keeps (dropped m p l z) o v = keeps-refl v
+outcome-keeps (dropped m p l w z) o v = keeps-refl v
 outcome-keeps (waits m) o v = keeps-refl v
 outcome-keeps {n} {μ} {h = h} (delivered m c e d) o v =
     subst (λ b. Keeps n μ h (putController μ b (beginController b (μ .controller b) (μ .message m .vec))) (delivering h m)) (sym e) (keeps-deliver v m d)
@@ -73,24 +74,37 @@ released-found (released m mask l w) = record { out = l; low = w }
 pub found : {n : ℕ} {μ : Model} {m echoed mask : ℕ} {y : Answer} {j : ℕ} {μ′ : Model} → Outcome n μ (asks (Release m)) y j μ′ → y ≡ Released echoed mask → Found n μ m mask
 found {n} {μ} {m} {echoed} {mask} {y} {j} {μ′} o e = released-found (subst (λ z. Outcome n μ (asks (Release m)) z j μ′) e o)
 
--- the outcome of a call on a table of a house of n controllers
-pub outcome : {n : ℕ} (t : List ℕ) (x : Call) → sizeOf t ≡ n →
-    Outcome n (modelOf t) x (stepCall t x .answer) (sizeOf (stepCall t x .table)) (modelOf (stepCall t x .table))
-outcome t x e = subst (λ j. Outcome j (modelOf t) x (stepCall t x .answer) (sizeOf (stepCall t x .table)) (modelOf (stepCall t x .table))) e (stepped t x)
+-- a run of a house of n controllers has the model of its table
+pub record ReadOff (n : ℕ) (r : Run) (μ : Model) : Type 0 where
+  pub size-is : sizeOf (r .table) ≡ n
+  pub model-is : modelOf (r .table) ≡ μ
 
--- so the tables of a house of n controllers follow the model
-pub follows : (n : ℕ) → Follows n modelOf (λ t. sizeOf t ≡ n)
-unfolding stepCall
+-- the outcome of a call in such a run
+pub outcome : {n : ℕ} {r : Run} {μ : Model} (x : Call) → ReadOff n r μ →
+    Outcome n μ x (callIn r x .answer) (sizeOf (callIn r x .table)) (modelOf (callIn r x .table))
+outcome {n} {r} {μ} x e =
+    subst (λ j. Outcome j μ x (callIn r x .answer) (sizeOf (callIn r x .table)) (modelOf (callIn r x .table))) (e .size-is)
+    (subst (λ ν. Outcome (sizeOf (r .table)) ν x (callIn r x .answer) (sizeOf (callIn r x .table)) (modelOf (callIn r x .table))) (e .model-is)
+    (stepped (r .table) (r .ledger) x))
+
+-- the invariant of such a run is one of the model of its table
+pub table-inv : {n : ℕ} {r : Run} → Holds n (ReadOff n) r → Inv n (modelOf (r .table)) (r .history)
+table-inv {n} {r} s = subst (λ μ. Inv n μ (r .history)) (sym (s .reads .model-is)) (s .inv)
+
+-- so the runs of a house of n controllers follow the model
+pub follows : (n : ℕ) → Follows n (ReadOff n)
+unfolding justOpened next stepCall
 follows n =
     record {
-      open-fits = λ t k done. opening-done t n k done .size-is;
-      open-reads = λ t k done. opening-done t n k done .model-is;
-      call-fits = λ t x e unopened. kept-size (stepped t x) unopened ∙ e;
-      call-keeps = λ t x h e unopened v. outcome-keeps (outcome t x e) unopened v;
-      hearer-below = λ t b a i e accepted. hearer-below (outcome t (asks (Hear b a i)) e) accepted;
-      lets-out = λ t m echoed mask e answer. found (outcome t (asks (Release m)) e) answer .out;
+      open-reads = λ t g k done. let o = opening-done t g n k done in record { size-is = o .size-is; model-is = o .model-is };
+      call-keeps = λ s x unopened.
+          let o = outcome x (s .reads) in
+          let k = outcome-keeps o unopened (s .inv) in
+          record { holds = record { model = _; reads = record { size-is = kept-size o unopened; model-is = refl }; inv = k .inv }; keeps = k };
+      hearer-below = λ s b a i accepted. hearer-below (outcome (asks (Hear b a i)) (s .reads)) accepted;
+      lets-out = λ s m echoed mask answer. found (outcome (asks (Release m)) (s .reads)) answer .out;
     }
 
--- Demand 3, for every table, opening and list of calls.
-pub demand-3 : (t : List ℕ) (n k : ℕ) (l : List Call) → FromOpening t n k l → Demand3 t n k l
-demand-3 t n k l = demand3 (follows n) t k l
+-- Demand 3, for every table, ledger, opening and list of calls.
+pub demand-3 : (t g : List ℕ) (n k : ℕ) (l : List Call) → FromOpening t g n k l → Demand3 t g n k l
+demand-3 t g n k l = demand3 (follows n) t g k l

@@ -1,4 +1,4 @@
--- A call of the C interface: which step it asks for, what it returns, and what stands in both buffers after it.
+-- A call of the C interface: which step it asks for, what it returns, and what stands in the three buffers after it.
 use mathlib.Core.Path.{_≡_, sym, ap, _∙_}
 use mathlib.Core.Bool.{cond}
 use mathlib.Core.List.{List}
@@ -12,7 +12,7 @@ use Rattle.table.specs.Words.{state}
 use Rattle.rules.specs.Limits.{house}
 use Rattle.rules.specs.Form.{inForm}
 use Rattle.rules.specs.Report.{report}
-use Rattle.rules.specs.Step.{Out, out, step}
+use Rattle.rules.specs.Step.{OutBoth, outBoth, step}
 use Rattle.rules.specs.declared.Answer.{Answer}
 use Rattle.rules.specs.declared.Command.{Command}
 use Rattle.lines.specs.Lines.{stepOf}
@@ -37,19 +37,20 @@ valueWords a = tab valueRoom (λ (i : ℕ). getD (report a .values) i 0)
 pub record Returned : Type 0 where
   pub number : ℕ
   pub table : List ℕ
+  pub ledger : List ℕ
   pub values : List ℕ
 
-abbrev pub returned : ℕ → List ℕ → List ℕ → Returned
-returned r t v = record { number = r; table = t; values = v }
+abbrev pub returned : ℕ → List ℕ → List ℕ → List ℕ → Returned
+returned r t g v = record { number = r; table = t; ledger = g; values = v }
 
 -- an answer's number and values; an unknown letter changes nothing
-unfoldable pub taken : List ℕ → List ℕ → Parsed → Returned
-taken t v (Asks x) = let o = step t x in returned (report (o .answer) .number) (o .table) (valueWords (o .answer))
-taken t v Bad = returned unknownLetter t v
+unfoldable pub taken : List ℕ → List ℕ → List ℕ → Parsed → Returned
+taken t g v (Asks x) = let o = step t g x in returned (report (o .answer) .number) (o .table) (o .ledger) (valueWords (o .answer))
+taken t g v Bad = returned unknownLetter t g v
 
 -- neither does a value buffer of another length, which is looked at first; no step has a fourth number d
-unfoldable pub call : List ℕ → List ℕ → ℕ → ℕ → ℕ → ℕ → ℕ → Returned
-call t v letter a b c d = cond (length v == valueRoom) (taken t v (stepOf letter a b c)) (returned wrongValues t v)
+unfoldable pub call : List ℕ → List ℕ → List ℕ → ℕ → ℕ → ℕ → ℕ → ℕ → Returned
+call t g v letter a b c d = cond (length v == valueRoom) (taken t g v (stepOf letter a b c)) (returned wrongValues t g v)
 
 -- whether a table is in form, as a number
 abbrev pub formed : ℕ
@@ -67,17 +68,18 @@ unfolding valueWords
 value-count a = length-tab valueRoom _
 
 -- what a step that was taken has to show
-pub step-taken : (t v : List ℕ) (x : Command) {u w : List ℕ} {y : Answer} {r : ℕ} → out y u ≡ step t x → r ≡ report y .number → w ≡ valueWords y → returned r u w ≡ taken t v (Asks x)
+pub step-taken : (t g v : List ℕ) (x : Command) {u h w : List ℕ} {y : Answer} {r : ℕ} → outBoth y u h ≡ step t g x → r ≡ report y .number → w ≡ valueWords y →
+    returned r u h w ≡ taken t g v (Asks x)
 unfolding taken
-step-taken t v x {u} {w} {y} {r} s n m =
-    (λ d. returned (n d) u (m d)) ∙ ap (λ (o : Out). returned (report (o .answer) .number) (o .table) (valueWords (o .answer))) s
+step-taken t g v x {u} {h} {w} {y} {r} s n m =
+    (λ d. returned (n d) u h (m d)) ∙ ap (λ (o : OutBoth). returned (report (o .answer) .number) (o .table) (o .ledger) (valueWords (o .answer))) s
 
 -- what a call has to show: the buffer has another length, or what the letter asks for was done
-module _ (t v : List ℕ) (l a b c d : ℕ) where
-  pub wrong-values : (length v ≡ valueRoom → ⊥) → returned wrongValues t v ≡ call t v l a b c d
+module _ (t g v : List ℕ) (l a b c d : ℕ) where
+  pub wrong-values : (length v ≡ valueRoom → ⊥) → returned wrongValues t g v ≡ call t g v l a b c d
   unfolding call
   wrong-values ne = rw (ne-eqb (length v) valueRoom ne)
 
-  pub letter-taken : {p : Parsed} {r : Returned} → length v ≡ valueRoom → stepOf l a b c ≡ p → r ≡ taken t v p → r ≡ call t v l a b c d
+  pub letter-taken : {p : Parsed} {r : Returned} → length v ≡ valueRoom → stepOf l a b c ≡ p → r ≡ taken t g v p → r ≡ call t g v l a b c d
   unfolding call
   letter-taken e q h = h ∙ sym (rw (eq-eqb (length v) valueRoom e, q))

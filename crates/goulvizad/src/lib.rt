@@ -43,11 +43,11 @@ fn report(a: Answer) -> Reported
 }
 
 // A step that is asked for, and its answer for a value buffer of the right length.
-fn take_step(t: &mut [u32], x: Command, values: &mut [u32]) -> u32
+fn take_step(t: &mut [u32], g: &mut [u32], x: Command, values: &mut [u32]) -> u32
     requires { ⌜ length (now values) ≡ valueRoom ⌝ }
-    ensures { λ r. ⌜ returned r (now (t .exit)) (now (values .exit)) ≡ taken (now (t .entry)) (now (values .entry)) (Asks x) ⌝ }
+    ensures { λ r. ⌜ returned r (now (t .exit)) (now (g .exit)) (now (values .exit)) ≡ taken (now (t .entry)) (now (g .entry)) (now (values .entry)) (Asks x) ⌝ }
 {
-    let answer = machine::step(t, x);
+    let answer = machine::step(t, g, x);
     let r = report(answer);
     let v = r.1;
     table::copy_words(values, &v);
@@ -58,6 +58,7 @@ fn take_step(t: &mut [u32], x: Command, values: &mut [u32]) -> u32
 #[no_mangle]
 pub extern "C" fn goulvizad_step(
     t: &mut [u32],
+    g: &mut [u32],
     letter: u32,
     a: u32,
     b: u32,
@@ -65,7 +66,7 @@ pub extern "C" fn goulvizad_step(
     d: u32,
     values: &mut [u32],
 ) -> u32
-    ensures { λ r. ⌜ returned r (now (t .exit)) (now (values .exit)) ≡ call (now (t .entry)) (now (values .entry)) letter a b c d ⌝ }
+    ensures { λ r. ⌜ returned r (now (t .exit)) (now (g .exit)) (now (values .exit)) ≡ call (now (t .entry)) (now (g .entry)) (now (values .entry)) letter a b c d ⌝ }
 {
     if values.len() != VALUES {
         return WRONG_VALUES;
@@ -73,7 +74,7 @@ pub extern "C" fn goulvizad_step(
     let Parsed::Asks(x) = parsing::step_of(letter, a, b, c) else {
         return UNKNOWN_LETTER;
     };
-    take_step(t, x, values)
+    take_step(t, g, x, values)
 }
 
 // Whether the table has its length and is in form.

@@ -1,4 +1,4 @@
--- Demand 3 of the minutes, about lists of calls over the words of a lent table.
+-- Demand 3 of the minutes with what request W2 adds to it, about lists of calls over the words of a lent table and a lent ledger.
 use mathlib.Core.Path.{_≡_}
 use mathlib.Core.Bool.{Bool, true, false}
 use mathlib.Core.List.{List, [], _∷_, _++_}
@@ -6,27 +6,44 @@ use mathlib.Core.Logic.{_↔_, _≢_}
 use Prim.Native.Nat.{ℕ, _+_, _^_, _/_, _%_, _≤_, _<_}
 use lib.Count.{ones}
 use Rattle.base.specs.Choice.{_==_}
-use Rattle.rules.specs.Step.{step, Call, asks, stepCall}
+use Rattle.table.specs.Field.{desk}
+use Rattle.rules.specs.Step.{OutBoth, step, Call, asks, stepCall}
 use Rattle.rules.specs.declared.Answer.{Answer}
 use Rattle.rules.specs.declared.Answer.the-variants.{Done, Released, Heard, Rolled}
+use Rattle.rules.specs.declared.Command.{Command}
 use Rattle.rules.specs.declared.Command.the-variants.{Open, Release, Hear}
 use Rattle.history.specs.History.{Interval, History, member, opening, fed}
+use Rattle.history.specs.Citations.{Citations, noCitations, cited, ledgerOf}
 
--- "each getting the table the last one left": the table, and the history fed with the steps and their answers
+-- "each getting the table the last one left", and the ledger: both, and the history and the citations, fed with the steps and
+-- their answers
 pub record Run : Type 0 where
   pub table : List ℕ
+  pub ledger : List ℕ
   pub history : History
+  pub citations : Citations
+
+-- what a call does in a run, and what one step does
+abbrev pub callIn : Run → Call → OutBoth
+callIn r x = stepCall (r .table) (r .ledger) x
+
+abbrev pub stepIn : Run → Command → OutBoth
+stepIn r x = step (r .table) (r .ledger) x
 
 unfoldable pub next : Call → Run → Run
-next x r = let o = stepCall (r .table) x in record { table = o .table; history = fed x (o .answer) (r .history) }
+next x r =
+    let o = callIn r x in
+    record { table = o .table; ledger = o .ledger; history = fed x (o .answer) (r .history); citations = cited x (o .answer) (r .citations) }
 
 unfoldable pub runs : Run → List Call → Run
 runs r [] = r
 runs r (x ∷ l) = runs (next x r) l
 
--- "in a house just opened": from the table that the opening left, whatever stood in it before
-unfoldable pub justOpened : List ℕ → ℕ → ℕ → Run
-justOpened t n k = record { table = step t (Open n k) .table; history = opening n k }
+-- "in a house just opened": from the table and the ledger that the opening left, whatever stood in them before
+unfoldable pub justOpened : List ℕ → List ℕ → ℕ → ℕ → Run
+justOpened t g n k =
+    let o = step t g (Open n k) in
+    record { table = o .table; ledger = o .ledger; history = opening n k; citations = noCitations }
 
 -- a hearing is accepted
 pub data Accepted : Answer → Type 0 where
@@ -46,16 +63,16 @@ pub record RestsOnLost (whole then : History) (hearer : ℕ) (y : Interval) : Ty
 abbrev pub named : ℕ → ℕ → Bool
 named mask c = (mask / 2 ^ c) % 2 == 1
 
--- lists from the opening of t with n and k
-module _ (t : List ℕ) (n k : ℕ) where
+-- lists from the opening of t, beside the ledger g, with n and k
+module _ (t g : List ℕ) (n k : ℕ) where
   -- the run after the first part of a list
   abbrev pub upTo : List Call → Run
-  upTo before = runs (justOpened t n k) before
+  upTo before = runs (justOpened t g n k) before
 
   -- The opening is done, and no opening in the list is: a done opening begins a new list.
   pub record FromOpening (l : List Call) : Type 0 where
-    pub done : step t (Open n k) .answer ≡ Done
-    pub no-opening : (before after : List Call) (size degree : ℕ) → l ≡ before ++ asks (Open size degree) ∷ after → step (upTo before .table) (Open size degree) .answer ≢ Done
+    pub done : step t g (Open n k) .answer ≡ Done
+    pub no-opening : (before after : List Call) (size degree : ℕ) → l ≡ before ++ asks (Open size degree) ∷ after → stepIn (upTo before) (Open size degree) .answer ≢ Done
 
   module _ (l : List Call) where
     -- the history at the end of the list
@@ -66,7 +83,7 @@ module _ (t : List ℕ) (n k : ℕ) where
       -- "Every accepted hearing in the list undid exactly those live intervals of its controller that rest, through deliveries and
       -- their controllers' earlier intervals, on one lost in a crash which that controller has heard by then."
       pub hearings : (before after : List Call) (hearer crashed i : ℕ) → l ≡ before ++ asks (Hear hearer crashed i) ∷ after →
-          Accepted (step (upTo before .table) (Hear hearer crashed i) .answer) →
+          Accepted (stepIn (upTo before) (Hear hearer crashed i) .answer) →
           (y : Interval) → member y (upTo before .history .chain hearer) ≡ true →
           let then = next (asks (Hear hearer crashed i)) (upTo before) .history in
           (member y (then .chain hearer) ≡ false) ↔ RestsOnLost end then hearer y
@@ -74,12 +91,24 @@ module _ (t : List ℕ) (n k : ℕ) where
       pub live : (c : ℕ) → c < n → (y : Interval) → member y (end .chain c) ≡ true → RestsOnLost end end c y → ⊥
       -- "Each message that a release in the list let out under a degree K was let out with at most K controllers named";
       pub degrees : (before after : List Call) (m echoed mask : ℕ) → l ≡ before ++ asks (Release m) ∷ after →
-          step (upTo before .table) (Release m) .answer ≡ Released echoed mask →
+          stepIn (upTo before) (Release m) .answer ≡ Released echoed mask →
           let h = upTo before .history in
           ones mask ≤ h .degree (h .sending m .owner)
       -- "these own every interval that its sending interval rests on, that wasn't stable at that release, and that is lost
       -- anywhere in the list, before it or after."
       pub releases : (before after : List Call) (m echoed mask : ℕ) → l ≡ before ++ asks (Release m) ∷ after →
-          step (upTo before .table) (Release m) .answer ≡ Released echoed mask →
+          stepIn (upTo before) (Release m) .answer ≡ Released echoed mask →
           (y : Interval) (crash : ℕ) → end .rests (end .sending m) y ≡ true → upTo before .history .stable y ≡ false → end .lost y crash ≡ true →
           named mask (y .owner) ≡ true
+      -- W2: "the sending interval of a published message is never lost or undone in any later steps before an opening": a message
+      -- for the desk that a release in the list let out was let out with nobody named, and its sending interval is live at the end
+      -- of the list, and lost in no crash. (Each first part of a list is a list, so it was live after every step from there on.)
+      pub published : (before after : List Call) (m echoed mask : ℕ) → l ≡ before ++ asks (Release m) ∷ after →
+          stepIn (upTo before) (Release m) .answer ≡ Released echoed mask → upTo before .history .receiver m ≡ desk →
+          let y = upTo before .history .sending m in
+          (mask ≡ 0) × (member y (end .chain (y .owner)) ≡ true) × ((crash : ℕ) → end .lost y crash ≡ false)
+
+    -- W2, beyond demand 3: what a scholar cites is what was sent. At the end of the list the ledger has, in their order, exactly the
+    -- messages for the desk that the list's releases let out, with the payloads of their sends.
+    abbrev pub Cited : Type 0
+    Cited = upTo l .ledger ≡ ledgerOf (upTo l .citations .published)

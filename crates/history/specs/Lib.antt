@@ -1,3 +1,4 @@
 pub mod History
+pub mod Citations
 pub mod Demand
 pub mod Examples

@@ -1,4 +1,5 @@
--- The room that the program has for what it reads and for what it writes. With its table it fits on a stack of 128 KB.
+-- The room that the program has for what it reads and for what it writes. With its table and its ledger it fits on a stack of
+-- 128 KB.
 use Prim.Native.Nat.{ℕ, _*_}
 use Rattle.printing.specs.Parts.{answerRoom}
 

@@ -5,7 +5,7 @@ ghost use lib.ListN.{length};
 use printing::ANSWER_ROOM;
 use session::LINE_ROOM;
 
-// With its table the program fits on a stack of 128 KB.
+// With its table and its ledger the program fits on a stack of 128 KB.
 const READ_ROOM: usize = 512;
 
 // Each byte that is read may end a line.
@@ -71,6 +71,7 @@ fn read_in(bytes: &mut [u8]) -> isize {
 
 fn main() {
     let mut table = [0u32; 15152];
+    let mut ledger = [0u32; 257];
     let mut line = [0u8; LINE_ROOM];
     let mut bytes = [0u8; READ_ROOM];
     let mut out = [0u8; OUT_ROOM];
@@ -83,7 +84,14 @@ fn main() {
             return;
         }
         let n = io::count(got, &bytes);
-        let p = session::serve(&mut table, &mut line, kept, &bytes[..n], &mut out);
+        let p = session::serve(
+            &mut table,
+            &mut ledger,
+            &mut line,
+            kept,
+            &bytes[..n],
+            &mut out,
+        );
         kept = p.line;
         let owed = p.owed;
         if !write_out(&out, owed) {

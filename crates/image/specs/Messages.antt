@@ -12,7 +12,7 @@ use Rattle.table.specs.Layout.{controllers, messages, messageWords}
 use Rattle.table.specs.Words.{Agree, agree-part}
 use Rattle.table.specs.Numbering.{numberOf, used, nextMessage, recordOf, number-from, place-of-count, record-one, posted, posted-used, posted-last, posted-new, posted-record, posted-number, posted-at, posted-kept, posted-missing, numbering-vector, Numbered, numbers-part, used-agree, last-agree}
 use Rattle.rules.specs.Vector.{Vector, placeVector, messageVector, flat, filtered}
-use Rattle.rules.specs.Form.{stateHeld, stateReleased}
+use Rattle.rules.specs.Form.{stateHeld}
 use Rattle.rules.specs.Shared.{newestPlace}
 use Rattle.rules.specs.Steps.{messageRecord, sent, letOut}
 use Rattle.history.specs.History.{Interval, interval}
@@ -184,12 +184,12 @@ module _ (σ : State) (z : Tight σ) (r : ℕ) (v : Vector) (room : r < messages
       other : (q : ℕ) → q ≢ r → modelMessage ρ q ≡ modelMessage σ q
       other q ne = message-frame σ ρ q (λ k _. part-other σ (OfMessage r 0) (OfMessage q k) messageHead (flat v) (λ n h e. ne (cc)))
 
--- R, on the words of a state
-pub image-letOut : (σ : State) → Form σ → (m : ℕ) → recordOf σ m < used σ →
+-- R, on the words of a state, whatever state the message is then in
+pub image-letOut : (σ : State) → Form σ → (m st : ℕ) → recordOf σ m < used σ →
     let r = recordOf σ m in
-    image (letOut σ r (filtered σ (σ (Sender r)) (messageVector σ r))) ≡ releaseMessage (image σ) m
+    image (letOut σ r (filtered σ (σ (Sender r)) (messageVector σ r)) st) ≡ releaseMessage (image σ) m
 unfolding image letOut releaseMessage releasedVec decode modelMessage
-image-letOut σ f m l =
+image-letOut σ f m st l =
     let r = recordOf σ m in
     let g = messageForm f r l in
     let sender = σ (Sender r) in
@@ -204,7 +204,7 @@ image-letOut σ f m l =
     let long : length (v ω) ≡ controllers = length-filtered ω sender _ in
     let here : modelMessage ω r ≡ decode ω .message m = sym (image-message σ m l (f .used-le)) in
     let owner : sender ≡ decode ω .message m .from .owner = sym (view-at σ (Sender r) (rl, omega arith)) ∙ ap (λ (g : Message). g .from .owner) here in
-    image-state (rule σ) r stateReleased
+    image-state (rule σ) r st
     ∙ image-rule rule σ (subst (λ u. Agree (rule σ) (putPart ω (OfMessage r 0) messageHead (flat u))) w (agree-part σ ω (OfMessage r 0) messageHead (flat (v σ)) e))
     (tight-ρ ω z r (v ω) rl long)
     ∙ decode-let ω z r (v ω) rl long m (record-seen σ m l (f .used-le)) (omega (arith, used-agree σ ω e))

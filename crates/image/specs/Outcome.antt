@@ -8,6 +8,7 @@ use Rattle.rules.specs.declared.Answer.{Answer}
 use Rattle.rules.specs.declared.Answer.the-variants.{Done, Sent, Released, Held, Delivered, Dropped, Waits, Crashed, Heard, Rolled, Refused}
 use Rattle.rules.specs.declared.Command.the-variants.{Open, SetDegree, Send, Release, Deliver, Log, Checkpoint, Tell, Crash, Hear}
 use Rattle.model.specs.Model.{Model, putController, degreeController, logController, loggedController, tellController, endController, beginController, anewController, sendMessage, releaseMessage, openModel}
+use Rattle.model.specs.Invariant.{Receives}
 use Rattle.model.specs.Vectors.{Condemned}
 use Rattle.model.specs.Steps.{Delivers, LetsOut}
 use Rattle.model.specs.Recovery.{HearsOf, notedController, NoneCondemned, LowestCondemned}
@@ -19,11 +20,12 @@ module _ (n : ℕ) (μ : Model) where
     refused : (x : Call) (number : ℕ) → Outcome x (Refused number) n μ
     opened : (j k : ℕ) → 1 ≤ j → j ≤ controllers → k ≤ j → Outcome (asks (Open j k)) Done j (openModel j k)
     degree-set : (c k : ℕ) → c < n → k ≤ n → Outcome (asks (SetDegree c k)) Done n (putController μ c (degreeController (μ .controller c) k))
-    sent : (sender receiver payload : ℕ) → sender < n → receiver < n → sender ≢ receiver →
+    sent : (sender receiver payload : ℕ) → sender < n → Receives n receiver → sender ≢ receiver →
         Outcome (asks (Send sender receiver payload)) (Sent (μ .sent + 1)) n (sendMessage μ (μ .sent + 1) sender receiver)
     released : (m mask : ℕ) → LetsOut μ m mask → ((c : ℕ) → c < n → μ .controller c .incarnation < incarnations) → Outcome (asks (Release m)) (Released m mask) n (releaseMessage μ m)
     held : (m mask : ℕ) → Outcome (asks (Release m)) (Held m mask) n μ
-    dropped : (m : ℕ) → 1 ≤ m → m ≤ μ .sent → Condemned n (μ .controller (μ .message m .to)) (μ .message m .vec) → Outcome (asks (Deliver m)) (Dropped m) n μ
+    dropped : (m : ℕ) → 1 ≤ m → m ≤ μ .sent → μ .message m .to < n → Condemned n (μ .controller (μ .message m .to)) (μ .message m .vec) →
+        Outcome (asks (Deliver m)) (Dropped m) n μ
     waits : (m : ℕ) → Outcome (asks (Deliver m)) (Waits m) n μ
     delivered : (m c : ℕ) → c ≡ μ .message m .to → Delivers n μ m →
         Outcome (asks (Deliver m)) (Delivered m (μ .controller c .incarnation) (μ .controller c .live + 1)) n (putController μ c (beginController c (μ .controller c) (μ .message m .vec)))
@@ -48,7 +50,7 @@ kept-size (degree-set c k p q) o = refl
 kept-size (sent sender receiver payload p q ne) o = refl
 kept-size (released m mask h w) o = refl
 kept-size (held m mask) o = refl
-kept-size (dropped m p l z) o = refl
+kept-size (dropped m p l w z) o = refl
 kept-size (waits m) o = refl
 kept-size (delivered m c e h) o = refl
 kept-size (logged c q h i l) o = refl

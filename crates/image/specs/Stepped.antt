@@ -1,38 +1,41 @@
--- Every step on a state, and on a table, is one of the outcomes.
+-- Every step on a state and a ledger, and on the lent buffers, is one of the outcomes.
 use mathlib.Core.Path.{_≡_, refl, sym, ap, ap₂, _∙_, subst}
 use mathlib.Core.Bool.{true, false, not, _&&_}
 use mathlib.Core.List.{List}
+use mathlib.Core.Logic.{inl, inr}
 use Prim.Native.Nat.{ℕ, _+_, _-_, _≤_, _<_}
 use native.Mathlib.Omega.{arith}
-use lib.Count.{ones}
+use lib.Count.{ones, onesIn}
 use lib.ListN.{length}
-use borrow.Author.Tests.{eqb-true, leb-true, leb-false, not-false}
-use Rattle.base.specs.Choice.{_==_, _≤?_, _<?_, cond-ind}
+use borrow.Author.Tests.{eqb-true, eq-eqb, leb-true, leb-false, le-leb, not-false}
+use Rattle.base.specs.Choice.{_==_, _≤?_, _<?_, cond-ind, le?}
 use Rattle.base.specs.Cases.{Case, firstOf}
-use Rattle.table.specs.Field.{State, Size, Degree, Incarnation, LiveCount, StableCount, Sender, Receiver, same}
+use Rattle.table.specs.Field.{State, Size, Degree, Incarnation, LiveCount, StableCount, Sender, Receiver, desk, same}
 use Rattle.table.specs.Change.{put, putPart, clearPlaces, putStates}
 use Rattle.table.specs.Layout.{controllers, places, tableWords}
 use Rattle.table.specs.Numbering.{numberOf, used, recordOf, number-from, number-next, number-add, place-of-count, present-pos, present-given, posted-size}
 use Rattle.table.specs.Words.{state, words, word-at}
 use Rattle.rules.specs.Limits.{house, lastIncarnation}
-use Rattle.rules.specs.Refusal.{LENGTH, FORM, PLACES-USED-UP, INCARNATIONS-USED-UP}
+use Rattle.rules.specs.Refusal.{LENGTH, FORM, PLACES-USED-UP, INCARNATIONS-USED-UP, LEDGER-USED-UP}
 use Rattle.rules.specs.Vector.{Vector, placeVector, messageVector, filtered, condemned, mask, conflict}
-use Rattle.rules.specs.Form.{inForm, stateDropped, stateHeld, stateReleased}
+use Rattle.rules.specs.Form.{inForm, stateReleased, stateDropped, statePublished, forDesk}
+use Rattle.rules.specs.Ledger.{countOf, blankLedger}
 use Rattle.rules.specs.Shared.{newestPlace, logged, loggedTo, causesIn, causes, placed, entered, restarted, dropHeld, startAnew, removed, replayed}
-use Rattle.rules.specs.Steps.{After, refusing, openHouse, openRefusals, stepOpen, degreeRefusals, stepDegree, sent, sendRefusals, stepSend, letOut, release, messageRefusals, stepRelease, intervalAdded, intervalBegins, deliver, stepDeliver, logRefusals, stepLog, checkpointed, checkpointRefusals, stepCheckpoint, told, tellRefusals, stepTell, crashed, crashRefusals, stepCrash, noted, lowestCondemned, rolledBack, hear, hearRefusals, stepHear}
-use Rattle.rules.specs.Step.{perform, looksAtForm, stepOn, Out, lent, step, Call, asks, stepCall}
+use Rattle.rules.specs.Steps.{After, after, refusing, AfterBoth, refusingBoth, openHouse, openRefusals, stepOpen, degreeRefusals, stepDegree, sent, noReceiver, sendRefusals, stepSend, messageRefusals, letOut, mayGo, release, releaseRefusals, stepRelease, intervalAdded, intervalBegins, deliver, stepDeliver, logRefusals, stepLog, checkpointed, checkpointRefusals, stepCheckpoint, told, tellRefusals, stepTell, crashed, crashRefusals, stepCrash, noted, lowestCondemned, rolledBack, hear, hearRefusals, stepHear}
+use Rattle.rules.specs.Step.{perform, looksAtForm, stepOn, OutBoth, writtenBoth, lent, step, Call, asks, stepCall}
 use Rattle.rules.specs.declared.Answer.{Answer}
 use Rattle.rules.specs.declared.Answer.the-variants.{Done, Sent, Delivered, Crashed, Refused}
 use Rattle.rules.specs.declared.Command.{Command}
 use Rattle.rules.specs.declared.Command.the-variants.{Open, SetDegree, Send, Release, Deliver, Log, Checkpoint, Tell, Crash, Hear}
 use Rattle.history.specs.History.{Interval}
 use Rattle.model.specs.Model as M
+use Rattle.model.specs.Invariant.{Receives}
 use Rattle.model.specs.Vectors.{Condemned}
 use Rattle.model.specs.Beginning.{Compatible}
 use Rattle.model.specs.Steps.{Delivers, LetsOut}
 use Rattle.model.specs.Recovery.{HearsOf, notedController, NoneCondemned, LowestCondemned}
-use Rattle.laws.specs.Facts.{Form, form, controllerForm, messageForm}
-use Rattle.laws.specs.Allowed.{openAllowed, degreeAllowed, sendAllowed, messageAllowed, logAllowed, checkpointAllowed, tellAllowed, crashAllowed, hearAllowed}
+use Rattle.laws.specs.Facts.{Form, form, controllerForm, messageForm, released-lt}
+use Rattle.laws.specs.Allowed.{openAllowed, degreeAllowed, sendAllowed, messageAllowed, releaseAllowed, logAllowed, checkpointAllowed, tellAllowed, crashAllowed, hearAllowed}
 use Rattle.laws.specs.Chain.{Starts, chain-form}
 use Rattle.laws.specs.Found.{lowest}
 use Rattle.image.specs.Image.{image, image-same, putController-own}
@@ -53,6 +56,10 @@ use Rattle.image.specs.Outcome.{Outcome}
 abbrev pub Stepped : State → Command → After → Type 0
 Stepped σ x o = Outcome (σ Size) (image σ) (asks x) (o .answer) (o .left Size) (image (o .left))
 
+-- the same of a step on both buffers; no outcome speaks of the ledger
+abbrev pub SteppedBoth : State → Command → AfterBoth → Type 0
+SteppedBoth σ x o = Stepped σ x (after (o .answer) (o .left))
+
 -- the same with another writing of the answer, the size and the model
 outcome-as : (n : ℕ) (μ : M.Model) (x : Call) {a b : Answer} {j k : ℕ} {p q : M.Model} → a ≡ b → j ≡ k → p ≡ q → Outcome n μ x b k q → Outcome n μ x a j p
 outcome-as n μ x {b = b} {j = j} {p = p} e s h o = subst (λ z. Outcome n μ x z j p) (sym e) (subst (λ z. Outcome n μ x b z p) (sym s) (subst (Outcome n μ x b _) (sym h) o))
@@ -62,18 +69,37 @@ stepped-refusing : (σ : State) (x : Command) (cases : List Case) (o : After) �
 unfolding refusing
 stepped-refusing σ x cases o h = cond-ind (Stepped σ x) (firstOf cases == 0) (λ e. h (sym (eqb-true (firstOf cases) 0 e))) (λ e. O.refused (asks x) (firstOf cases))
 
+-- a step on both buffers after its refusals
+stepped-refusing-both : (σ : State) (g : List ℕ) (x : Command) (cases : List Case) (o : AfterBoth) → (0 ≡ firstOf cases → SteppedBoth σ x o) →
+    SteppedBoth σ x (refusingBoth cases σ g o)
+unfolding refusingBoth
+stepped-refusing-both σ g x cases o h =
+    cond-ind (SteppedBoth σ x) (firstOf cases == 0) (λ e. h (sym (eqb-true (firstOf cases) 0 e))) (λ e. O.refused (asks x) (firstOf cases))
+
 -- O
-stepped-open : (σ : State) (n k : ℕ) → Stepped σ (Open n k) (stepOpen σ n k)
+stepped-open : (σ : State) (g : List ℕ) (n k : ℕ) → SteppedBoth σ (Open n k) (stepOpen house σ g n k)
 unfolding stepOpen openHouse
-stepped-open σ n k =
-    stepped-refusing σ (Open n k) (openRefusals n k) _
-    (λ e. let d = openAllowed n k e in
+stepped-open σ g n k =
+    stepped-refusing-both σ g (Open n k) (openRefusals house g n k) _
+    (λ e. let d = openAllowed g n k e in
     outcome-as _ _ (asks (Open n k)) refl refl (image-opened n k (d .size-le)) (O.opened n k (d .size-pos) (d .size-le) (d .degree-le)))
 
 -- no rule but opening writes the number of controllers
 loggedTo-size : (σ : State) (c k : ℕ) → loggedTo σ c k Size ≡ σ Size
 unfolding loggedTo logged put same
 loggedTo-size σ c k = cond-ind (λ (τ : State). τ Size ≡ σ Size) (σ (StableCount c) <? k) (λ e. refl) (λ e. refl)
+
+-- a message that may go names no more than its sender's degree
+go-few : (σ : State) (r names : ℕ) → mayGo σ r names ≡ true → ones names ≤ σ (Degree (σ (Sender r)))
+unfolding mayGo ones onesIn
+go-few σ r names =
+    let degree = σ (Degree (σ (Sender r))) in
+    cond-ind (λ b. b ≡ true → ones names ≤ degree) (forDesk σ r) (λ d e. subst (λ x. ones x ≤ degree) (sym (eqb-true names 0 e)) (omega arith)) (λ d e. leb-true (ones names) degree e)
+
+-- and nobody where it is for the desk
+go-none : (σ : State) (r names : ℕ) → mayGo σ r names ≡ true → σ (Receiver r) ≡ desk → names ≡ 0
+unfolding mayGo
+go-none σ r names e d = eqb-true names 0 (rw (eq-eqb (σ (Receiver r)) desk d) at e)
 
 module _ (σ : State) (f : Form σ) (m : ℕ) (l : recordOf σ m < used σ) where
   abbrev r : ℕ
@@ -84,10 +110,9 @@ module _ (σ : State) (f : Form σ) (m : ℕ) (l : recordOf σ m < used σ) wher
   was-sent = omega (arith, sent-is σ, present-given σ m l)
 
   -- message m can be let out, where its filtered vector has this mask
-  release-found : let sender = σ (Sender r) in
-      let v = filtered σ sender (messageVector σ r) in
-      ones (mask v) ≤ σ (Degree sender) → LetsOut (image σ) m (mask v)
-  release-found few =
+  release-found : let v = filtered σ (σ (Sender r)) (messageVector σ r) in
+      mayGo σ r (mask v) ≡ true → LetsOut (image σ) m (mask v)
+  release-found goes =
       let g = messageForm f r l in
       let sender = σ (Sender r) in
       let v = filtered σ sender (messageVector σ r) in
@@ -95,9 +120,10 @@ module _ (σ : State) (f : Form σ) (m : ℕ) (l : recordOf σ m < used σ) wher
       record {
         pos = present-pos σ m l;
         sent = was-sent;
-        within = subst (λ b. ones (mask v) ≤ image σ .controller b .degree) owner (omega (arith, degree-is σ sender (omega arith)));
+        within = subst (λ b. ones (mask v) ≤ image σ .controller b .degree) owner (omega (arith, degree-is σ sender (omega arith), go-few σ r (mask v) goes));
         names = λ owner.
             named-is v (length-filtered σ sender (messageVector σ r)) owner ∙ ap (λ (w : M.Vec). M.full (w owner)) (released-is σ f m l);
+        desk-none = λ e. go-none σ r (mask v) goes (sym (to-is σ m l (f .used-le)) ∙ e);
       }
 
   -- the receiver of message m
@@ -117,34 +143,35 @@ module _ (σ : State) (f : Form σ) (m : ℕ) (l : recordOf σ m < used σ) wher
   theirs-is = sym (message-vec-is σ m l (f .used-le))
 
   -- message m is condemned to its receiver
-  drop-found : condemned σ receiver theirs ≡ true → Condemned (σ Size) (image σ .controller (image σ .message m .to)) (image σ .message m .vec)
-  drop-found e =
+  drop-found : receiver < σ Size → condemned σ receiver theirs ≡ true → Condemned (σ Size) (image σ .controller (image σ .message m .to)) (image σ .message m .vec)
+  drop-found h e =
       let g = messageForm f r l in
       subst (λ c. Condemned (σ Size) (image σ .controller c) (image σ .message m .vec)) receiver-is
       (subst (Condemned (σ Size) (image σ .controller receiver)) theirs-is
       (condemned-for σ receiver (omega arith) theirs (g .vector) (length-message σ r) e))
 
   -- message m can be delivered
-  deliver-found : condemned σ receiver theirs ≡ false →
+  deliver-found : receiver < σ Size → condemned σ receiver theirs ≡ false →
       conflict receiver (filtered σ receiver (placeVector σ receiver (newestPlace σ receiver))) (filtered σ receiver theirs) ≡ false →
       Delivers (σ Size) (image σ) m
-  deliver-found e e′ =
+  deliver-found h e e′ =
       let c = receiver in
       let g = messageForm f r l in
-      let k = controllerForm f c (g .receiver-lt) in
+      let k = controllerForm f c h in
       let μ = image σ in
       let cl : c < controllers = omega arith in
       let w = theirs-is in
       let live = σ (LiveCount c) in
       let ours : vecOf (filtered σ c (placeVector σ c (newestPlace σ c))) ≡ M.filtered (μ .controller c) (μ .controller c .vec (μ .controller c .live)) =
       ap (λ p. vecOf (filtered σ c (placeVector σ c p))) (sym (place-of-count σ c live (k .live-pos)))
-      ∙ filtered-number σ c (sound σ f c (g .receiver-lt)) (numberOf σ c live) (omega (arith, number-from σ c live, k .live-pos)) (omega arith)
+      ∙ filtered-number σ c (sound σ f c h) (numberOf σ c live) (omega (arith, number-from σ c live, k .live-pos)) (omega arith)
       ∙ ap (λ x. M.filtered (μ .controller c) (μ .controller c .vec x)) (sym (live-is σ c cl)) in
       let their : vecOf (filtered σ c theirs) ≡ M.filtered (μ .controller c) (μ .message m .vec) =
       filtered-is σ c cl theirs (g .vector) (length-message σ r) ∙ ap (M.filtered (μ .controller c)) w in
       record {
         pos = present-pos σ m l;
         sent = was-sent;
+        to-below = subst (λ c. c < σ Size) receiver-is h;
         not-condemned =
             subst (λ z. Condemned (σ Size) (μ .controller z) (μ .message m .vec) → ⊥) receiver-is
             (subst (λ z. Condemned (σ Size) (μ .controller c) z → ⊥) w (spared σ c cl theirs (g .vector) (length-message σ r) e));
@@ -155,6 +182,10 @@ module _ (σ : State) (f : Form σ) (m : ℕ) (l : recordOf σ m < used σ) wher
             (subst (Compatible (σ Size) c (vecOf (filtered σ c (placeVector σ c (newestPlace σ c))))) their
             (compatible (σ Size) c (filtered σ c (placeVector σ c (newestPlace σ c))) (filtered σ c theirs) (f .size-le) e′)));
       }
+
+-- a receiver that S lets pass is a controller or the desk
+receives : (σ : State) (c : ℕ) → noReceiver σ c ≡ false → Receives (σ Size) c
+receives σ c e = le? (σ Size) c (λ l. inr (eqb-true c desk (not-false (c == desk) (rw (le-leb (σ Size) c l) at e)))) (λ l. inl l)
 
 -- what starting anew counts on, in a house in form
 starts : (σ : State) → Form σ → (c k : ℕ) → c < σ Size → 1 ≤ k → k ≤ σ (LiveCount c) → k < places → σ (Incarnation c) < lastIncarnation → Starts σ c k
@@ -178,22 +209,21 @@ module _ (σ : State) (f : Form σ) where
       let q = sent-is σ in
       outcome-as _ _ (asks (Send sender receiver payload)) (ap (λ m. Sent (m + 1)) (sym q)) (posted-size σ _)
       (image-sent σ f sender receiver payload (d .sender-lt) (d .room) ∙ ap (λ m. M.sendMessage (image σ) (m + 1) sender receiver) (sym q))
-      (O.sent sender receiver payload (d .sender-lt) (d .receiver-lt) (d .differ)))
+      (O.sent sender receiver payload (d .sender-lt) (receives σ receiver (d .receiver-ok)) (d .differ)))
 
-  -- R
-  stepped-release : (m : ℕ) → Stepped σ (Release m) (stepRelease σ m)
+  -- R: held, let out or published, or no room for an entry
+  stepped-release : (g : List ℕ) (m : ℕ) → SteppedBoth σ (Release m) (stepRelease house σ g m)
   unfolding stepRelease release letOut put same putPart
-  stepped-release m =
-      stepped-refusing σ (Release m) (messageRefusals σ (recordOf σ m) stateHeld) _
+  stepped-release g m =
+      stepped-refusing-both σ g (Release m) (releaseRefusals house σ g (recordOf σ m)) _
       (λ e. let r = recordOf σ m in
-      let l = messageAllowed σ r stateHeld e .record-used in
-      let sender = σ (Sender r) in
-      let v = filtered σ sender (messageVector σ r) in
-      cond-ind (Stepped σ (Release m)) (ones (mask v) ≤? σ (Degree sender))
-      (λ q. outcome-as _ _ (asks (Release m)) refl refl (image-letOut σ f m l)
-      (O.released m (mask v) (release-found σ f m l (leb-true (ones (mask v)) (σ (Degree sender)) q))
-      (λ c h. let k = controllerForm f c h in omega (arith, incarnation-is σ c (omega arith)))))
-      (λ q. O.held m (mask v)))
+      let l = releaseAllowed σ g r e .0 .record-used in
+      let v = filtered σ (σ (Sender r)) (messageVector σ r) in
+      cond-ind (SteppedBoth σ (Release m)) (not (mayGo σ r (mask v))) (λ q. O.held m (mask v))
+      (λ q. let out = O.released m (mask v) (release-found σ f m l (not-false _ q)) (λ c h. let k = controllerForm f c h in omega (arith, incarnation-is σ c (omega arith))) in
+      cond-ind (SteppedBoth σ (Release m)) (not (forDesk σ r)) (λ _. outcome-as _ _ (asks (Release m)) refl refl (image-letOut σ f m stateReleased l) out)
+      (λ _. cond-ind (SteppedBoth σ (Release m)) (house .entries ≤? countOf g) (λ _. O.refused (asks (Release m)) LEDGER-USED-UP)
+      (λ _. outcome-as _ _ (asks (Release m)) refl refl (image-letOut σ f m statePublished l) out))))
 
   -- D
   stepped-deliver : (m : ℕ) → Stepped σ (Deliver m) (stepDeliver house σ m)
@@ -201,21 +231,22 @@ module _ (σ : State) (f : Form σ) where
   stepped-deliver m =
       stepped-refusing σ (Deliver m) (messageRefusals σ (recordOf σ m) stateReleased) _
       (λ e. let r = recordOf σ m in
-      let l = messageAllowed σ r stateReleased e .record-used in
+      let a = messageAllowed σ r stateReleased e in
+      let l = a .record-used in
       let c = σ (Receiver r) in
-      let h : c < σ Size = messageForm f r l .receiver-lt in
+      let h : c < σ Size = released-lt f r l (a .state-is) in
       let cl : c < controllers = omega arith in
       let ours = filtered σ c (placeVector σ c (newestPlace σ c)) in
       let theirs = filtered σ c (messageVector σ r) in
       let x = number-next σ c (σ (LiveCount c)) ∙ ap (λ n. n + 1) (sym (live-is σ c cl)) in
       cond-ind (Stepped σ (Deliver m)) (condemned σ c (messageVector σ r))
       (λ q. outcome-as _ _ (asks (Deliver m)) refl refl (image-state σ r stateDropped)
-      (O.dropped m (present-pos σ m l) (was-sent σ f m l) (drop-found σ f m l q)))
+      (O.dropped m (present-pos σ m l) (was-sent σ f m l) (subst (λ c. c < σ Size) (receiver-is σ f m l) h) (drop-found σ f m l h q)))
       (λ q. cond-ind (Stepped σ (Deliver m)) (conflict c ours theirs) (λ q′. O.waits m)
       (λ q′. cond-ind (Stepped σ (Deliver m)) (places ≤? σ (LiveCount c)) (λ _. O.refused (asks (Deliver m)) PLACES-USED-UP)
       (λ w. outcome-as _ _ (asks (Deliver m)) (ap₂ (Delivered m) (sym (incarnation-is σ c cl)) x) refl
       (image-begun σ f c m h (leb-false places (σ (LiveCount c)) w) l)
-      (O.delivered m c (receiver-is σ f m l) (deliver-found σ f m l q q′))))))
+      (O.delivered m c (receiver-is σ f m l) (deliver-found σ f m l h q q′))))))
 
   -- L
   stepped-log : (c q : ℕ) → Stepped σ (Log c q) (stepLog σ c q)
@@ -309,25 +340,25 @@ module _ (σ : State) (f : Form σ) where
       (subst (λ (q : M.Controller). LowestCondemned (σ Size) q (numberOf τ hearer k)) controller (lowest-condemned τ hearer s z′ l′)))))))
 
 -- after the host's look at the form
-looked : (σ : State) (x : Command) → looksAtForm x ≡ true → (Form σ → Fresh σ → Stepped σ x (perform house σ x)) → Stepped σ x (stepOn house σ x)
+looked : (σ : State) (g : List ℕ) (x : Command) → looksAtForm x ≡ true → (Form σ → Fresh σ → SteppedBoth σ x (perform house σ g x)) → SteppedBoth σ x (stepOn house σ g x)
 unfolding stepOn
-looked σ x q h =
-    cond-ind (Stepped σ x) (looksAtForm x && not (inForm house σ)) (λ e. O.refused (asks x) FORM)
+looked σ g x q h =
+    cond-ind (SteppedBoth σ x) (looksAtForm x && not (inForm house σ)) (λ e. O.refused (asks x) FORM)
     (λ e. let good = not-false (inForm house σ) (subst (λ b. (b && not (inForm house σ)) ≡ false) q e) in h (form σ good) (fresh σ good))
 
--- every step on a state
-pub stepped-state : (σ : State) (x : Command) → Stepped σ x (stepOn house σ x)
+-- every step on a state and a ledger
+pub stepped-state : (σ : State) (g : List ℕ) (x : Command) → SteppedBoth σ x (stepOn house σ g x)
 unfolding stepOn perform
-stepped-state σ (Open n k) = stepped-open σ n k
-stepped-state σ (SetDegree c k) = looked σ (SetDegree c k) refl (λ f z. stepped-degree σ f c k)
-stepped-state σ (Send sender receiver payload) = looked σ (Send sender receiver payload) refl (λ f z. stepped-send σ f sender receiver payload)
-stepped-state σ (Release m) = looked σ (Release m) refl (λ f z. stepped-release σ f m)
-stepped-state σ (Deliver m) = looked σ (Deliver m) refl (λ f z. stepped-deliver σ f m)
-stepped-state σ (Log c q) = looked σ (Log c q) refl (λ f z. stepped-log σ f c q)
-stepped-state σ (Checkpoint c) = looked σ (Checkpoint c) refl (λ f z. stepped-checkpoint σ f c)
-stepped-state σ (Tell owner holder) = looked σ (Tell owner holder) refl (λ f z. stepped-tell σ f owner holder)
-stepped-state σ (Crash c) = looked σ (Crash c) refl (λ f z. stepped-crash σ f c)
-stepped-state σ (Hear hearer owner i) = looked σ (Hear hearer owner i) refl (λ f z. stepped-hear σ f z hearer owner i)
+stepped-state σ g (Open n k) = stepped-open σ g n k
+stepped-state σ g (SetDegree c k) = looked σ g (SetDegree c k) refl (λ f z. stepped-degree σ f c k)
+stepped-state σ g (Send sender receiver payload) = looked σ g (Send sender receiver payload) refl (λ f z. stepped-send σ f sender receiver payload)
+stepped-state σ g (Release m) = looked σ g (Release m) refl (λ f z. stepped-release σ f g m)
+stepped-state σ g (Deliver m) = looked σ g (Deliver m) refl (λ f z. stepped-deliver σ f m)
+stepped-state σ g (Log c q) = looked σ g (Log c q) refl (λ f z. stepped-log σ f c q)
+stepped-state σ g (Checkpoint c) = looked σ g (Checkpoint c) refl (λ f z. stepped-checkpoint σ f c)
+stepped-state σ g (Tell owner holder) = looked σ g (Tell owner holder) refl (λ f z. stepped-tell σ f owner holder)
+stepped-state σ g (Crash c) = looked σ g (Crash c) refl (λ f z. stepped-crash σ f c)
+stepped-state σ g (Hear hearer owner i) = looked σ g (Hear hearer owner i) refl (λ f z. stepped-hear σ f z hearer owner i)
 
 -- the model of a table
 abbrev pub modelOf : List ℕ → M.Model
@@ -341,43 +372,45 @@ sizeOf t = state t Size
 pub image-words : (σ : State) → modelOf (words σ) ≡ image σ
 image-words σ = image-same (state (words σ)) σ (word-at σ)
 
--- Every call over a lent table, whatever stands in the table.
-pub stepped : (t : List ℕ) (x : Call) →
-    Outcome (sizeOf t) (modelOf t) x (stepCall t x .answer) (sizeOf (stepCall t x .table)) (modelOf (stepCall t x .table))
+-- Every call over a lent table and a lent ledger, whatever stands in them.
+pub stepped : (t g : List ℕ) (x : Call) →
+    Outcome (sizeOf t) (modelOf t) x (stepCall t g x .answer) (sizeOf (stepCall t g x .table)) (modelOf (stepCall t g x .table))
 unfolding stepCall step lent
-stepped t (asks x) =
-    cond-ind (λ (o : Out). Outcome (sizeOf t) (modelOf t) (asks x) (o .answer) (sizeOf (o .table)) (modelOf (o .table))) (length t == tableWords)
-    (λ e. let o = stepOn house (state t) x in
-    outcome-as _ _ (asks x) refl (word-at (o .left) Size (omega arith)) (image-words (o .left)) (stepped-state (state t) x))
+stepped t g (asks x) =
+    cond-ind (λ (o : OutBoth). Outcome (sizeOf t) (modelOf t) (asks x) (o .answer) (sizeOf (o .table)) (modelOf (o .table))) (length t == tableWords)
+    (λ e. let o = stepOn house (state t) g x in
+    outcome-as _ _ (asks x) refl (word-at (o .left) Size (omega arith)) (image-words (o .left)) (stepped-state (state t) g x))
     (λ e. O.refused (asks x) LENGTH)
 
--- a house just opened, whatever stood in the table before
-pub record Opened (n k : ℕ) (t : List ℕ) : Type 0 where
+-- a house just opened, whatever stood in the table and in the ledger before
+pub record Opened (n k : ℕ) (o : OutBoth) : Type 0 where
   pub size-pos : 1 ≤ n
   pub size-le : n ≤ controllers
   pub degree-le : k ≤ n
-  pub size-is : sizeOf t ≡ n
-  pub table-is : t ≡ words (openHouse n k)
-  pub model-is : modelOf t ≡ M.openModel n k
+  pub size-is : sizeOf (o .table) ≡ n
+  pub table-is : o .table ≡ words (openHouse n k)
+  pub ledger-is : o .ledger ≡ blankLedger house
+  pub model-is : modelOf (o .table) ≡ M.openModel n k
 
 -- a refusal is not `done`
 not-done : {A : Type 0} (number : ℕ) → Refused number ≡ Done → A
 not-done number e = absurd (let z : _≡_ {A = ℕ} 0 1 = cc in omega arith)
 
 -- what a done opening leaves
-pub opening-done : (t : List ℕ) (n k : ℕ) → step t (Open n k) .answer ≡ Done → Opened n k (step t (Open n k) .table)
-unfolding step lent stepOn perform stepOpen refusing openHouse
-opening-done t n k =
-    cond-ind (λ (o : Out). o .answer ≡ Done → Opened n k (o .table)) (length t == tableWords)
-    (λ e. cond-ind (λ (o : After). o .answer ≡ Done → Opened n k (words (o .left))) (firstOf (openRefusals n k) == 0)
-    (λ q _. let d = openAllowed n k (sym (eqb-true (firstOf (openRefusals n k)) 0 q)) in
+pub opening-done : (t g : List ℕ) (n k : ℕ) → step t g (Open n k) .answer ≡ Done → Opened n k (step t g (Open n k))
+unfolding step lent stepOn perform stepOpen refusingBoth openHouse
+opening-done t g n k =
+    cond-ind (λ (o : OutBoth). o .answer ≡ Done → Opened n k o) (length t == tableWords)
+    (λ e. cond-ind (λ (o : AfterBoth). o .answer ≡ Done → Opened n k (writtenBoth o)) (firstOf (openRefusals house g n k) == 0)
+    (λ q _. let d = openAllowed g n k (sym (eqb-true (firstOf (openRefusals house g n k)) 0 q)) in
     record {
       size-pos = d .size-pos;
       size-le = d .size-le;
       degree-le = d .degree-le;
       size-is = word-at (openHouse n k) Size (omega arith);
       table-is = refl;
+      ledger-is = refl;
       model-is = image-words (openHouse n k) ∙ image-opened n k (d .size-le);
     })
-    (λ q. not-done (firstOf (openRefusals n k))))
+    (λ q. not-done (firstOf (openRefusals house g n k))))
     (λ e. not-done LENGTH)

@@ -7,13 +7,13 @@ use lib.ListN.{set}
 use Rattle.base.specs.Choice.{_==_, _≤?_, _<?_}
 use Rattle.base.specs.Ranges.{anyb, first, anyb-same, first-same}
 use Rattle.base.specs.Lists.{tab-same}
-use Rattle.table.specs.Field.{State, Known, End, OfPlace, Incarnation, LiveCount, StableCount, PlaceIncarnation, PlaceNumber, Cause, Flag, MessageState, Sender, SendingNumber}
+use Rattle.table.specs.Field.{State, Known, End, OfPlace, Incarnation, LiveCount, StableCount, PlaceIncarnation, PlaceNumber, Cause, Flag, MessageState, Sender, Receiver, SendingNumber, desk}
 use Rattle.table.specs.Layout.{controllers, incarnations, places, messages, valid-pair, valid-message-pair}
 use Rattle.table.specs.Words.{Agree, agree-put, agree-put-to, agree-value, agree-part-to, agree-values, agree-clear-to, agree-cond, agree-states}
 use Rattle.table.specs.Numbering.{numberOf, messageOf, number-same, used-agree, message-agree, posted-agree}
 use Rattle.rules.specs.Vector.{Pair, Vector, pair, noPair, incarnation, number, empty, pairOf, placeVector, messageVector, knownStable, filterPair, filtered, condemnedPair, condemned}
 use Rattle.rules.specs.Form.{stateHeld, stateReleased, stateDelivered, stateDropped}
-use Rattle.rules.specs.Shared.{newestPlace, placeRecord, logged, loggedTo, causedIn, causesIn, causes, offeredAgain, newVector, placed, entered, restarted, heldOrDropped, dropHeld, startAnew, latestFlagged, replayed}
+use Rattle.rules.specs.Shared.{newestPlace, placeRecord, logged, loggedTo, causing, causedIn, causesIn, causes, offeredAgain, newVector, placed, entered, restarted, heldOrDropped, dropHeld, startAnew, latestFlagged, replayed}
 use Rattle.rules.specs.Steps.{messageRecord, sent, intervalAdded, toldRow, told, noted, lowestCondemned}
 use Rattle.laws.specs.Facts.{Near}
 use Rattle.laws.specs.Records.{placeVector-of, messageVector-of}
@@ -71,11 +71,16 @@ module _ (σ τ : State) (e : Agree σ τ) where
   offeredAgain-same c r cl rl near =
       ap (λ x. cond x stateDropped stateReleased) (condemned-same c (messageVector σ r) cl near ∙ ap (condemned τ c) (messageVector-same r rl))
 
+  -- whether a message can be a cause
+  pub causing-same : (r : ℕ) → r < messages → causing σ r ≡ causing τ r
+  unfolding causing
+  causing-same r rl = ap₂ (λ n x. (r <? n) && not (x == desk)) (used-agree σ τ e) (e (Receiver r) (rl, omega arith))
+
   -- what is looked for on a chain
   pub causedIn-same : (c k r : ℕ) {n o : ℕ} → c < controllers → r < messages → k + n ≤ places → n ≡ o → causedIn σ c k n r ≡ causedIn τ c k o r
   unfolding causedIn
   causedIn-same c k r {n} {o} cl rl l z =
-      ap₂ (λ n b. (r <? n) && b) (used-agree σ τ e)
+      ap₂ (λ a b. a && b) (causing-same r rl)
       (anyb-same n _ _ (λ j h. ap₂ (λ x m. x == m) (e (Cause c (k + j)) (cl, omega arith, omega arith)) (message-agree σ τ e r rl))
       ∙ ap (λ n. anyb n (λ (j : ℕ). τ (Cause c (k + j)) == messageOf τ r)) z)
 

@@ -1,6 +1,7 @@
 -- What a step may count on where none of its refusals applies.
 use mathlib.Core.Path.{_≡_, refl}
-use mathlib.Core.Bool.{false, _||_}
+use mathlib.Core.Bool.{true, false, _||_}
+use mathlib.Core.List.{List}
 use mathlib.Core.Logic.{_≢_}
 use Prim.Native.Nat.{ℕ, _-_, _≤_, _<_}
 use native.Mathlib.Omega.{arith}
@@ -11,7 +12,9 @@ use Rattle.table.specs.Field.{State, End, Size, Incarnation, LiveCount, StableC
 use Rattle.table.specs.Layout.{controllers, places, messages}
 use Rattle.table.specs.Numbering.{used}
 use Rattle.rules.specs.Limits.{house, lastIncarnation}
-use Rattle.rules.specs.Steps.{noController, openRefusals, degreeRefusals, sendRefusals, messageRefusals, logRefusals, checkpointRefusals, tellRefusals, crashRefusals, hearRefusals}
+use Rattle.rules.specs.Form.{stateHeld}
+use Rattle.rules.specs.Ledger.{ledgerOk}
+use Rattle.rules.specs.Steps.{noController, noReceiver, openRefusals, degreeRefusals, sendRefusals, messageRefusals, releaseRefusals, logRefusals, checkpointRefusals, tellRefusals, crashRefusals, hearRefusals}
 
 -- O
 pub record OpenAllowed (n k : ℕ) : Type 0 where
@@ -24,9 +27,9 @@ pos : (x : ℕ) → (x == 0) ≡ false → 1 ≤ x
 pos x e = let ne : x ≢ 0 = eqb-false x 0 e in omega arith
 
 -- no refusal of O applies
-pub openAllowed : (n k : ℕ) → 0 ≡ firstOf (openRefusals n k) → OpenAllowed n k
-openAllowed n k e =
-    let q = cleared _ 0 refl e in
+pub openAllowed : (g : List ℕ) (n k : ℕ) → 0 ≡ firstOf (openRefusals house g n k) → OpenAllowed n k
+openAllowed g n k e =
+    let q = cleared _ 1 refl e in
     let r = or-left ((n == 0) || (controllers <? n)) _ q in
     record {
       size-pos = pos n (or-left (n == 0) _ r);
@@ -47,7 +50,7 @@ module _ (σ : State) where
   -- S
   pub record SendAllowed (s r : ℕ) : Type 0 where
     pub sender-lt : s < σ Size
-    pub receiver-lt : r < σ Size
+    pub receiver-ok : noReceiver σ r ≡ false
     pub differ : s ≢ r
     pub room : used σ < messages
 
@@ -56,7 +59,7 @@ module _ (σ : State) where
   sendAllowed s r e =
       record {
         sender-lt = leb-false _ _ (or-left (noController σ s) _ (cleared _ 0 refl e));
-        receiver-lt = leb-false _ _ (or-right (noController σ s) _ (cleared _ 0 refl e));
+        receiver-ok = or-right (noController σ s) _ (cleared _ 0 refl e);
         differ = eqb-false s r (cleared _ 1 refl e);
         room = leb-false _ _ (cleared _ 2 refl e);
       }
@@ -70,6 +73,11 @@ module _ (σ : State) where
   pub messageAllowed : (r wanted : ℕ) → 0 ≡ firstOf (messageRefusals σ r wanted) → MessageAllowed r wanted
   messageAllowed r wanted e =
       record { record-used = leb-false _ _ (cleared _ 0 refl e); state-is = eqb-true _ _ (not-false _ (cleared _ 1 refl e)) }
+
+  -- no refusal of R applies: neither by its message nor by the ledger
+  pub releaseAllowed : (g : List ℕ) (r : ℕ) → 0 ≡ firstOf (releaseRefusals house σ g r) → MessageAllowed r stateHeld × (ledgerOk house g ≡ true)
+  releaseAllowed g r e =
+      (record { record-used = leb-false _ _ (cleared _ 1 refl e); state-is = eqb-true _ _ (not-false _ (cleared _ 2 refl e)) }, not-false _ (cleared _ 0 refl e))
 
   -- L
   pub record LogAllowed (c q : ℕ) : Type 0 where

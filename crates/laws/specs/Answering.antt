@@ -12,8 +12,8 @@ use Rattle.table.specs.Words.{state, words, words-state}
 use Rattle.rules.specs.Limits.{house}
 use Rattle.rules.specs.Refusal.{LENGTH, FORM}
 use Rattle.rules.specs.Form.{inForm}
-use Rattle.rules.specs.Steps.{After, refusing}
-use Rattle.rules.specs.Step.{Out, out, written, looksAtForm, perform, stepOn, lent, step}
+use Rattle.rules.specs.Steps.{After, refusing, AfterBoth, afterBoth, beside, refusingBoth}
+use Rattle.rules.specs.Step.{Out, out, written, OutBoth, outBoth, writtenBoth, looksAtForm, perform, stepOn, lent, step}
 use Rattle.rules.specs.declared.Answer.{Answer}
 use Rattle.rules.specs.declared.Answer.the-variants.{Refused}
 use Rattle.rules.specs.declared.Command.{Command}
@@ -51,18 +51,36 @@ granted-by cases σ o a u n e z = granted cases σ o a u (sym z ∙ e)
 pub leaves : (a : Answer) (u : List ℕ) (σ : State) → u ≡ words σ → out a u ≡ written (record { answer = a; left = σ })
 leaves a u σ e = ap (out a) e
 
+-- The same of a step that looks at both buffers: refused, and not refused.
+pub refused-both : (cases : List Case) (t g : List ℕ) (r : ℕ) (o : AfterBoth) → length t ≡ tableWords → r ≡ firstOf cases → (r ≡ 0 → ⊥) →
+    outBoth (Refused r) t g ≡ writtenBoth (refusingBoth cases (state t) g o)
+unfolding refusingBoth
+refused-both cases t g r o l e ne =
+    (λ d. outBoth (Refused (e d)) (words-state t l d) g)
+    ∙ sym (ap (λ (b : Bool). writtenBoth (cond b o (afterBoth (Refused (firstOf cases)) (state t) g))) (ne-eqb (firstOf cases) 0 (λ z. ne (e ∙ z))))
+
+pub granted-both : (cases : List Case) (σ : State) (g : List ℕ) (o : AfterBoth) (a : Answer) (u h : List ℕ) (n : ℕ) → n ≡ firstOf cases → n ≡ 0 →
+    outBoth a u h ≡ writtenBoth o → outBoth a u h ≡ writtenBoth (refusingBoth cases σ g o)
+unfolding refusingBoth
+granted-both cases σ g o a u h n e z p =
+    p ∙ sym (ap (λ (b : Bool). writtenBoth (cond b o (afterBoth (Refused (firstOf cases)) σ g))) (eq-eqb (firstOf cases) 0 (sym e ∙ z)))
+
+-- a step beside which the ledger stays
+pub left-beside : (a : Answer) (u g : List ℕ) (o : After) → out a u ≡ written o → outBoth a u g ≡ writtenBoth (beside o g)
+left-beside a u g o e = ap (λ (o : Out). outBoth (o .answer) (o .table) g) e
+
 -- "1 length is not 15,152"; "2 table not in form"; and neither
-pub too-short : (t : List ℕ) (x : Command) → (length t ≡ tableWords → ⊥) → out (Refused LENGTH) t ≡ step t x
+pub too-short : (t g : List ℕ) (x : Command) → (length t ≡ tableWords → ⊥) → outBoth (Refused LENGTH) t g ≡ step t g x
 unfolding step lent
-too-short t x ne = rw (ne-eqb (length t) tableWords ne)
+too-short t g x ne = rw (ne-eqb (length t) tableWords ne)
 
-pub out-of-form : (t : List ℕ) (x : Command) → length t ≡ tableWords → looksAtForm x ≡ true → inForm house (state t) ≡ false → out (Refused FORM) t ≡ step t x
+pub out-of-form : (t g : List ℕ) (x : Command) → length t ≡ tableWords → looksAtForm x ≡ true → inForm house (state t) ≡ false → outBoth (Refused FORM) t g ≡ step t g x
 unfolding step lent stepOn
-out-of-form t x l e f = rw (eq-eqb (length t) tableWords l, e, f) (ap (out (Refused FORM)) (words-state t l))
+out-of-form t g x l e f = rw (eq-eqb (length t) tableWords l, e, f) (ap (λ u. outBoth (Refused FORM) u g) (words-state t l))
 
-pub answered : (t : List ℕ) (x : Command) (o : Out) → LentFor t x → o ≡ written (perform house (state t) x) → o ≡ step t x
+pub answered : (t g : List ℕ) (x : Command) (o : OutBoth) → LentFor t x → o ≡ writtenBoth (perform house (state t) g x) → o ≡ step t g x
 unfolding step lent stepOn
-answered t x o h e = e ∙ sym (rw (eq-eqb (length t) tableWords (h .long), lets (looksAtForm x) refl))
+answered t g x o h e = e ∙ sym (rw (eq-eqb (length t) tableWords (h .long), lets (looksAtForm x) refl))
   where
     lets : (b : Bool) → looksAtForm x ≡ b → (looksAtForm x && not (inForm house (state t))) ≡ false
     lets true q = rw (q, h .good q)
@@ -73,5 +91,5 @@ pub lent-as : (t : List ℕ) (x y : Command) → LentFor t x → x ≡ y → loo
 lent-as t x y h e l = record { long = h .long; good = h .good (ap looksAtForm e ∙ l) }
 
 -- an arm of a match on the command
-pub by-command : (σ : State) (x y : Command) (o : Out) → o ≡ written (perform house σ y) → x ≡ y → o ≡ written (perform house σ x)
-by-command σ x y o e q = e ∙ sym (ap (λ (z : Command). written (perform house σ z)) q)
+pub by-command : (σ : State) (g : List ℕ) (x y : Command) (o : OutBoth) → o ≡ writtenBoth (perform house σ g y) → x ≡ y → o ≡ writtenBoth (perform house σ g x)
+by-command σ g x y o e q = e ∙ sym (ap (λ (z : Command). writtenBoth (perform house σ g z)) q)

@@ -13,13 +13,14 @@ use Rattle.table.specs.Change.{put, put-ind, putStates, states-ind}
 use Rattle.table.specs.Layout.{controllers, places, messages}
 use Rattle.table.specs.Words.{state, words, agree-words}
 use Rattle.table.specs.Numbering.{used, numbering, numbers-kept, used-agree}
-use Rattle.rules.specs.Limits.{lastIncarnation}
+use Rattle.rules.specs.Limits.{house, lastIncarnation}
 use Rattle.rules.specs.Vector.{placeVector, messageVector}
+use Rattle.rules.specs.Form.{stateReleased}
 use Rattle.rules.specs.Shared.{logged, loggedTo, causesIn, causes}
-use Rattle.rules.specs.Steps.{noted, messageRefusals}
-use Rattle.laws.specs.Facts.{Near, Form, form, below-8, controllerForm, placeForm, messageForm, message-near}
+use Rattle.rules.specs.Steps.{noted, messageRefusals, releaseRefusals}
+use Rattle.laws.specs.Facts.{Near, Form, form, below-8, controllerForm, placeForm, messageForm, released-lt, message-near}
 use Rattle.laws.specs.Records.{placeVector-of, messageVector-of}
-use Rattle.laws.specs.Allowed.{messageAllowed}
+use Rattle.laws.specs.Allowed.{messageAllowed, releaseAllowed}
 use Rattle.laws.specs.Agree.{incarnation-same, live-same, placeVector-same, messageVector-same}
 use Rattle.laws.specs.Answering.{Lent}
 
@@ -174,15 +175,26 @@ starts-loggedTo σ c k j s =
     cond-ind (λ τ. Starts τ c k) (σ (StableCount c) <? j)
     (λ e. starts-put _ c k (Known c c (σ (Incarnation c))) _ refl (starts-put σ c k (StableCount c) j refl s)) (λ e. s)
 
--- R and D: the message in record r, which its refusals let pass
+-- D: the message in record r, which its refusals let pass
 pub record Taken (σ : State) (r : ℕ) : Type 0 where
   pub record-lt : r < messages
-  pub sender-lt : σ (Sender r) < controllers
   pub receiver : Chain σ (σ (Receiver r))
 
-pub taken : (t : List ℕ) (r wanted : ℕ) → Lent t → 0 ≡ firstOf (messageRefusals (state t) r wanted) → Taken (state t) r
-taken t r wanted l e =
+pub taken : (t : List ℕ) (r : ℕ) → Lent t → 0 ≡ firstOf (messageRefusals (state t) r stateReleased) → Taken (state t) r
+taken t r l e =
     let f = form (state t) (l .good) in
-    let a = messageAllowed (state t) r wanted e in
+    let a = messageAllowed (state t) r stateReleased e in
+    record { record-lt = omega (arith, f .used-le, a .record-used); receiver = chain-of t _ l (released-lt f r (a .record-used) (a .state-is)) }
+
+-- R: the same; its receiver may be the desk
+pub record Releasable (σ : State) (r : ℕ) : Type 0 where
+  pub record-lt : r < messages
+  pub sender-lt : σ (Sender r) < controllers
+  pub near : Near (messageVector σ r)
+
+pub releasable : (t g : List ℕ) (r : ℕ) → Lent t → 0 ≡ firstOf (releaseRefusals house (state t) g r) → Releasable (state t) r
+releasable t g r l e =
+    let f = form (state t) (l .good) in
+    let a = releaseAllowed (state t) g r e .0 in
     let k = messageForm f r (a .record-used) in
-    record { record-lt = omega (arith, f .used-le, a .record-used); sender-lt = below-8 f _ (k .sender-lt); receiver = chain-of t _ l (k .receiver-lt) }
+    record { record-lt = omega (arith, f .used-le, a .record-used); sender-lt = below-8 f _ (k .sender-lt); near = k .vector .near }

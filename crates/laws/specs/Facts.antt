@@ -1,7 +1,7 @@
 -- What being in form says of each word.
-use mathlib.Core.Path.{_≡_, refl, ap}
+use mathlib.Core.Path.{_≡_, refl, sym, ap, _∙_}
 use mathlib.Core.List.{[]}
-use mathlib.Core.Bool.{Bool, true, _&&_, _||_}
+use mathlib.Core.Bool.{Bool, true, false, _&&_, _||_, or-false, true≢false}
 use Prim.Native.Nat.{ℕ, _+_, _-_, _≤_, _<_}
 use native.Mathlib.Omega.{arith}
 use borrow.Author.Tests.{leb-true, ltb-true, eqb-true, lt-ltb, le-ltb}
@@ -14,7 +14,7 @@ use Rattle.table.specs.Layout.{controllers, incarnations, places, messages, hea
 use Rattle.table.specs.Numbering.{numberOf, used, lastGiven}
 use Rattle.rules.specs.Limits.{house, lastIncarnation, lastNumber}
 use Rattle.rules.specs.Vector.{Pair, Vector, incarnation, number, pairOf, placeVector, messageVector}
-use Rattle.rules.specs.Form.{stateDropped, zeros, pairOk, vectorOk, controllerOk, highest, rowOk, placeOk, messageOk, inForm}
+use Rattle.rules.specs.Form.{stateReleased, forDesk, stateOk, zeros, pairOk, vectorOk, controllerOk, highest, rowOk, placeOk, messageOk, inForm}
 
 -- every incarnation of a vector has a word in the rows of known and end words
 abbrev pub Near : Vector → Type 0
@@ -122,10 +122,9 @@ pub record PlaceForm (σ : State) (c p : ℕ) : Type 0 where
 
 -- message record r, used
 pub record MessageForm (σ : State) (r : ℕ) : Type 0 where
-  pub state-pos : 1 ≤ σ (MessageState r)
-  pub state-le : σ (MessageState r) ≤ stateDropped
+  pub state-ok : stateOk (forDesk σ r) (σ (MessageState r)) ≡ true
   pub sender-lt : σ (Sender r) < σ Size
-  pub receiver-lt : σ (Receiver r) < σ Size
+  pub receiver-ok : ((σ (Receiver r) <? σ Size) || forDesk σ r) ≡ true
   pub incarnation-le : σ (SendingIncarnation r) ≤ lastIncarnation
   pub number-pos : 1 ≤ σ (SendingNumber r)
   pub number-le : σ (SendingNumber r) ≤ lastNumber
@@ -174,15 +173,23 @@ module _ {σ : State} (f : Form σ) where
   messageForm r l =
       let e = rw (lt-ltb _ _ l) at (allb-get (messageOk house (σ Size) σ) messages r (f .messages-ok) (omega arith)) in
       record {
-        state-pos = leb-true _ _ (passed _ 0 e);
-        state-le = leb-true _ _ (passed _ 1 e);
-        sender-lt = ltb-true _ _ (passed _ 2 e);
-        receiver-lt = ltb-true _ _ (passed _ 3 e);
-        incarnation-le = leb-true _ _ (passed _ 4 e);
-        number-pos = leb-true _ _ (passed _ 5 e);
-        number-le = leb-true _ _ (passed _ 6 e);
-        vector = vectorForm _ _ (passed _ 7 e);
+        state-ok = passed _ 0 e;
+        sender-lt = ltb-true _ _ (passed _ 1 e);
+        receiver-ok = passed _ 2 e;
+        incarnation-le = leb-true _ _ (passed _ 3 e);
+        number-pos = leb-true _ _ (passed _ 4 e);
+        number-le = leb-true _ _ (passed _ 5 e);
+        vector = vectorForm _ _ (passed _ 6 e);
       }
+
+  -- W2: "A message for receiver 8 has state 1, 5 or 6": a released one goes to a controller
+  pub released-lt : (r : ℕ) → r < used σ → σ (MessageState r) ≡ stateReleased → σ (Receiver r) < σ Size
+  unfolding stateOk
+  released-lt r l s = let g = messageForm r l in go (forDesk σ r) (g .receiver-ok) (rw s at (g .state-ok))
+    where
+      go : (d : Bool) → ((σ (Receiver r) <? σ Size) || d) ≡ true → stateOk d stateReleased ≡ true → σ (Receiver r) < σ Size
+      go true p q = absurd (true≢false (sym q))
+      go false p q = ltb-true _ _ (sym (or-false (σ (Receiver r) <? σ Size)) ∙ p)
 
   -- the words of unused message records
   pub no-message : (r k : ℕ) → r < messages → used σ ≤ r → k < messageWords → σ (OfMessage r k) ≡ 0

@@ -7,3 +7,5 @@ pub mod Found
 pub mod Answering
 pub mod Mask
 pub mod Kept
+pub mod StepWords
+pub mod Beside

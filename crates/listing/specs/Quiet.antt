@@ -4,11 +4,12 @@
 use mathlib.Core.Path.{_≡_, refl, sym, ap, _∙_}
 use mathlib.Core.Bool.{Bool, true, false, true≢false, cond, _&&_, and-true, and-false}
 use mathlib.Core.List.{List, [], _∷_}
-use Prim.Native.Nat.{ℕ, _+_, _-_, _<_}
+use Prim.Native.Nat.{ℕ, zero, suc, _+_, _-_, _<_}
 use native.Mathlib.Omega.{arith}
 use lib.Count.{onesIn, ones}
 use lib.Dec.{leb·zero}
-use borrow.Author.Tests.{eqb-true, leb-true, ltb-false, le-leb, lt-ltb, le-ltb, ne-eqb}
+use lib.ListN.{length, getD, length-replicate, getD-replicate}
+use borrow.Author.Tests.{eqb-true, eq-eqb, leb-true, ltb-false, le-leb, lt-ltb, le-ltb, ne-eqb}
 use Rattle.base.specs.Choice.{_==_, _≤?_, _<?_, le?}
 use Rattle.base.specs.Ranges.{allb, allb-all, allb-get, anyb, first}
 use Rattle.base.specs.Lists.{tab}
@@ -19,19 +20,20 @@ use Rattle.table.specs.Change.{put, putPart, clearPlaces, putStates, put-ind, p
 use Rattle.table.specs.Numbering.{numberOf, used, lastGiven, recordOf, messageOf, posted}
 use Rattle.rules.specs.Limits.{house}
 use Rattle.rules.specs.Vector.{placeVector, messageVector, flat, knownStable, filterPair, filtered, condemnedPair, condemned, maskTo, mask, conflictPair, conflict, mergePair, merged}
-use Rattle.rules.specs.Form.{zeros, pairOk, vectorOk, controllerOk, highest, rowOk, placeOk, messageOk, inForm}
-use Rattle.rules.specs.Shared.{placeRecord, logged, loggedTo, causedIn, causesIn, causes, offeredAgain, newVector, placed, entered, restarted, heldOrDropped, dropHeld, startAnew, removed, latestFlagged, replayed}
-use Rattle.rules.specs.Steps.{after, refusing, openHouse, stepOpen, messageRecord, sent, stepSend, letOut, release, stepRelease, intervalAdded, intervalBegins, deliver, stepDeliver, stepLog, crashed, stepCrash, noted, lowestCondemned, rolledBack, hear, stepHear}
+use Rattle.rules.specs.Form.{stateHeld, stateOk, zeros, pairOk, vectorOk, controllerOk, highest, rowOk, placeOk, messageOk, inForm}
+use Rattle.rules.specs.Ledger.{ledgerWords, ledgerOk, blankLedger}
+use Rattle.rules.specs.Shared.{placeRecord, logged, loggedTo, causing, causedIn, causesIn, causes, offeredAgain, newVector, placed, entered, restarted, heldOrDropped, dropHeld, startAnew, removed, latestFlagged, replayed}
+use Rattle.rules.specs.Steps.{AfterBoth, afterBoth, refusing, refusingBoth, openHouse, stepOpen, messageRecord, sent, stepSend, messageRefusals, letOut, mayGo, release, stepRelease, intervalAdded, intervalBegins, deliver, stepDeliver, stepLog, crashed, stepCrash, noted, lowestCondemned, rolledBack, hear, stepHear}
 use Rattle.rules.specs.Step.{perform, stepOn}
 use Rattle.rules.specs.declared.Answer.{Answer}
 use Rattle.rules.specs.declared.Answer.the-variants.{Done}
 use Rattle.rules.specs.declared.Command.{Command}
-use Rattle.rules.specs.declared.Command.the-variants.{Open}
+use Rattle.rules.specs.declared.Command.the-variants.{Open, Release}
 
--- the answers to a list of steps, each on the state that the last one left
-unfoldable pub answers : State → List Command → List Answer
-answers σ [] = []
-answers σ (x ∷ xs) = let o = stepOn house σ x in o .answer ∷ answers (o .left) xs
+-- the answers to a list of steps, each on the state and the ledger that the last one left
+unfoldable pub answers : State → List ℕ → List Command → List Answer
+answers σ g [] = []
+answers σ g (x ∷ xs) = let o = stepOn house σ g x in o .answer ∷ answers (o .left) (o .ledger) xs
 
 -- A state where the words of the others are 0 is quiet, and a change that writes near words keeps it so.
 abbrev pub near : Field → Bool
@@ -125,25 +127,57 @@ in-form σ q e =
     rw (unused true r _ z few) (allb-all _ _ (λ k _. rw (q .rest (OfMessage r k) (rw z))))) in
     rw (size, fits, passed (tests σ) 2 e, passed (tests σ) 3 e, rows, chains, records)
 
--- A run: each step finds its state in form, gives its answer and leaves the next state, quiet if the last one was.
-pub data Run : State → List Command → List Answer → Type 0 where
-  end : {σ : State} → Run σ [] []
-  opening : {σ : State} {k : ℕ} {xs : List Command} {ys : List Answer} → perform house σ (Open 3 k) ≡ after Done (openHouse 3 k) →
-      Run (openHouse 3 k) xs ys → Run σ (Open 3 k ∷ xs) (Done ∷ ys)
-  next : {σ τ : State} {x : Command} {xs : List Command} {y : Answer} {ys : List Answer} → (Quiet σ → Quiet τ) → allOf (tests σ) ≡ true →
-      perform house σ x ≡ after y τ → Run τ xs ys → Run σ (x ∷ xs) (y ∷ ys)
+-- An opening looks at the ledger's length, and a release at all of its words. That the ledger of a house just opened passes is shown
+-- here once, and not computed at each release.
+pub opens : (σ : State) (g : List ℕ) (k : ℕ) → length g ≡ ledgerWords house → (3 <? k) ≡ false → perform house σ g (Open 3 k) ≡ afterBoth Done (openHouse 3 k) (blankLedger house)
+unfolding perform stepOpen refusingBoth firstOf
+opens σ g k long e = rw (eq-eqb (length g) (ledgerWords house) long, e)
 
-pub run-answers : {σ : State} {xs : List Command} {ys : List Answer} → Run σ xs ys → Quiet σ → answers σ xs ≡ ys
+zeros-ok : (g : List ℕ) → length g ≡ ledgerWords house → ((i : ℕ) → i < ledgerWords house → getD g i 0 ≡ 0) → ledgerOk house g ≡ true
+unfolding ledgerOk allOf zeros
+zeros-ok g long e =
+    rw (eq-eqb (length g) (ledgerWords house) long, e 0 (omega arith)) (allb-all _ _ (λ k l. rw (e (1 + k) (omega arith))))
+
+pub blank-ok : ledgerOk house (blankLedger house) ≡ true
+unfolding blankLedger
+blank-ok =
+    zeros-ok _ (length-replicate (ledgerWords house) zero) (λ i l. getD-replicate (ledgerWords house) i zero zero l)
+
+-- A run: each step finds its state in form, gives its answer and leaves the next state, quiet if the last one was, and the next
+-- ledger.
+pub data Run : State → List ℕ → List Command → List Answer → Type 0 where
+  end : {σ : State} {g : List ℕ} → Run σ g [] []
+  opening : {σ : State} {g : List ℕ} {k : ℕ} {xs : List Command} {ys : List Answer} →
+      perform house σ g (Open 3 k) ≡ afterBoth Done (openHouse 3 k) (blankLedger house) → Run (openHouse 3 k) (blankLedger house) xs ys → Run σ g (Open 3 k ∷ xs) (Done ∷ ys)
+  next : {σ τ : State} {g h : List ℕ} {x : Command} {xs : List Command} {y : Answer} {ys : List Answer} → (Quiet σ → Quiet τ) → allOf (tests σ) ≡ true →
+      perform house σ g x ≡ afterBoth y τ h → Run τ h xs ys → Run σ g (x ∷ xs) (y ∷ ys)
+
+pub run-answers : {σ : State} {g : List ℕ} {xs : List Command} {ys : List Answer} → Run σ g xs ys → Quiet σ → answers σ g xs ≡ ys
 unfolding answers stepOn
 run-answers end q = refl
 run-answers (opening {k = k} e r) q = rw e (ap (λ ys. Done ∷ ys) (run-answers r (quiet-opened k)))
 run-answers (next {σ} {y = y} keep f e r) q = rw (in-form σ q f, and-false, e) (ap (λ ys. y ∷ ys) (run-answers r (keep q)))
 
+-- So a release goes by its message: what it does beside a ledger in form. (By the message's number, so that the prover waits for it
+-- before it compares states.)
+unfoldable pub releaseOf : State → List ℕ → ℕ → AfterBoth
+releaseOf σ g zero = perform house σ g (Release 0)
+releaseOf σ g (suc j) = let r = recordOf σ (suc j) in refusingBoth (messageRefusals σ r stateHeld) σ g (release house σ g (suc j) r)
+
+pub by-message : (σ : State) (g : List ℕ) (m : ℕ) → ledgerOk house g ≡ true → perform house σ g (Release m) ≡ releaseOf σ g m
+unfolding perform stepRelease refusingBoth firstOf releaseOf
+by-message σ g zero ok = refl
+by-message σ g (suc j) ok = rw ok
+
+unfoldable pub goes : {σ τ : State} {g h : List ℕ} {m : ℕ} {xs : List Command} {y : Answer} {ys : List Answer} → (Quiet σ → Quiet τ) → allOf (tests σ) ≡ true →
+    ledgerOk house g ≡ true → releaseOf σ g m ≡ afterBoth y τ h → Run τ h xs ys → Run σ g (Release m ∷ xs) (y ∷ ys)
+goes {σ} {g = g} {m = m} keep f ok e r = next keep f (by-message σ g m ok ∙ e) r
+
 -- no record further on is among the n in use
-pub further : (n : ℕ) → (n ≤? 3) ≡ true → (caused : ℕ → Bool) (r : ℕ) → near (MessageState r) ≡ false → ((r <? n) && caused r) ≡ false
-further n h caused r z = rw (le-ltb r n (omega (arith, leb-true n 3 h, ltb-false r 3 (rw and-true at z))))
+pub further : (n : ℕ) → (n ≤? 3) ≡ true → (inHouse caused : ℕ → Bool) (r : ℕ) → near (MessageState r) ≡ false → (((r <? n) && inHouse r) && caused r) ≡ false
+further n h inHouse caused r z = rw (le-ltb r n (omega (arith, leb-true n 3 h, ltb-false r 3 (rw and-true at z))))
 
 -- The rules on the way of these lists: `unfolding steps` opens them all.
 unfoldable pub steps : Unit {0}
-unfolding onesIn ones allb anyb first tab allOf firstOf same put putPart clearPlaces putStates numberOf used lastGiven recordOf messageOf posted placeVector messageVector flat knownStable filterPair filtered condemnedPair condemned maskTo mask conflictPair conflict mergePair merged zeros pairOk vectorOk controllerOk highest rowOk placeOk messageOk placeRecord logged loggedTo causedIn causesIn causes offeredAgain newVector placed entered restarted heldOrDropped dropHeld startAnew removed latestFlagged replayed refusing openHouse stepOpen messageRecord sent stepSend letOut release stepRelease intervalAdded intervalBegins deliver stepDeliver stepLog crashed stepCrash noted lowestCondemned rolledBack hear stepHear perform
+unfolding onesIn ones allb anyb first tab allOf firstOf same put putPart clearPlaces putStates numberOf used lastGiven recordOf messageOf posted placeVector messageVector flat knownStable filterPair filtered condemnedPair condemned maskTo mask conflictPair conflict mergePair merged zeros pairOk vectorOk controllerOk highest rowOk placeOk stateOk messageOk placeRecord logged loggedTo causing causedIn causesIn causes offeredAgain newVector placed entered restarted heldOrDropped dropHeld startAnew removed latestFlagged replayed refusing refusingBoth openHouse stepOpen messageRecord sent stepSend letOut mayGo release stepRelease intervalAdded intervalBegins deliver stepDeliver stepLog crashed stepCrash noted lowestCondemned rolledBack hear stepHear perform releaseOf
 steps = tt

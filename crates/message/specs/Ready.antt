@@ -12,6 +12,7 @@ use Rattle.table.specs.Words.{state}
 use Rattle.table.specs.Numbering.{used, lastGiven, recordOf, given-le}
 use Rattle.rules.specs.Limits.{house}
 use Rattle.rules.specs.Vector.{Vector, placeVector, messageVector}
+use Rattle.rules.specs.Form.{stateReleased}
 use Rattle.rules.specs.Steps.{After, refusing, sendRefusals, messageRefusals}
 use Rattle.rules.specs.Step.{out, written}
 use Rattle.rules.specs.declared.Answer.{Answer}
@@ -41,11 +42,11 @@ next-fits σ c m h e = omega (arith, given-le σ (h .used-le))
 pub record-there : (t : List ℕ) (n r : ℕ) → Lent t → n ≡ used (state t) → r < n → r < messages
 record-there t n r l e h = omega (arith, form (state t) (l .good) .used-le)
 
-module _ (t : List ℕ) (m r wanted n : ℕ) (e : n ≡ firstOf (messageRefusals (state t) r wanted)) where
-  -- a message that is not refused is one that the step may take
-  pub passed-taken : Lent t → n ≡ 0 → Taken (state t) r
-  passed-taken l z = taken t r wanted l (sym z ∙ e)
+-- D: a message that is not refused is one that it may take
+pub passed-taken : (t : List ℕ) (r n : ℕ) → n ≡ firstOf (messageRefusals (state t) r stateReleased) → Lent t → n ≡ 0 → Taken (state t) r
+passed-taken t r n e l z = taken t r l (sym z ∙ e)
 
+module _ (t : List ℕ) (m r wanted n : ℕ) (e : n ≡ firstOf (messageRefusals (state t) r wanted)) where
   -- the step, by the record that was found: refused, or done
   pub message-refused : (o : ℕ → After) → length t ≡ tableWords → r ≡ recordOf (state t) m → (n ≡ 0 → ⊥) →
       out (Refused n) t ≡ written (refusing (messageRefusals (state t) (recordOf (state t) m) wanted) (state t) (o (recordOf (state t) m)))

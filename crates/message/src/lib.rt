@@ -78,7 +78,7 @@ pub fn send_refusal(t: &[u32], sender: u32, receiver: u32) -> u32
     ensures { λ no. ⌜ no ≡ firstOf (sendRefusals house (state (now (t .entry))) sender receiver) ⌝ }
 {
     let n = table::size(t);
-    if (n <= sender) | (n <= receiver) {
+    if (n <= sender) | ((n <= receiver) & (receiver != table::DESK)) {
         return refusal::CONTROLLER;
     }
     if sender == receiver {

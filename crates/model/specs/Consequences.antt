@@ -1,5 +1,5 @@
--- What follows from the invariant by itself, for demand 3: what left a chain at a hearing, what is live, what a release names, and
--- that nothing is condemned without a crash that was heard.
+-- What follows from the invariant by itself, for demand 3: what left a chain at a hearing, what is live, what a release names, that
+-- what nobody can revoke stays, and that nothing is condemned without a crash that was heard.
 use mathlib.Core.Path.{_≡_, refl, sym, _∙_, ap, subst}
 use mathlib.Core.Bool.{false}
 use mathlib.Core.Logic.{_⊎_, inl, inr, ⊎-elim, _↔_}
@@ -9,9 +9,9 @@ use Rattle.base.specs.Choice.{le?}
 use Rattle.history.specs.History.{Interval, interval, History, member}
 use Rattle.history.specs.Demand.{RestsOnLost}
 use Rattle.model.specs.Model.{Vec, Model, full, releasedVec}
-use Rattle.model.specs.Tests.{Is, contrary, fails}
+use Rattle.model.specs.Tests.{Is, contrary, fails, passes}
 use Rattle.model.specs.Chain.{OnChain, member-chain, chain-member}
-use Rattle.model.specs.Invariant.{Spoilt, Covers, Tracks, ControllerOk, MessageOk, Inv, Ext, live-or-spoilt, rests-back, rests-on}
+use Rattle.model.specs.Invariant.{Spoilt, Covers, Tracks, ControllerOk, MessageOk, Inv, Ext, ext-refl, live-or-spoilt, rests-back, rests-on}
 use Rattle.model.specs.Vectors.{Condemned, full-pos, pos-full, filtered-ind, filtered-tracks, condemned-spoilt}
 use Rattle.model.specs.Keeping.{Keeps}
 
@@ -149,10 +149,29 @@ module _ {n : ℕ} {μ : Model} {h : History} (v : Inv n μ h) (m : ℕ) (pos : 
       }
 
   -- a message that is dropped at its receiver has a cause: its sending interval rests on one lost in a crash that was heard there
-  pub dropped-cause : Condemned n (μ .controller (μ .message m .to)) (μ .message m .vec) → RestsOnLost h h (μ .message m .to) (h .sending m)
-  dropped-cause z =
+  pub dropped-cause : μ .message m .to < n → Condemned n (μ .controller (μ .message m .to)) (μ .message m .vec) → RestsOnLost h h (μ .message m .to) (h .sending m)
+  dropped-cause below z =
       subst (λ q. Spoilt h (μ .message m .to) q) (sym (message .sending-is))
-      (condemned-spoilt {controller = μ .controller} (v .history) (v .controller-ok) (v .agree) (message .to-below) _ _ (message .from-begun) (message .tracked) z)
+      (condemned-spoilt {controller = μ .controller} (v .history) (v .controller-ok) (v .agree) below _ _ (message .from-begun) (message .tracked) z)
+
+  -- W2: where no pair of the released vector is full, all that the sending interval rests on is stable,
+  module _ (none : (a : ℕ) → full (releasedVec μ m a) ≡ false) where
+    unnamed-stable : (y : Interval) → Is (h .rests (h .sending m) y) → Is (h .stable y)
+    unnamed-stable y r = passes _ (λ f. contrary (release-covers (ext-refl h) refl y r f .1) (none (y .owner)))
+
+    -- is never lost,
+    unnamed-kept : {μ′ : Model} {h′ : History} → Keeps n μ h μ′ h′ → (y : Interval) (crash : ℕ) → Is (h′ .rests (h .sending m) y) → Is (h′ .lost y crash) → ⊥
+    unnamed-kept s y crash r =
+        s .inv .history .stable-not-lost y crash (s .ext .stable-stays y (unnamed-stable y (rests-back (s .ext) _ y sending-begun r)))
+
+    -- and the sending interval itself stays live and is lost in no crash
+    pub unnamed-stays : {μ′ : Model} {h′ : History} → Keeps n μ h μ′ h′ → let y = h .sending m in
+        Is (member y (h′ .chain (y .owner))) × ((crash : ℕ) → h′ .lost y crash ≡ false)
+    unnamed-stays s =
+        let begun = s .ext .begun-stays _ sending-begun in
+        let order = s .inv .history in
+        let live = ⊎-elim (λ z. z) (λ r. absurd (unnamed-kept s (r .on) (r .crash) (r .rests) (r .lost))) (live-or-lost (s .inv) _ (order .owner-below _ begun) _ refl begun) in
+        (live, λ crash. fails _ (unnamed-kept s _ crash (order .rests-self _ begun)))
 
 -- a controller and its vectors
 module _ {n : ℕ} {μ : Model} {h : History} (v : Inv n μ h) (c : ℕ) (below : c < n) where

@@ -5,6 +5,7 @@ use mathlib.Core.Bool.{Bool}
 use mathlib.Core.Logic.{_⊎_, inl, inr, ⊎-elim}
 use Prim.Native.Nat.{ℕ, _≤_, _<_}
 use native.Mathlib.Omega.{arith}
+use Rattle.table.specs.Field.{desk}
 use Rattle.history.specs.History.{Interval, interval, History}
 use Rattle.history.specs.Demand.{RestsOnLost}
 use Rattle.model.specs.Model.{Pair, intervalOf, Vec, Controller, Message, Model, full}
@@ -97,10 +98,14 @@ pub record Settled (h : History) (c : ℕ) (k : Controller) : Type 0 where
   pub not-ended : k .ends c (k .incarnation) ≡ 0
   pub live-clean : (x : ℕ) → 1 ≤ x → x ≤ k .live → Spoilt h c (interval c (k .begunIn x) x) → ⊥
 
+-- a message goes to a controller of the house, or to the desk (W2)
+abbrev pub Receives : ℕ → ℕ → Type 0
+Receives n r = (r < n) ⊎ (r ≡ desk)
+
 pub record MessageOk (n : ℕ) (h : History) (m : ℕ) (g : Message) : Type 0 where
   pub sending-is : h .sending m ≡ g .from
   pub receiver-is : h .receiver m ≡ g .to
-  pub to-below : g .to < n
+  pub to-ok : Receives n (g .to)
   pub from-begun : Is (h .begun (g .from))
   pub tracked : Tracks h (g .vec) (g .from)
 
@@ -275,7 +280,7 @@ module _ {h h′ : History} (e : Ext h h′) where
       record {
         sending-is = p ∙ o .sending-is;
         receiver-is = q ∙ o .receiver-is;
-        to-below = o .to-below;
+        to-ok = o .to-ok;
         from-begun = e .begun-stays _ (o .from-begun);
         tracked = tracks-on (g .vec) _ (o .from-begun) (o .tracked);
       }

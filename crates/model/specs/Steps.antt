@@ -5,12 +5,13 @@ use mathlib.Core.List.{List}
 use Prim.Native.Nat.{ℕ, _+_, _≤_, _<_}
 use native.Mathlib.Omega.{arith}
 use lib.Count.{ones}
+use Rattle.table.specs.Field.{desk}
 use Rattle.history.specs.History.{Interval, interval, History, newest, those, oldest, joined, leaving, stabilized, degreeSet, sentFrom, delivering, logging, checkpointing}
 use Rattle.history.specs.Demand.{named}
 use Rattle.model.specs.Model.{Vec, Controller, Message, Model, full, filtered, putController, putMessage, degreeController, logController, loggedController, tellController, beginController, sendMessage, releasedVec, releaseMessage}
 use Rattle.model.specs.Tests.{Is, fails, not-passes, changedAt-ind, changedAt-same, changedAt-other}
 use Rattle.model.specs.Chain.{member-chain, chain-member, newest-chain, oldest-on, on-oldest}
-use Rattle.model.specs.Invariant.{Shape, ControllerOk, MessageOk, Inv, Ext, SameFacts, ext-refl, ext-same, frame-refl, frame-same, spoilt-same, tracks-on, knows-on, body-on, ends-on, message-on, controller-on, settled-on, some-live}
+use Rattle.model.specs.Invariant.{Shape, ControllerOk, Receives, MessageOk, Inv, Ext, SameFacts, ext-refl, ext-same, frame-refl, frame-same, spoilt-same, tracks-on, knows-on, body-on, ends-on, message-on, controller-on, settled-on, some-live}
 use Rattle.model.specs.Vectors.{Condemned, filtered-tracks, spoilt-condemned}
 use Rattle.model.specs.Knowing.{may-know, knows-told}
 use Rattle.model.specs.Growing.{grown-ext, grown-order, grown-frame, grown-back, grown-settled}
@@ -18,22 +19,24 @@ use Rattle.model.specs.Beginning.{Compatible, Begins, begins-grows, begu
 use Rattle.model.specs.Logging.{Logs, Logged, logged-ext, logged-order, logged-frame, logged-back, log-logged, loggedController-logged, logged-settled}
 use Rattle.model.specs.Keeping.{Keeps, put-keeps, agree-same}
 
--- message m can be delivered: it was sent, it is not condemned to its receiver, and no other owner has full pairs of different
--- incarnations in the two vectors, both filtered for the receiver
+-- message m can be delivered: it was sent to a controller, it is not condemned to it, and no other owner has full pairs of
+-- different incarnations in the two vectors, both filtered for the receiver
 pub record Delivers (n : ℕ) (μ : Model) (m : ℕ) : Type 0 where
   pub pos : 1 ≤ m
   pub sent : m ≤ μ .sent
+  pub to-below : μ .message m .to < n
   pub not-condemned : Condemned n (μ .controller (μ .message m .to)) (μ .message m .vec) → ⊥
   pub no-conflict :
       let k = μ .controller (μ .message m .to) in Compatible n (μ .message m .to) (filtered k (k .vec (k .live))) (filtered k (μ .message m .vec))
 
--- message m can be let out with a mask: it was sent, the mask has no more ones than its sender's degree, and it names just the
--- owners of full pairs
+-- message m can be let out with a mask: it was sent, the mask has no more ones than its sender's degree, it names just the
+-- owners of full pairs, and nobody where the message is for the desk
 pub record LetsOut (μ : Model) (m mask : ℕ) : Type 0 where
   pub pos : 1 ≤ m
   pub sent : m ≤ μ .sent
   pub within : ones mask ≤ μ .controller (μ .message m .from .owner) .degree
   pub names : (a : ℕ) → named mask a ≡ full (releasedVec μ m a)
+  pub desk-none : μ .message m .to ≡ desk → mask ≡ 0
 
 module _ {n : ℕ} {μ : Model} {h : History} (v : Inv n μ h) where
   -- K: only the degree of c changes
@@ -80,7 +83,7 @@ module _ {n : ℕ} {μ : Model} {h : History} (v : Inv n μ h) where
       ext = ext-same same
 
   -- S: the newest vector, filtered, tracks the newest interval, from which the message is sent
-  pub keeps-send : (s r : ℕ) → s < n → r < n → Keeps n μ h (sendMessage μ (μ .sent + 1) s r) (sentFrom h (μ .sent + 1) s r)
+  pub keeps-send : (s r : ℕ) → s < n → Receives n r → Keeps n μ h (sendMessage μ (μ .sent + 1) s r) (sentFrom h (μ .sent + 1) s r)
   unfolding sendMessage sentFrom
   keeps-send s r sender receiver =
       record {
@@ -131,7 +134,7 @@ module _ {n : ℕ} {μ : Model} {h : History} (v : Inv n μ h) where
           record {
             sending-is = changedAt-same _ _ _ ∙ ap newest (ok .shape .chain-is) ∙ newest-chain s (k .begunIn) (k .live) live-pos;
             receiver-is = changedAt-same _ _ _;
-            to-below = receiver;
+            to-ok = receiver;
             from-begun = begun;
             tracked =
                 tracks-on ext _ _ begun
@@ -167,7 +170,7 @@ module _ {n : ℕ} {μ : Model} {h : History} (v : Inv n μ h) where
           record {
             sending-is = o .sending-is;
             receiver-is = o .receiver-is;
-            to-below = o .to-below;
+            to-ok = o .to-ok;
             from-begun = o .from-begun;
             tracked =
                 filtered-tracks _ _ _ (v .history) (v .controller-ok _ (v .history .owner-below _ (o .from-begun)) .knows) (o .from-begun) (o .tracked);
@@ -207,14 +210,14 @@ module _ {n : ℕ} {μ : Model} {h : History} (v : Inv n μ h) where
       begins =
           record {
             order = v .history;
-            ok = v .controller-ok c (o .to-below);
-            settled = v .settled c (o .to-below);
-            below = o .to-below;
+            ok = v .controller-ok c (D .to-below);
+            settled = v .settled c (D .to-below);
+            below = D .to-below;
             from-begun = o .from-begun;
             from-tracked = o .tracked;
             from-clean = λ r.
                 D .not-condemned
-                (spoilt-condemned {controller = μ .controller} (v .history) (v .controller-ok) (v .agree) (o .to-below) w _ (o .from-begun) (o .tracked) r);
+                (spoilt-condemned {controller = μ .controller} (v .history) (v .controller-ok) (v .agree) (D .to-below) w _ (o .from-begun) (o .tracked) r);
             one = D .no-conflict;
           }
 

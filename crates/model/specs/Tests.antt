@@ -44,6 +44,11 @@ pub fails : (b : Bool) → (Is b → ⊥) → b ≡ false
 fails true f = absurd (f refl)
 fails false f = refl
 
+-- and one that cannot fail passes
+pub passes : (b : Bool) → (b ≡ false → ⊥) → Is b
+passes true f = refl
+passes false f = absurd (f refl)
+
 -- the opposite of a test that fails passes
 pub not-passes : (b : Bool) → b ≡ false → Is (not b)
 not-passes b e = rw e

@@ -2,22 +2,29 @@
 use mathlib.Core.Path.{_≡_, refl, sym, ap, _∙_}
 use mathlib.Core.Bool.{Bool, true, false, cond, _&&_, and-false}
 use mathlib.Core.Logic.{_≢_}
-use mathlib.Core.List.{List, [], _∷_, _++_}
+use mathlib.Core.List.{List, _++_}
 use Prim.Native.Nat.{ℕ, _+_, _-_, _≤_, _<_, zero-le}
 use native.Mathlib.Nat.{zero-add}
 use native.Mathlib.Omega.{arith}
-use lib.ListN.{length, getD, set, take, drop, replicate, length-set, getD-replicate, drop-of-length-le}
-use lib.Seq.{getD-set-same, getD-set-other, sets, sets-eq}
-use borrow.Author.Tests.{eqb-true, eqb-false, eq-eqb, lt-ltb, le-ltb}
+use lib.ListN.{length, getD, set, take, drop, replicate, length-set, getD-replicate}
+use lib.Seq.{getD-set-same, getD-set-other}
+use borrow.Author.Tests.{eqb-true, eqb-false, not-false, eq-eqb, lt-ltb, le-ltb}
 use Rattle.base.specs.Choice.{_==_, _<?_, and-left, and-right, cond-ind, le?}
 use Rattle.base.specs.Lists.{tab-of}
+use Rattle.base.specs.Cases.{firstOf, cleared}
 use Rattle.table.specs.Field.{Field, State, OfHead, OfController, Known, End, OfPlace, OfMessage, Size, word, same}
 use Rattle.table.specs.Change.{put, put-ind, putPart, part-ind}
 use Rattle.table.specs.Layout.{controllers, controllerWords, placeWords, tableWords, Valid, position}
 use Rattle.table.specs.Words.{state, words, words-of, words-state, words-same, Agree, agree-words, agree-put, agree-part, lent-part, fits-controller, called, then-put, then-part}
+use Rattle.rules.specs.Limits.{house}
 use Rattle.rules.specs.Vector.{Pair, Vector, pair, noPair}
-use Rattle.rules.specs.Steps.{firstController, firstPlace, firstVector, openHouse}
+use Rattle.rules.specs.Ledger.{ledgerWords, blankLedger}
+use Rattle.rules.specs.Steps.{firstController, firstPlace, firstVector, openHouse, openRefusals, stepOpen}
+use Rattle.rules.specs.Step.{outBoth, writtenBoth}
+use Rattle.rules.specs.declared.Answer.the-variants.{Done, Refused}
 use Rattle.laws.specs.Records.{length-place-record}
+use Rattle.laws.specs.Allowed.{OpenAllowed, openAllowed}
+use Rattle.laws.specs.Answering.{refused-both, granted-both}
 use Rattle.interval.specs.Walks.{zeroWords, zero-at, length-zero}
 
 -- σ with controller c begun
@@ -29,12 +36,6 @@ beginsAt σ c k =
 -- O n k with only the controllers below c begun
 unfoldable pub openedTo : ℕ → ℕ → ℕ → State
 openedTo n k c = put (openHouse c k) Size n
-
--- the words stored one by one are a controller's record
-pub controller-stored : (d : List ℕ) (k : ℕ) → length d ≡ controllerWords → sets d 0 (k ∷ 0 ∷ 1 ∷ 1 ∷ []) ≡ firstController k
-controller-stored d k l =
-    let h : List ℕ = k ∷ 0 ∷ 1 ∷ 1 ∷ [] in
-    sets-eq h d 0 (omega arith) ∙ ap (λ (r : List ℕ). h ++ r) (drop-of-length-le d {i = controllerWords} (omega arith))
 
 -- one pair stored in an empty vector
 pub own-stored : (c : ℕ) → c < controllers → set (replicate controllers noPair) c (pair 0 1) ≡ firstVector c
@@ -184,3 +185,23 @@ all-begun n k (OfMessage r w) v = refl
 -- the loop has come to its end, with all controllers begun
 pub opened-all : (n k c : ℕ) (t : List ℕ) → t ≡ words (openedTo n k c) → c ≤ n → n ≤ c → t ≡ words (openHouse n k)
 opened-all n k c t e l m = e ∙ ap (λ c. words (openedTo n k c)) (omega arith) ∙ words-same _ _ (all-begun n k)
+
+-- O n k; r is the number that its refusals gave
+module _ (t g : List ℕ) (n k r : ℕ) (e : r ≡ firstOf (openRefusals house g n k)) where
+  pub open-refused : length t ≡ tableWords → (r ≡ 0 → ⊥) → outBoth (Refused r) t g ≡ writtenBoth (stepOpen house (state t) g n k)
+  unfolding stepOpen
+  open-refused l ne = refused-both _ t g r _ l e ne
+
+  pub open-allowed : r ≡ 0 → OpenAllowed n k
+  open-allowed z = openAllowed g n k (sym z ∙ e)
+
+  -- the ledger has its length, and so all of its words were cleared
+  ledger-cleared : r ≡ 0 → (w : List ℕ) → w ≡ zeroWords (length g) → w ≡ blankLedger house
+  unfolding zeroWords blankLedger
+  ledger-cleared z w we =
+      let l : length g ≡ ledgerWords house = eqb-true _ _ (not-false _ (cleared _ 0 refl (sym z ∙ e))) in
+      we ∙ ap zeroWords l
+
+  pub open-done : (u w : List ℕ) → r ≡ 0 → u ≡ words (openHouse n k) → w ≡ zeroWords (length g) → outBoth Done u w ≡ writtenBoth (stepOpen house (state t) g n k)
+  unfolding stepOpen
+  open-done u w z ue we = granted-both _ (state t) g _ Done u w r e z (λ d. outBoth Done (ue d) (ledger-cleared z w we d))

@@ -1,21 +1,25 @@
-// The step O: a house is opened in a table, whatever stood in it before.
+// The step O: a house is opened in a table, whatever stood in it before, and the ledger is cleared.
 ghost use mathlib.Core.Path.{_≡_};
 ghost use Prim.Native.Nat.{_<_};
 ghost use lib.ListN.{length};
 ghost use Rattle.base.specs.Cases.{firstOf};
 ghost use Rattle.table.specs.Layout.{controllers, controllerWords, tableWords};
 ghost use Rattle.table.specs.Words.{state, words};
+ghost use Rattle.rules.specs.Limits.{house};
 ghost use Rattle.rules.specs.Steps.{firstController, firstVector, openHouse, openRefusals, stepOpen};
-ghost use Rattle.rules.specs.Step.{out, written};
+ghost use Rattle.rules.specs.Step.{outBoth, writtenBoth};
 ghost use Rattle.laws.specs.Allowed.{OpenAllowed};
 ghost use Rattle.opening.specs.Opened.{beginsAt};
 use rules::Answer;
 use rules::refusal;
 use vector::Vector;
 
-pub fn open_refusal(n: u32, k: u32) -> u32
-    ensures { λ no. ⌜ no ≡ firstOf (openRefusals n k) ⌝ }
+pub fn open_refusal(g: &[u32], n: u32, k: u32) -> u32
+    ensures { λ no. ⌜ no ≡ firstOf (openRefusals house (now (g .entry)) n k) ⌝ }
 {
+    if g.len() != ledger::LEDGER_WORDS {
+        return refusal::LEDGER;
+    }
     if (n == 0) | ((table::CONTROLLERS as u32) < n) | (n < k) {
         return refusal::DEGREE;
     }
@@ -72,14 +76,15 @@ pub fn open_house(t: &mut [u32], n: u32, k: u32)
 }
 
 // O n k, on a table of the right length.
-pub fn open(t: &mut [u32], n: u32, k: u32) -> Answer
+pub fn open(t: &mut [u32], g: &mut [u32], n: u32, k: u32) -> Answer
     requires { ⌜ length (now t) ≡ tableWords ⌝ }
-    ensures { λ a. ⌜ out a (now (t .exit)) ≡ written (stepOpen (state (now (t .entry))) n k) ⌝ }
+    ensures { λ a. ⌜ outBoth a (now (t .exit)) (now (g .exit)) ≡ writtenBoth (stepOpen house (state (now (t .entry))) (now (g .entry)) n k) ⌝ }
 {
-    let no = open_refusal(n, k);
+    let no = open_refusal(g, n, k);
     if no != 0 {
         return Answer::Refused(no);
     }
     open_house(t, n, k);
+    interval::clear(g);
     Answer::Done
 }

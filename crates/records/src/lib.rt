@@ -7,7 +7,7 @@ ghost use Rattle.table.specs.Layout.{controllers, places, messages, vectorWords
 ghost use Rattle.table.specs.Words.{state};
 ghost use Rattle.rules.specs.Limits.{house};
 ghost use Rattle.rules.specs.Vector.{pair};
-ghost use Rattle.rules.specs.Form.{pairOk, vectorOk, controllerOk, highest, rowOk, placeOk, messageOk};
+ghost use Rattle.rules.specs.Form.{pairOk, vectorOk, controllerOk, highest, rowOk, placeOk, stateOk, messageOk};
 ghost use Rattle.vector.specs.At.{vectorAt};
 ghost use Rattle.records.specs.Zeros.{zerosFrom};
 
@@ -114,17 +114,27 @@ pub fn place_ok(t: &[u32], n: u32, c: usize, p: usize) -> bool
     }
 }
 
+// The state of a sent message, by whether it is for the desk.
+pub fn state_ok(desk: bool, state: u32) -> bool
+    ensures { λ x. ⌜ x ≡ stateOk desk state ⌝ }
+{
+    let sent_out = (state == table::HELD)
+        | ((state == table::DROPPED) | (state == table::PUBLISHED));
+    let sent_within = (table::HELD <= state) & (state <= table::DROPPED);
+    (desk & sent_out) | (!desk & sent_within)
+}
+
 pub fn message_ok(t: &[u32], n: u32, r: usize) -> bool
     requires { ⌜ (length (now t) ≡ tableWords) × (r < messages) ⌝ }
     ensures { λ x. ⌜ x ≡ messageOk house n (state (now (t .entry))) r ⌝ }
 {
     if (r as u32) < table::records_used(t) {
-        let state = table::message_state(t, r);
+        let receiver = table::receiver(t, r);
+        let for_desk = receiver == table::DESK;
         let number = table::sending_number(t, r);
-        (table::HELD <= state)
-            & (state <= table::DROPPED)
+        state_ok(for_desk, table::message_state(t, r))
             & (table::sender(t, r) < n)
-            & (table::receiver(t, r) < n)
+            & ((receiver < n) | for_desk)
             & (table::sending_incarnation(t, r) <= table::LAST_INCARNATION)
             & (1 <= number)
             & (number <= table::LAST_NUMBER)

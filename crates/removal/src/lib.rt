@@ -6,7 +6,8 @@ ghost use Rattle.table.specs.Field.{LiveCount, MessageState};
 ghost use Rattle.table.specs.Change.{put};
 ghost use Rattle.table.specs.Layout.{controllers, messages, tableWords};
 ghost use Rattle.table.specs.Words.{state, words};
-ghost use Rattle.rules.specs.Shared.{offeredAgain, causesIn, causes, orphaned, heldOrDropped, dropHeld};
+ghost use Rattle.table.specs.Numbering.{used};
+ghost use Rattle.rules.specs.Shared.{offeredAgain, causing, causesIn, causes, orphaned, heldOrDropped, dropHeld};
 ghost use Rattle.laws.specs.Chain.{Chain};
 
 // The state of the cause in record r of an interval that c lost or undid: it is offered again, unless it is condemned to c.
@@ -22,14 +23,25 @@ pub fn fate_of(t: &[u32], c: usize, r: usize) -> u32
     }
 }
 
-// The cause of the interval in place p of c, if it has a record, gets its state.
+// Whether a message stands in record r that can be a cause: one for the desk is passed over.
+pub fn causing(t: &[u32], r: usize) -> bool
+    requires { ⌜ (length (now t) ≡ tableWords) × (used (state (now t)) ≤ messages) ⌝ }
+    ensures { λ b. ⌜ b ≡ causing (state (now (t .entry))) r ⌝ }
+{
+    if table::records_used(t) as usize <= r {
+        return false;
+    }
+    table::receiver(t, r) != table::DESK
+}
+
+// The cause of the interval in place p of c, if it has a record and is not for the desk, gets its state.
 pub fn settle_cause(t: &mut [u32], c: usize, p: usize)
     requires { ⌜ (length (now t) ≡ tableWords) × Chain (state (now t)) c × (p < state (now t) (LiveCount c)) ⌝ }
     ensures { λ _. ⌜ now (t .exit) ≡ words (causesIn (state (now (t .entry))) c p 1) ⌝ }
 {
     let m = table::cause(t, c, p);
     let r = table::find_record(t, m);
-    if r < table::records_used(t) as usize {
+    if causing(t, r) {
         let x = fate_of(t, c, r);
         table::set_message_state(t, r, x);
     }

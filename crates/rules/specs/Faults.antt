@@ -1,20 +1,28 @@
 -- Document 01's "faults that look sensible", where the starred examples don't tell them from the rules, and those of the requests:
 -- one small state for each on which the fault would give something else.
 use mathlib.Core.Path.{_≡_, refl}
+use mathlib.Core.Bool.{Bool, true, false, cond}
 use mathlib.Core.List.{List, [], _∷_, map}
+use Prim.Native.Nat.{ℕ}
 use lib.Count.{onesIn, ones}
+use lib.ListN.{set, replicate}
 use Rattle.base.specs.Ranges.{anyb}
 use Rattle.base.specs.Lists.{tab}
-use Rattle.table.specs.Field.{State, Known, End, SentCount, LiveCount, StableCount, Cause, MessageState, SendingNumber, MessagePairNumber, same}
+use Rattle.base.specs.Cases.{firstOf}
+use Rattle.base.specs.Splice.{splice}
+use Rattle.table.specs.Field.{State, Known, End, SentCount, Degree, LiveCount, StableCount, Cause, MessageState, Receiver, SendingNumber, Payload, MessagePairNumber, desk, same}
 use Rattle.table.specs.Change.{blank, put, putPart, clearPlaces, putStates}
 use Rattle.table.specs.Numbering.{numberOf, used, messageOf}
 use Rattle.rules.specs.Vector.{placeVector, messageVector, flat, knownStable, filterPair, filtered, condemnedPair, condemned, maskTo, mask}
-use Rattle.rules.specs.Form.{stateHeld, stateReleased, stateDropped}
-use Rattle.rules.specs.Shared.{placeRecord, logged, loggedTo, causedIn, causesIn, causes, offeredAgain, newVector, placed, entered, restarted, heldOrDropped, dropHeld, startAnew, removed}
-use Rattle.rules.specs.Steps.{letOut, release, crashed, rolledBack}
+use Rattle.rules.specs.Form.{stateHeld, stateReleased, stateDropped, statePublished, stateOk}
+use Rattle.rules.specs.Limits.{house, lastEntry}
+use Rattle.rules.specs.Refusal.{LEDGER-USED-UP}
+use Rattle.rules.specs.Ledger.{countAt, ledgerWords, countOf, appended, blankLedger}
+use Rattle.rules.specs.Shared.{placeRecord, logged, loggedTo, causing, causedIn, causesIn, causes, offeredAgain, newVector, placed, entered, restarted, heldOrDropped, dropHeld, startAnew, removed}
+use Rattle.rules.specs.Steps.{refusingBoth, openHouse, stepOpen, letOut, mayGo, release, crashed, rolledBack}
 use Rattle.rules.specs.Report.{report}
 use Rattle.rules.specs.Starred.{Row, _is_, answer}
-use Rattle.rules.specs.declared.Answer.the-variants.{Released}
+use Rattle.rules.specs.declared.Answer.the-variants.{Released, Held, Refused}
 
 -- message 1, in record 0, is from controller 0, of degree 0, and has the pair (0,2) of controller 1, which controller 0 knows to be stable
 abbrev since-logged : State
@@ -36,10 +44,36 @@ one-taken = put (put two-unstable SentCount 1) (Cause 0 1) 1
 abbrev one-returned : State
 one-returned = put one-taken (MessagePairNumber 0 0) 2
 
+-- message 1, in record 0 and with the payload 7, is from controller 0 and for the desk; it rests on nothing that could be revoked
+abbrev for-desk : State
+for-desk = put (put blank (Receiver 0) desk) (Payload 0) 7
+
+-- or it has a pair of controller 1, which the degree of controller 0 would let pass
+abbrev revocable : State
+revocable = put (put for-desk (Degree 0) 1) (MessagePairNumber 0 1) 2
+
+-- a ledger with one entry, and one that says that it is full (the rule looks at no more of it)
+abbrev cited-once : List ℕ
+cited-once = 1 ∷ 5 ∷ 6 ∷ 0 ∷ 0 ∷ []
+
+abbrev full : List ℕ
+full = lastEntry ∷ []
+
+-- the ledger of an earlier house: the right length, and a count of 1
+abbrev used-before : List ℕ
+used-before = set (replicate (ledgerWords house) 0) countAt 1
+
+-- controller 0 began its second interval, which isn't stable, from a published message: only a lent table says so
+abbrev published-taken : State
+published-taken = put (put one-taken (Receiver 0) desk) (MessageState 0) statePublished
+
+abbrev truth : Bool → List ℕ
+truth b = cond b (1 ∷ []) (0 ∷ [])
+
 abbrev told-apart : List Row
 told-apart =
     -- "Counting stored pairs at release instead of filtered ones": it would be held.
-    (answer (release since-logged 1 0 .answer) is answer (Released 1 0))
+    (answer (release house since-logged [] 1 0 .answer) is answer (Released 1 0))
     -- "Writing an end word for a rollback as if it were a crash": the own end word would be 2.
     ∷ ((rolledBack two-unstable 0 2 (End 0 0 0) ∷ []) is (0 ∷ []))
     -- "Not logging kept intervals on rollback": they would not be known to be stable.
@@ -50,8 +84,28 @@ told-apart =
     ∷ ((crashed one-taken 0 (MessageState 0) ∷ []) is (stateReleased ∷ []))
     -- W1: a cause released again though it is condemned, or judged by the ends before the crash.
     ∷ ((crashed one-returned 0 (MessageState 0) ∷ []) is (stateDropped ∷ []))
+    -- W2: a message to the desk let out by the degree, or published while it is held.
+    ∷ (answer (release house revocable cited-once 1 0 .answer) is answer (Held 1 2))
+    ∷ (release house revocable cited-once 1 0 .ledger is cited-once)
+    -- W2: a full ledger looked at before the mask; it is looked at where the message would be published.
+    ∷ (answer (release house revocable full 1 0 .answer) is answer (Held 1 2))
+    ∷ (answer (release house for-desk full 1 0 .answer) is answer (Refused LEDGER-USED-UP))
+    -- W2: "released m 0", "state 6, published", and one pair is appended behind the others.
+    ∷ (answer (release house for-desk cited-once 1 0 .answer) is answer (Released 1 0))
+    ∷ ((release house for-desk cited-once 1 0 .left (MessageState 0) ∷ []) is (statePublished ∷ []))
+    ∷ (release house for-desk cited-once 1 0 .ledger is (2 ∷ 5 ∷ 6 ∷ 1 ∷ 7 ∷ []))
+    -- W2: a release that doesn't publish writes the ledger.
+    ∷ (release house since-logged cited-once 1 0 .ledger is cited-once)
+    -- W2: an opening that leaves an old entry.
+    ∷ ((countOf (stepOpen house blank used-before 1 0 .ledger) ∷ []) is (0 ∷ []))
+    -- W2: state 6 in form elsewhere, or another at the desk.
+    ∷ (truth (stateOk false statePublished) is (0 ∷ []))
+    ∷ (truth (stateOk true statePublished) is (1 ∷ []))
+    ∷ (truth (stateOk true stateReleased) is (0 ∷ []))
+    -- W2: a message to the desk changed as a cause.
+    ∷ ((crashed published-taken 0 (MessageState 0) ∷ []) is (statePublished ∷ []))
     ∷ []
 
 pub told-apart-hold : map (λ (x : Row). x .given) told-apart ≡ map (λ (x : Row). x .said) told-apart
-unfolding put same putPart clearPlaces putStates tab anyb numberOf used messageOf placeVector messageVector flat knownStable filterPair filtered condemnedPair condemned maskTo mask placeRecord logged loggedTo causedIn causesIn causes offeredAgain newVector placed entered restarted heldOrDropped dropHeld startAnew removed letOut release crashed rolledBack report onesIn ones
+unfolding put same putPart clearPlaces putStates tab anyb numberOf used messageOf placeVector messageVector flat knownStable filterPair filtered condemnedPair condemned maskTo mask placeRecord logged loggedTo causing causedIn causesIn causes offeredAgain newVector placed entered restarted heldOrDropped dropHeld startAnew removed stateOk appended blankLedger splice firstOf refusingBoth openHouse stepOpen letOut mayGo release crashed rolledBack report onesIn ones
 told-apart-hold = refl

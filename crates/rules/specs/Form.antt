@@ -5,14 +5,14 @@ use Prim.Native.Nat.{ℕ, _+_, _-_}
 use Rattle.base.specs.Choice.{_==_, _≤?_, _<?_}
 use Rattle.base.specs.Ranges.{allb}
 use Rattle.base.specs.Cases.{allOf}
-use Rattle.table.specs.Field.{State, OfHead, OfController, Known, End, OfPlace, OfMessage, Size, Degree, Incarnation, LiveCount, StableCount, PlaceIncarnation, PlaceNumber, Cause, Flag, MessageState, Sender, Receiver, SendingIncarnation, SendingNumber, spareFrom}
+use Rattle.table.specs.Field.{State, OfHead, OfController, Known, End, OfPlace, OfMessage, Size, Degree, Incarnation, LiveCount, StableCount, PlaceIncarnation, PlaceNumber, Cause, Flag, MessageState, Sender, Receiver, SendingIncarnation, SendingNumber, desk, spareFrom}
 use Rattle.table.specs.Layout.{controllers, incarnations, headWords, controllerWords, placeWords, messageWords}
 use Rattle.table.specs.Numbering.{numberOf, used, lastGiven}
 use Rattle.rules.specs.Limits.{Limits, lastIncarnation}
 use Rattle.rules.specs.Vector.{Pair, Vector, incarnation, number, pairOf, placeVector, messageVector}
 
 -- "States: 0 unused, 1 held, 2 released, 3 delivered, 4 lost, 5 dropped." W1: "State 4 isn't given any more; a table that has it
--- stays in form."
+-- stays in form." W2: "state 6, published".
 abbrev pub stateHeld : ℕ
 stateHeld = 1
 
@@ -27,6 +27,18 @@ stateLost = 4
 
 abbrev pub stateDropped : ℕ
 stateDropped = 5
+
+abbrev pub statePublished : ℕ
+statePublished = 6
+
+-- W2: the message in record r is for the desk
+abbrev pub forDesk : State → ℕ → Bool
+forDesk σ r = σ (Receiver r) == desk
+
+-- "sent messages have state 1 to 5"; W2: "A message for receiver 8 has state 1, 5 or 6"; "state 6 is in form there alone"
+unfoldable pub stateOk : Bool → ℕ → Bool
+stateOk toDesk s =
+    cond toDesk ((s == stateHeld) || ((s == stateDropped) || (s == statePublished))) ((stateHeld ≤? s) && (s ≤? stateDropped))
 
 -- n words in a row are 0
 unfoldable pub zeros : ℕ → (ℕ → ℕ) → Bool
@@ -82,16 +94,15 @@ module _ (L : Limits) (n : ℕ) where
       ∷ []))
       (zeros placeWords (λ (k : ℕ). σ (OfPlace c p k)))
 
-  -- "sent messages have state 1 to 5, sender and receiver below n, sending number 1 to 64; payload free"; "unsent messages
-  -- are 0"
+  -- "sent messages have state 1 to 5, sender and receiver below n, sending number 1 to 64; payload free"; W2: "Sends may name
+  -- receiver 8"; "unsent messages are 0"
   unfoldable pub messageOk : State → ℕ → Bool
   messageOk σ r =
       cond (r <? used σ)
       (allOf
-      ((stateHeld ≤? σ (MessageState r))
-      ∷ (σ (MessageState r) ≤? stateDropped)
+      (stateOk (forDesk σ r) (σ (MessageState r))
       ∷ (σ (Sender r) <? n)
-      ∷ (σ (Receiver r) <? n)
+      ∷ ((σ (Receiver r) <? n) || forDesk σ r)
       ∷ (σ (SendingIncarnation r) ≤? lastIncarnation)
       ∷ (1 ≤? σ (SendingNumber r))
       ∷ (σ (SendingNumber r) ≤? L .numbers)

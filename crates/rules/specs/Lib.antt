@@ -3,6 +3,7 @@ pub mod Refusal
 pub mod Bytes
 pub mod Vector
 pub mod Form
+pub mod Ledger
 pub mod Shared
 pub mod Steps
 pub mod Step

@@ -2,11 +2,13 @@
 use Prim.Native.Nat.{ℕ}
 use Rattle.table.specs.Layout.{places, messages}
 
--- How many places a controller has, how many message records the house, and how far interval numbers run.
+-- How many places a controller has, how many message records the house, how far interval numbers run, and how many entries the
+-- ledger has.
 pub record Limits : Type 0 where
   pub places : ℕ
   pub messages : ℕ
   pub numbers : ℕ
+  pub entries : ℕ
 
 -- "An interval has an incarnation t (0 to 15) and a number x (1 to 64)."
 abbrev pub lastIncarnation : ℕ
@@ -15,5 +17,9 @@ lastIncarnation = 15
 abbrev pub lastNumber : ℕ
 lastNumber = 64
 
+-- W2: "the ledger has 257 words: a count, then 128 pairs"
+abbrev pub lastEntry : ℕ
+lastEntry = 128
+
 abbrev pub house : Limits
-house = record { places = places; messages = messages; numbers = lastNumber }
+house = record { places = places; messages = messages; numbers = lastNumber; entries = lastEntry }

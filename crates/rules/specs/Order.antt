@@ -1,29 +1,56 @@
--- "Where several apply, the lowest number is given": each step's own refusals come after the host's and stand in order of number.
+-- "Where several apply, the lowest number is given": each step's own refusals come after the host's, in the papers' order.
 use mathlib.Core.Path.{_≡_, refl}
-use mathlib.Core.Bool.{Bool, true, _&&_}
+use mathlib.Core.Bool.{Bool, true, cond, _&&_}
 use mathlib.Core.List.{List, [], _∷_}
-use Prim.Native.Nat.{ℕ}
-use Rattle.base.specs.Choice.{_<?_}
+use Prim.Native.Nat.{ℕ, suc}
+use Rattle.base.specs.Choice.{_==_, _<?_}
 use Rattle.base.specs.Cases.{Case}
 use Rattle.table.specs.Field.{State}
 use Rattle.rules.specs.Limits.{Limits}
-use Rattle.rules.specs.Refusal.{FORM}
-use Rattle.rules.specs.Steps.{openRefusals, degreeRefusals, sendRefusals, messageRefusals, logRefusals, checkpointRefusals, tellRefusals, crashRefusals, hearRefusals}
+use Rattle.rules.specs.Refusal.{LENGTH, FORM, LEDGER, CONTROLLER, MESSAGE, DEGREE, SAME-CONTROLLER, STATE, LOG-COUNT, NO-SUCH-CRASH, ALREADY-HEARD, MESSAGES-USED-UP, PLACES-USED-UP, INCARNATIONS-USED-UP, LEDGER-USED-UP}
+use Rattle.rules.specs.Steps.{openRefusals, degreeRefusals, sendRefusals, messageRefusals, releaseRefusals, logRefusals, checkpointRefusals, tellRefusals, crashRefusals, hearRefusals}
 
--- the numbers rise, from one above n on
+-- Their order: that of their numbers, but for the ledger's. W2: 14 "stands directly after 2, at release and, for the length only,
+-- directly after 1 at opening"; 18 "stands last at release".
+abbrev inTurn : List ℕ
+inTurn =
+    LENGTH
+    ∷ FORM
+    ∷ LEDGER
+    ∷ CONTROLLER
+    ∷ MESSAGE
+    ∷ DEGREE
+    ∷ SAME-CONTROLLER
+    ∷ STATE
+    ∷ LOG-COUNT
+    ∷ NO-SUCH-CRASH
+    ∷ ALREADY-HEARD
+    ∷ MESSAGES-USED-UP
+    ∷ PLACES-USED-UP
+    ∷ INCARNATIONS-USED-UP
+    ∷ LEDGER-USED-UP
+    ∷ []
+
+-- where a number stands in it, from 1 on
+abbrev turn : ℕ → List ℕ → ℕ
+turn number [] = 0
+turn number (n ∷ more) = cond (number == n) 1 (suc (turn number more))
+
+-- the cases stand in that order, from one after number n on
 abbrev rises : ℕ → List Case → Bool
 rises n [] = true
-rises n (x ∷ xs) = (n <? x .number) && rises (x .number) xs
+rises n (x ∷ xs) = (turn n inTurn <? turn (x .number) inTurn) && rises (x .number) xs
 
 abbrev allRise : List (List Case) → Bool
 allRise [] = true
 allRise (cases ∷ more) = rises FORM cases && allRise more
 
-pub in-order : (L : Limits) (σ : State) (a b c : ℕ) →
+pub in-order : (L : Limits) (σ : State) (g : List ℕ) (a b c : ℕ) →
     allRise
-    (openRefusals a b
+    (openRefusals L g a b
     ∷ degreeRefusals σ a b
     ∷ sendRefusals L σ a b
+    ∷ releaseRefusals L σ g a
     ∷ messageRefusals σ a b
     ∷ logRefusals σ a b
     ∷ checkpointRefusals σ a
@@ -32,4 +59,4 @@ pub in-order : (L : Limits) (σ : State) (a b c : ℕ) →
     ∷ hearRefusals σ a b c
     ∷ [])
     ≡ true
-in-order L σ a b c = refl
+in-order L σ g a b c = refl

@@ -1,5 +1,5 @@
--- Document 01, "Refused, and by whom it is caused": the numbers by name. The code (src/refusal.rt), include/goulvizad.h and the
--- second implementation have the same names (with _ for -).
+-- Document 01, "Refused, and by whom it is caused", and the requests: the numbers by name. The code (src/refusal.rt),
+-- include/goulvizad.h and the second implementation have the same names (with _ for -).
 use Prim.Native.Nat.{ℕ}
 
 -- "The host that lends the table": "1 length is not 15,152"
@@ -9,6 +9,11 @@ LENGTH = 1
 -- "2 table not in form (not looked at by open)"
 abbrev pub FORM : ℕ
 FORM = 2
+
+-- W2: "14 when the ledger's length is not 257, its count is above 128, or a pair past the count is not 0; it stands directly
+-- after 2, at release and, for the length only, directly after 1 at opening."
+abbrev pub LEDGER : ℕ
+LEDGER = 14
 
 -- "The caller naming things": "3 controller not below n"
 abbrev pub CONTROLLER : ℕ
@@ -53,3 +58,7 @@ PLACES-USED-UP = 12
 -- "13 crash, or a hearing that must undo, in incarnation 15"
 abbrev pub INCARNATIONS-USED-UP : ℕ
 INCARNATIONS-USED-UP = 13
+
+-- W2: "18 when publishing would carry the count past 128; it stands last at release."
+abbrev pub LEDGER-USED-UP : ℕ
+LEDGER-USED-UP = 18

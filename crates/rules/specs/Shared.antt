@@ -1,5 +1,5 @@
 -- Document 01, "Rules used by several steps", but for those on vectors, which stand in Vector.antt.
-use mathlib.Core.Bool.{Bool, cond, _&&_}
+use mathlib.Core.Bool.{Bool, not, cond, _&&_}
 use mathlib.Core.List.{List, [], _∷_, _++_}
 use Prim.Native.Nat.{ℕ, zero, suc, _+_, _-_}
 use lib.ListN.{set}
@@ -9,7 +9,7 @@ use Rattle.table.specs.Field.{State, OfPlace, Known, Incarnation, LiveCount, St
 use Rattle.table.specs.Change.{put, putPart, clearPlaces, putStates}
 use Rattle.table.specs.Numbering.{numberOf, used, messageOf}
 use Rattle.rules.specs.Vector.{Vector, pair, placeVector, messageVector, flat, filtered, condemned}
-use Rattle.rules.specs.Form.{stateHeld, stateReleased, stateDropped}
+use Rattle.rules.specs.Form.{stateHeld, stateReleased, stateDropped, forDesk}
 
 -- the place of the newest live interval
 abbrev pub newestPlace : State → ℕ → ℕ
@@ -28,9 +28,13 @@ logged σ c k = put (put σ (StableCount c) k) (Known c c (σ (Incarnation c))) 
 unfoldable pub loggedTo : State → ℕ → ℕ → State
 loggedTo σ c k = cond (σ (StableCount c) <? k) (logged σ c k) σ
 
--- message record r, in use, is the cause of an interval of c in one of the n places from k on
+-- a message that can be a cause: it stands in record r; W2: "A message for receiver 8 .. is never changed as a cause"
+unfoldable pub causing : State → ℕ → Bool
+causing σ r = (r <? used σ) && not (forDesk σ r)
+
+-- that message is the cause of an interval of c in one of the n places from k on
 unfoldable pub causedIn : State → ℕ → ℕ → ℕ → ℕ → Bool
-causedIn σ c k n r = (r <? used σ) && anyb n (λ (j : ℕ). σ (Cause c (k + j)) == messageOf σ r)
+causedIn σ c k n r = causing σ r && anyb n (λ (j : ℕ). σ (Cause c (k + j)) == messageOf σ r)
 
 -- H: "each cause of an undone interval becomes dropped if its vector is condemned to b, else released again"; W1: "On a crash,
 -- the cause of each lost interval becomes released again, or dropped if its vector is condemned to that controller by its ends

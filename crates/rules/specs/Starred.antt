@@ -12,7 +12,7 @@ use Rattle.table.specs.Numbering.{numberOf}
 use Rattle.rules.specs.Limits.{house}
 use Rattle.rules.specs.Vector.{pair, noPair, pairOf, placeVector, messageVector, flat, knownStable, filterPair, filtered, condemnedPair, condemned, maskTo, mask, conflictPair, conflict, mergePair, merged}
 use Rattle.rules.specs.Shared.{placeRecord, latestFlagged, replayed}
-use Rattle.rules.specs.Steps.{letOut, release, intervalAdded, intervalBegins, deliver}
+use Rattle.rules.specs.Steps.{letOut, mayGo, release, intervalAdded, intervalBegins, deliver}
 use Rattle.rules.specs.Report.{report}
 use Rattle.rules.specs.declared.Answer.{Answer}
 use Rattle.rules.specs.declared.Answer.the-variants.{Released, Held, Delivered, Waits}
@@ -74,10 +74,10 @@ starred =
     ∷ (filterPair known 1 0 (pair 0 2) is noPair)
     ∷ (filterPair known 1 0 (pair 0 3) is pair 0 3)
     -- 5. Mask 6 with K 1 is held; with K 2 released.
-    ∷ (answer (release (two-named 1) 1 0 .answer) is answer (Held 1 6))
-    ∷ (answer (release (two-named 2) 1 0 .answer) is answer (Released 1 6))
+    ∷ (answer (release house (two-named 1) [] 1 0 .answer) is answer (Held 1 6))
+    ∷ (answer (release house (two-named 2) [] 1 0 .answer) is answer (Released 1 6))
     -- 6. Mask 0 with K 0 is released.
-    ∷ (answer (release blank 1 0 .answer) is answer (Released 1 0))
+    ∷ (answer (release house blank [] 1 0 .answer) is answer (Released 1 0))
     -- 7. Pairs (0,9) and (1,3) of one owner, neither known stable: waits.
     ∷ (answer (deliver house two-incarnations 1 0 .answer) is answer (Waits 1))
     -- 8. The same with (0,9) known stable: merged pair (1,3).
@@ -88,5 +88,5 @@ starred =
     ∷ []
 
 pub starred-hold : map (λ (x : Row). x .given) starred ≡ map (λ (x : Row). x .said) starred
-unfolding put same putPart tab anyb numberOf placeVector messageVector flat knownStable filterPair filtered condemnedPair condemned maskTo mask conflictPair conflict mergePair merged placeRecord latestFlagged replayed letOut release intervalAdded intervalBegins deliver report onesIn ones
+unfolding put same putPart tab anyb numberOf placeVector messageVector flat knownStable filterPair filtered condemnedPair condemned maskTo mask conflictPair conflict mergePair merged placeRecord latestFlagged replayed letOut mayGo release intervalAdded intervalBegins deliver report onesIn ones
 starred-hold = refl

@@ -1,4 +1,4 @@
--- One step: on a state, and on the words of a lent table.
+-- One step: on a state and a ledger, and on the words of a lent table and a lent ledger.
 use mathlib.Core.Bool.{Bool, true, false, not, cond, _&&_}
 use mathlib.Core.List.{List}
 use Prim.Native.Nat.{ℕ}
@@ -10,24 +10,24 @@ use Rattle.table.specs.Words.{state, words}
 use Rattle.rules.specs.Limits.{Limits, house}
 use Rattle.rules.specs.Refusal.{LENGTH, FORM}
 use Rattle.rules.specs.Form.{inForm}
-use Rattle.rules.specs.Steps.{After, refuse, stepOpen, stepDegree, stepSend, stepRelease, stepDeliver, stepLog, stepCheckpoint, stepTell, stepCrash, stepHear}
+use Rattle.rules.specs.Steps.{After, refuse, AfterBoth, beside, stepOpen, stepDegree, stepSend, stepRelease, stepDeliver, stepLog, stepCheckpoint, stepTell, stepCrash, stepHear}
 use Rattle.rules.specs.declared.Answer.{Answer}
 use Rattle.rules.specs.declared.Answer.the-variants.{Refused}
 use Rattle.rules.specs.declared.Command.{Command}
 use Rattle.rules.specs.declared.Command.the-variants.{Open, SetDegree, Send, Release, Deliver, Log, Checkpoint, Tell, Crash, Hear}
 
--- a step after the host's refusals
-unfoldable pub perform : Limits → State → Command → After
-perform L σ (Open n k) = stepOpen σ n k
-perform L σ (SetDegree c k) = stepDegree σ c k
-perform L σ (Send sender receiver payload) = stepSend L σ sender receiver payload
-perform L σ (Release m) = stepRelease σ m
-perform L σ (Deliver m) = stepDeliver L σ m
-perform L σ (Log c q) = stepLog σ c q
-perform L σ (Checkpoint c) = stepCheckpoint σ c
-perform L σ (Tell owner holder) = stepTell σ owner holder
-perform L σ (Crash c) = stepCrash L σ c
-perform L σ (Hear hearer owner i) = stepHear σ hearer owner i
+-- a step after the host's refusals of the table; only O and R look at the ledger
+unfoldable pub perform : Limits → State → List ℕ → Command → AfterBoth
+perform L σ g (Open n k) = stepOpen L σ g n k
+perform L σ g (SetDegree c k) = beside (stepDegree σ c k) g
+perform L σ g (Send sender receiver payload) = beside (stepSend L σ sender receiver payload) g
+perform L σ g (Release m) = stepRelease L σ g m
+perform L σ g (Deliver m) = beside (stepDeliver L σ m) g
+perform L σ g (Log c q) = beside (stepLog σ c q) g
+perform L σ g (Checkpoint c) = beside (stepCheckpoint σ c) g
+perform L σ g (Tell owner holder) = beside (stepTell σ owner holder) g
+perform L σ g (Crash c) = beside (stepCrash L σ c) g
+perform L σ g (Hear hearer owner i) = beside (stepHear σ hearer owner i) g
 
 -- "2 table not in form (not looked at by open)"
 abbrev pub looksAtForm : Command → Bool
@@ -42,10 +42,10 @@ looksAtForm (Tell owner holder) = true
 looksAtForm (Crash c) = true
 looksAtForm (Hear hearer owner i) = true
 
-unfoldable pub stepOn : Limits → State → Command → After
-stepOn L σ x = cond (looksAtForm x && not (inForm L σ)) (refuse FORM σ) (perform L σ x)
+unfoldable pub stepOn : Limits → State → List ℕ → Command → AfterBoth
+stepOn L σ g x = cond (looksAtForm x && not (inForm L σ)) (beside (refuse FORM σ) g) (perform L σ g x)
 
--- an answer, and the table that is left
+-- an answer, and the table that is left: of a step beside which the ledger stays
 pub record Out : Type 0 where
   pub answer : Answer
   pub table : List ℕ
@@ -56,19 +56,31 @@ out a t = record { answer = a; table = t }
 abbrev pub written : After → Out
 written o = out (o .answer) (words (o .left))
 
--- "1 length is not 15,152": what a step does on the state of a table is done on the table.
-unfoldable pub lent : List ℕ → (State → After) → Out
-lent t f = cond (length t == tableWords) (written (f (state t))) (out (Refused LENGTH) t)
+-- an answer, and both buffers that are left
+pub record OutBoth : Type 0 where
+  pub answer : Answer
+  pub table : List ℕ
+  pub ledger : List ℕ
 
--- The step function of a house over its lent table: the answer, and every word that is left.
-unfoldable pub step : List ℕ → Command → Out
-step t x = lent t (λ σ. stepOn house σ x)
+abbrev pub outBoth : Answer → List ℕ → List ℕ → OutBoth
+outBoth a t g = record { answer = a; table = t; ledger = g }
+
+abbrev pub writtenBoth : AfterBoth → OutBoth
+writtenBoth o = outBoth (o .answer) (words (o .left)) (o .ledger)
+
+-- "1 length is not 15,152": what a step does on the state of a table is done on the table.
+unfoldable pub lent : List ℕ → List ℕ → (State → AfterBoth) → OutBoth
+lent t g f = cond (length t == tableWords) (writtenBoth (f (state t))) (outBoth (Refused LENGTH) t g)
+
+-- The step function of a house over its two lent buffers, the table and the ledger: the answer, and every word that is left.
+unfoldable pub step : List ℕ → List ℕ → Command → OutBoth
+step t g x = lent t g (λ σ. stepOn house σ g x)
 
 -- What a list of demand 3 is made of. Today each call asks the step function for a step; a call that stands beside the step
 -- function is a constructor more.
 pub data Call : Type 0 where
   asks : Command → Call
 
--- a call over the lent table
-unfoldable pub stepCall : List ℕ → Call → Out
-stepCall t (asks x) = step t x
+-- a call over the lent buffers
+unfoldable pub stepCall : List ℕ → List ℕ → Call → OutBoth
+stepCall t g (asks x) = step t g x

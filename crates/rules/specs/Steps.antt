@@ -1,10 +1,11 @@
--- The ten steps of document 01 on a state, each with its own refusals. The host's refusals, LENGTH and FORM, stand in
--- Step.antt. Each letter's refusals in their order, which is that of their numbers (Refusal.antt; the test is in Order.antt):
+-- The ten steps of document 01 on a state, each with its own refusals; O and R also look at the ledger (W2). The host's
+-- refusals of the table, LENGTH and FORM, stand in Step.antt. Each letter's refusals in their order, which is that of their
+-- numbers but for those of the ledger (Refusal.antt; the test is in Order.antt):
 --
---   O   LENGTH        DEGREE
+--   O   LENGTH        LEDGER (its length) DEGREE
 --   K   LENGTH FORM   CONTROLLER DEGREE
 --   S   LENGTH FORM   CONTROLLER SAME-CONTROLLER MESSAGES-USED-UP
---   R   LENGTH FORM   MESSAGE STATE
+--   R   LENGTH FORM   LEDGER MESSAGE STATE, and, where it publishes, LEDGER-USED-UP
 --   D   LENGTH FORM   MESSAGE STATE, and, where it neither drops nor waits, PLACES-USED-UP
 --   L   LENGTH FORM   CONTROLLER LOG-COUNT
 --   C   LENGTH FORM   CONTROLLER
@@ -15,19 +16,20 @@ use mathlib.Core.Bool.{Bool, not, cond, _&&_, _||_}
 use mathlib.Core.List.{List, [], _∷_, _++_}
 use Prim.Native.Nat.{ℕ, _+_, _-_, max}
 use lib.Count.{ones}
-use lib.ListN.{getD, set}
+use lib.ListN.{length, getD, set}
 use Rattle.base.specs.Choice.{_==_, _≤?_, _<?_}
 use Rattle.base.specs.Ranges.{first}
 use Rattle.base.specs.Lists.{tab}
 use Rattle.base.specs.Cases.{Case, _⇒_, firstOf}
-use Rattle.table.specs.Field.{State, OfHead, OfController, Known, End, OfPlace, OfMessage, Size, Degree, Incarnation, LiveCount, StableCount, PlaceIncarnation, PlaceNumber, Flag, MessageState, Sender, Receiver, word, messageHead}
+use Rattle.table.specs.Field.{State, OfHead, OfController, Known, End, OfPlace, OfMessage, Size, Degree, Incarnation, LiveCount, StableCount, PlaceIncarnation, PlaceNumber, Flag, MessageState, Sender, Receiver, desk, word, messageHead}
 use Rattle.table.specs.Change.{put, putPart}
 use Rattle.table.specs.Layout.{controllers, incarnations}
 use Rattle.table.specs.Numbering.{numberOf, used, nextMessage, recordOf, posted}
 use Rattle.rules.specs.Limits.{Limits, lastIncarnation}
-use Rattle.rules.specs.Refusal.{CONTROLLER, MESSAGE, DEGREE, SAME-CONTROLLER, STATE, LOG-COUNT, NO-SUCH-CRASH, ALREADY-HEARD, MESSAGES-USED-UP, PLACES-USED-UP, INCARNATIONS-USED-UP}
+use Rattle.rules.specs.Refusal.{LEDGER, CONTROLLER, MESSAGE, DEGREE, SAME-CONTROLLER, STATE, LOG-COUNT, NO-SUCH-CRASH, ALREADY-HEARD, MESSAGES-USED-UP, PLACES-USED-UP, INCARNATIONS-USED-UP, LEDGER-USED-UP}
 use Rattle.rules.specs.Vector.{Vector, pair, noPair, placeVector, messageVector, flat, filtered, condemned, mask, conflict, merged}
-use Rattle.rules.specs.Form.{stateHeld, stateReleased, stateDelivered, stateDropped}
+use Rattle.rules.specs.Form.{stateHeld, stateReleased, stateDelivered, stateDropped, statePublished, forDesk}
+use Rattle.rules.specs.Ledger.{ledgerWords, countOf, entryOf, ledgerOk, appended, blankLedger}
 use Rattle.rules.specs.Shared.{newestPlace, placeRecord, logged, loggedTo, removed, replayed}
 use Rattle.rules.specs.declared.Answer.{Answer}
 use Rattle.rules.specs.declared.Answer.the-variants.{Done, Sent, Released, Held, Delivered, Dropped, Waits, Crashed, Heard, Rolled, Refused}
@@ -47,6 +49,23 @@ refuse number σ = after (Refused number) σ
 -- "Where several apply, the lowest number is given": the cases stand in order of number, and 0 is none of them.
 unfoldable pub refusing : List Case → State → After → After
 refusing cases σ o = cond (firstOf cases == 0) o (refuse (firstOf cases) σ)
+
+-- The same of a step that looks at both lent buffers: what it leaves of the table, and of the ledger.
+pub record AfterBoth : Type 0 where
+  pub answer : Answer
+  pub left : State
+  pub ledger : List ℕ
+
+abbrev pub afterBoth : Answer → State → List ℕ → AfterBoth
+afterBoth a σ g = record { answer = a; left = σ; ledger = g }
+
+-- a step beside which the ledger stays as it is
+abbrev pub beside : After → List ℕ → AfterBoth
+beside o g = afterBoth (o .answer) (o .left) g
+
+-- a refusal changes no word of either
+unfoldable pub refusingBoth : List Case → State → List ℕ → AfterBoth → AfterBoth
+refusingBoth cases σ g o = cond (firstOf cases == 0) o (beside (refuse (firstOf cases) σ) g)
 
 -- "3 controller not below n"
 abbrev pub noController : State → ℕ → Bool
@@ -71,12 +90,14 @@ openHouse n k (End holder owner i) = 0
 openHouse n k (OfPlace c p w) = cond ((c <? n) && (p == 0)) (getD (firstPlace (firstVector c)) w 0) 0
 openHouse n k (OfMessage r w) = 0
 
--- "5 n not 1 to 8, or a degree above n"
-abbrev pub openRefusals : ℕ → ℕ → List Case
-openRefusals n k = (((n == 0) || (controllers <? n) || (n <? k)) ⇒ DEGREE) ∷ []
+-- W2: "14 .. for the length only, directly after 1 at opening"; "5 n not 1 to 8, or a degree above n"
+abbrev pub openRefusals : Limits → List ℕ → ℕ → ℕ → List Case
+openRefusals L g n k =
+    (not (length g == ledgerWords L) ⇒ LEDGER) ∷ (((n == 0) || (controllers <? n) || (n <? k)) ⇒ DEGREE) ∷ []
 
-unfoldable pub stepOpen : State → ℕ → ℕ → After
-stepOpen σ n k = refusing (openRefusals n k) σ (after Done (openHouse n k))
+-- W2: "an opening that is done clears the ledger"
+unfoldable pub stepOpen : Limits → State → List ℕ → ℕ → ℕ → AfterBoth
+stepOpen L σ g n k = refusingBoth (openRefusals L g n k) σ g (afterBoth Done (openHouse n k) (blankLedger L))
 
 -- K c k: "set the degree."
 abbrev pub degreeRefusals : State → ℕ → ℕ → List Case
@@ -98,10 +119,14 @@ sent σ sender receiver payload =
     let v = filtered σ sender (placeVector σ sender p) in
     posted σ (messageRecord stateHeld sender receiver i x payload v)
 
+-- W2: "Sends may name receiver 8": a receiver is a controller or the desk
+abbrev pub noReceiver : State → ℕ → Bool
+noReceiver σ r = noController σ r && not (r == desk)
+
 -- "6 the two controllers of S or T are equal"; "11 128 messages were sent since opening"
 abbrev pub sendRefusals : Limits → State → ℕ → ℕ → List Case
 sendRefusals L σ sender receiver =
-    ((noController σ sender || noController σ receiver) ⇒ CONTROLLER)
+    ((noController σ sender || noReceiver σ receiver) ⇒ CONTROLLER)
     ∷ ((sender == receiver) ⇒ SAME-CONTROLLER)
     ∷ ((L .messages ≤? used σ) ⇒ MESSAGES-USED-UP)
     ∷ []
@@ -115,23 +140,36 @@ stepSend L σ sender receiver payload =
 abbrev pub messageRefusals : State → ℕ → ℕ → List Case
 messageRefusals σ r wanted = ((used σ ≤? r) ⇒ MESSAGE) ∷ (not (σ (MessageState r) == wanted) ⇒ STATE) ∷ []
 
--- R: "the filtered vector is stored and the state is released"
-unfoldable pub letOut : State → ℕ → Vector → State
-letOut σ r v = put (putPart σ (OfMessage r 0) messageHead (flat v)) (MessageState r) stateReleased
+-- R: "the filtered vector is stored and the state is released"; W2: of a message to the desk it "has state 6, published"
+unfoldable pub letOut : State → ℕ → Vector → ℕ → State
+letOut σ r v st = put (putPart σ (OfMessage r 0) messageHead (flat v)) (MessageState r) st
 
--- R m, in record r: "filter the message's vector for its sender; the mask has 2 to the power c for each non-empty pair. If the
--- number of ones in the mask is at most K of the sender, the filtered vector is stored and the state is released. Otherwise it
--- stays held and no word changes."
-unfoldable pub release : State → ℕ → ℕ → After
-release σ m r =
-    let sender = σ (Sender r) in
-    let v = filtered σ sender (messageVector σ r) in
-    let letting = after (Released m (mask v)) (letOut σ r v) in
-    let holding = after (Held m (mask v)) σ in
-    cond (ones (mask v) ≤? σ (Degree sender)) letting holding
+-- R: "If the number of ones in the mask is at most K of the sender"; W2: "A message to the desk is released only with mask 0, at
+-- any K"
+unfoldable pub mayGo : State → ℕ → ℕ → Bool
+mayGo σ r names = cond (forDesk σ r) (names == 0) (ones names ≤? σ (Degree (σ (Sender r))))
 
-unfoldable pub stepRelease : State → ℕ → After
-stepRelease σ m = let r = recordOf σ m in refusing (messageRefusals σ r stateHeld) σ (release σ m r)
+-- R m, in record r: "filter the message's vector for its sender; the mask has 2 to the power c for each non-empty pair. If .. the
+-- filtered vector is stored and the state is released. Otherwise it stays held and no word changes." W2: "Publishing appends one
+-- pair; a release that doesn't publish changes no ledger word"; "The answer to publishing is `released m 0`"; "18 when publishing
+-- would carry the count past 128".
+unfoldable pub release : Limits → State → List ℕ → ℕ → ℕ → AfterBoth
+release L σ g m r =
+    let v = filtered σ (σ (Sender r)) (messageVector σ r) in
+    let holding = afterBoth (Held m (mask v)) σ g in
+    let letting = afterBoth (Released m (mask v)) (letOut σ r v stateReleased) g in
+    let publishing = afterBoth (Released m (mask v)) (letOut σ r v statePublished) (appended g (entryOf σ m r)) in
+    let full = beside (refuse LEDGER-USED-UP σ) g in
+    cond (not (mayGo σ r (mask v))) holding
+    (cond (not (forDesk σ r)) letting
+    (cond (L .entries ≤? countOf g) full publishing))
+
+-- W2: 14 "stands directly after 2, at release"
+abbrev pub releaseRefusals : Limits → State → List ℕ → ℕ → List Case
+releaseRefusals L σ g r = (not (ledgerOk L g) ⇒ LEDGER) ∷ messageRefusals σ r stateHeld
+
+unfoldable pub stepRelease : Limits → State → List ℕ → ℕ → AfterBoth
+stepRelease L σ g m = let r = recordOf σ m in refusingBoth (releaseRefusals L σ g r) σ g (release L σ g m r)
 
 -- D: "Else a new interval begins with cause m and flag 0; each pair is the non-empty one or the one with the larger number,
 -- and c's own pair is the new interval. State: delivered." v has the merged pairs; m stands in record r.

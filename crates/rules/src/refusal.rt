@@ -1,10 +1,13 @@
-// The refusals of document 01 by name. specs/Refusal.antt, include/goulvizad.h and the second implementation have the same
+// The refusals of document 01 and of the requests by name. specs/Refusal.antt, include/goulvizad.h and the second implementation have the same
 // names and numbers.
 
 // The host that lends the table.
 pub const LENGTH: u32 = 1;
 
 pub const FORM: u32 = 2;
+
+// The host that lends the ledger.
+pub const LEDGER: u32 = 14;
 
 // The caller naming things.
 pub const CONTROLLER: u32 = 3;
@@ -30,3 +33,5 @@ pub const MESSAGES_USED_UP: u32 = 11;
 pub const PLACES_USED_UP: u32 = 12;
 
 pub const INCARNATIONS_USED_UP: u32 = 13;
+
+pub const LEDGER_USED_UP: u32 = 18;

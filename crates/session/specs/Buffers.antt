@@ -10,26 +10,27 @@ use native.Mathlib.Numerals.{add-one}
 use lib.ListN.{length, getD, set, take, drop, length-append}
 use lib.Seq.{take-all, take-suc, take-suc-set, take-append-le, set-out, drop-drop, length-take-le}
 use borrow.Author.Tests.{eq-eqb, ne-eqb}
-use Rattle.rules.specs.Step.{out, step}
+use Rattle.rules.specs.Step.{outBoth, step}
 use Rattle.rules.specs.declared.Answer.{Answer}
 use Rattle.rules.specs.declared.Command.{Command}
 use Rattle.lines.specs.Lines.{lineFeed, parse, answerLine, badLine}
 use Rattle.lines.specs.declared.Parsed.the-variants.{Asks, Bad}
 use Rattle.printing.specs.Parts.{Short}
 use Rattle.printing.specs.Writing.{written-take}
-use Rattle.lines.specs.Program.{reply, replyTo, firstTable}
+use Rattle.lines.specs.Program.{reply, replyTo, firstTable, firstLedger}
 use Rattle.session.specs.Taking.{Session, session, begun, lineRoom, ended, taken, takenAll, finished, served, paid, after, stored, storedAll}
 
 -- a line that asked for x is answered by a
-pub ended-asked : (t l : List ℕ) {w o u : List ℕ} {at r : ℕ} {x : Command} {a : Answer} → parse l ≡ Asks x → out a w ≡ step t x → Short o at (answerLine a) u r → at ≤ length o →
-    session w [] (take r u) ≡ ended (session t l (take at o))
+pub ended-asked : (t g l : List ℕ) {w h o u : List ℕ} {at r : ℕ} {x : Command} {a : Answer} → parse l ≡ Asks x → outBoth a w h ≡ step t g x →
+    Short o at (answerLine a) u r → at ≤ length o → session w h [] (take r u) ≡ ended (session t g l (take at o))
 unfolding ended reply replyTo
-ended-asked t l {w} p e f h = rw (p, sym e) (ap (session w []) (written-take (f .written) h))
+ended-asked t g l {w} {h} p e f b = rw (p, sym e) (ap (session w h []) (written-take (f .written) b))
 
 -- a line that asked for nothing is answered `bad`
-pub ended-bad : (t l : List ℕ) {o u : List ℕ} {at r : ℕ} → parse l ≡ Bad → Short o at badLine u r → at ≤ length o → session t [] (take r u) ≡ ended (session t l (take at o))
+pub ended-bad : (t g l : List ℕ) {o u : List ℕ} {at r : ℕ} → parse l ≡ Bad → Short o at badLine u r → at ≤ length o →
+    session t g [] (take r u) ≡ ended (session t g l (take at o))
 unfolding ended reply replyTo
-ended-bad t l p f h = rw p (ap (session t []) (written-take (f .written) h))
+ended-bad t g l p f b = rw p (ap (session t g []) (written-take (f .written) b))
 
 -- a line feed
 pub taken-feed : (s : Session) (b : ℕ) {r : Session} → b ≡ lineFeed → r ≡ ended s → r ≡ taken s b
@@ -37,34 +38,34 @@ unfolding taken
 taken-feed s b e h = rw (eq-eqb b lineFeed e) h
 
 -- another byte, where there is room for it
-pub taken-more : (t line owed : List ℕ) (n b : ℕ) → b ≢ lineFeed → length line ≡ lineRoom → n < lineRoom →
-    session t (take (n + 1) (set line n b)) owed ≡ taken (session t (take n line) owed) b
+pub taken-more : (t g line owed : List ℕ) (n b : ℕ) → b ≢ lineFeed → length line ≡ lineRoom → n < lineRoom →
+    session t g (take (n + 1) (set line n b)) owed ≡ taken (session t g (take n line) owed) b
 unfolding taken
-taken-more t line owed n b e l h =
+taken-more t g line owed n b e l h =
     let q : take (n + 1) (set line n b) ≡ take n line ++ b ∷ [] = ap (λ (k : ℕ). take k (set line n b)) (add-one n) ∙ take-suc-set line n b (omega arith) in
     let z : length (take n line ++ b ∷ []) ≤ lineRoom = omega (arith, length-append (take n line) (b ∷ []), length-take-le n line (omega arith)) in
-    rw (ne-eqb b lineFeed e) (ap (λ (x : List ℕ). session t x owed) (q ∙ sym (take-all lineRoom (take n line ++ b ∷ []) z)))
+    rw (ne-eqb b lineFeed e) (ap (λ (x : List ℕ). session t g x owed) (q ∙ sym (take-all lineRoom (take n line ++ b ∷ []) z)))
 
 -- another byte, where there is none
-pub taken-full : (t line owed : List ℕ) (n b : ℕ) → b ≢ lineFeed → length line ≡ lineRoom → n ≤ lineRoom → lineRoom ≤ n →
-    session t (take n line) owed ≡ taken (session t (take n line) owed) b
+pub taken-full : (t g line owed : List ℕ) (n b : ℕ) → b ≢ lineFeed → length line ≡ lineRoom → n ≤ lineRoom → lineRoom ≤ n →
+    session t g (take n line) owed ≡ taken (session t g (take n line) owed) b
 unfolding taken
-taken-full t line owed n b e l h k =
+taken-full t g line owed n b e l h k =
     let z : length (take n line) ≡ n = length-take-le n line (omega arith) in
-    rw (ne-eqb b lineFeed e) (ap (λ (x : List ℕ). session t x owed) (sym (take-append-le lineRoom (take n line) (b ∷ []) (omega arith) ∙ take-all lineRoom (take n line) (omega arith))))
+    rw (ne-eqb b lineFeed e) (ap (λ (x : List ℕ). session t g x owed) (sym (take-append-le lineRoom (take n line) (b ∷ []) (omega arith) ∙ take-all lineRoom (take n line) (omega arith))))
 
 -- what each of them does to the buffer of the line
 pub stored-feed : (s : Session) (buffer : List ℕ) (b : ℕ) → b ≡ lineFeed → buffer ≡ stored s buffer b
 unfolding stored
 stored-feed s buffer b e = rw (eq-eqb b lineFeed e)
 
-pub stored-more : (t line owed : List ℕ) (n b : ℕ) → b ≢ lineFeed → length line ≡ lineRoom → n ≤ lineRoom → set line n b ≡ stored (session t (take n line) owed) line b
+pub stored-more : (t g line owed : List ℕ) (n b : ℕ) → b ≢ lineFeed → length line ≡ lineRoom → n ≤ lineRoom → set line n b ≡ stored (session t g (take n line) owed) line b
 unfolding stored
-stored-more t line owed n b e l h = rw (ne-eqb b lineFeed e, length-take-le n line (omega arith))
+stored-more t g line owed n b e l h = rw (ne-eqb b lineFeed e, length-take-le n line (omega arith))
 
-pub stored-full : (t line owed : List ℕ) (n b : ℕ) → b ≢ lineFeed → length line ≡ lineRoom → n ≤ lineRoom → lineRoom ≤ n →
-    line ≡ stored (session t (take n line) owed) line b
-stored-full t line owed n b e l h k = sym (set-out line n b (omega arith)) ∙ stored-more t line owed n b e l h
+pub stored-full : (t g line owed : List ℕ) (n b : ℕ) → b ≢ lineFeed → length line ≡ lineRoom → n ≤ lineRoom → lineRoom ≤ n →
+    line ≡ stored (session t g (take n line) owed) line b
+stored-full t g line owed n b e l h k = sym (set-out line n b (omega arith)) ∙ stored-more t g line owed n b e l h
 
 -- the buffer, after one byte more
 stored-then : (bytes : List ℕ) (s : Session) (buffer : List ℕ) (b : ℕ) → storedAll s buffer (bytes ++ b ∷ []) ≡ stored (takenAll s bytes) (storedAll s buffer bytes) b
@@ -101,13 +102,13 @@ pub taken-whole : (s : Session) (bytes : List ℕ) (i : ℕ) {r : Session} → r
 taken-whole s bytes i e h = e ∙ ap (takenAll s) (take-all i bytes h)
 
 -- the end of the input, after n bytes of a line
-pub finished-none : (t line : List ℕ) (n : ℕ) → n ≡ 0 → session t [] [] ≡ finished (session t (take n line) [])
+pub finished-none : (t g line : List ℕ) (n : ℕ) → n ≡ 0 → session t g [] [] ≡ finished (session t g (take n line) [])
 unfolding finished
-finished-none t line n e = rw e
+finished-none t g line n e = rw e
 
-pub finished-more : (t line : List ℕ) (n : ℕ) {r : Session} → n ≤ length line → n ≢ 0 → r ≡ ended (session t (take n line) []) → r ≡ finished (session t (take n line) [])
+pub finished-more : (t g line : List ℕ) (n : ℕ) {r : Session} → n ≤ length line → n ≢ 0 → r ≡ ended (session t g (take n line) []) → r ≡ finished (session t g (take n line) [])
 unfolding finished
-finished-more t line n l e h = rw (length-take-le n line l, ne-eqb n 0 e) h
+finished-more t g line n l e h = rw (length-take-le n line l, ne-eqb n 0 e) h
 
 -- a read that has no bytes, and one that has some
 pub served-none : (s : Session) (bytes : List ℕ) {r : Session} → length bytes ≡ 0 → r ≡ finished s → r ≡ served s bytes
@@ -125,18 +126,18 @@ unfolding storedAll
 stored-none s buffer [] e = refl
 stored-none s buffer (b ∷ bytes) e = absurd (suc-ne-zero (length bytes) e)
 
--- The loop of the program: its table and the bytes of a line that hasn't ended are those after some reads.
-pub record Reached (t line : List ℕ) : Type 0 where
+-- The loop of the program: its table, its ledger and the bytes of a line that hasn't ended are those after some reads.
+pub record Reached (t g line : List ℕ) : Type 0 where
   pub reads : List (List ℕ)
-  pub here : session t line [] ≡ after reads
+  pub here : session t g line [] ≡ after reads
 
-pub reached-first : Reached firstTable []
+pub reached-first : Reached firstTable firstLedger []
 reached-first = record { reads = []; here = refl }
 
-pub reached-next : {t l w k owed : List ℕ} (bytes : List ℕ) → Reached t l → length bytes ≢ 0 → session w k owed ≡ served (session t l []) bytes → Reached w k
-reached-next {t} {l} bytes f ne e = record {
+pub reached-next : {t g l w h k owed : List ℕ} (bytes : List ℕ) → Reached t g l → length bytes ≢ 0 → session w h k owed ≡ served (session t g l []) bytes → Reached w h k
+reached-next {t} {g} {l} bytes f ne e = record {
   reads = f .reads ++ bytes ∷ [];
   here =
-      ap paid (e ∙ sym (served-some (session t l []) bytes ne refl) ∙ ap (λ (s : Session). takenAll s bytes) (f .here))
+      ap paid (e ∙ sym (served-some (session t g l []) bytes ne refl) ∙ ap (λ (s : Session). takenAll s bytes) (f .here))
       ∙ sym (foldl-append (λ (s : Session) (r : List ℕ). paid (takenAll s r)) begun (f .reads) (bytes ∷ []));
 }

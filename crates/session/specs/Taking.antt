@@ -6,19 +6,21 @@ use Prim.Native.Nat.{ℕ, _+_}
 use lib.ListN.{length, set, take}
 use Rattle.base.specs.Choice.{_==_}
 use Rattle.lines.specs.Lines.{lineFeed, longestLine}
-use Rattle.lines.specs.Program.{reply, firstTable}
+use Rattle.lines.specs.Program.{reply, firstTable, firstLedger}
 
--- what there is between two bytes: the table, the bytes of a line that hasn't ended, and the answers that are yet to be written
+-- what there is between two bytes: the table, the ledger, the bytes of a line that hasn't ended, and the answers that are yet
+-- to be written
 pub record Session : Type 0 where
   pub table : List ℕ
+  pub ledger : List ℕ
   pub line : List ℕ
   pub owed : List ℕ
 
-abbrev pub session : List ℕ → List ℕ → List ℕ → Session
-session t line owed = record { table = t; line = line; owed = owed }
+abbrev pub session : List ℕ → List ℕ → List ℕ → List ℕ → Session
+session t g line owed = record { table = t; ledger = g; line = line; owed = owed }
 
 abbrev pub begun : Session
-begun = session firstTable [] []
+begun = session firstTable firstLedger [] []
 
 -- room for a line: a byte more than it may have only says that there were more
 abbrev pub lineRoom : ℕ
@@ -26,11 +28,11 @@ lineRoom = longestLine + 1
 
 -- a line has ended
 unfoldable pub ended : Session → Session
-ended s = let r = reply (s .table) (s .line) in session (r .table) [] (s .owed ++ r .line)
+ended s = let r = reply (s .table) (s .ledger) (s .line) in session (r .table) (r .ledger) [] (s .owed ++ r .line)
 
 -- one byte
 unfoldable pub taken : Session → ℕ → Session
-taken s b = cond (b == lineFeed) (ended s) (session (s .table) (take lineRoom (s .line ++ b ∷ [])) (s .owed))
+taken s b = cond (b == lineFeed) (ended s) (session (s .table) (s .ledger) (take lineRoom (s .line ++ b ∷ [])) (s .owed))
 
 -- some bytes
 abbrev pub takenAll : Session → List ℕ → Session
@@ -47,15 +49,15 @@ served s (b ∷ bytes) = takenAll s (b ∷ bytes)
 
 -- what was owed has been written out
 abbrev pub paid : Session → Session
-paid s = session (s .table) (s .line) []
+paid s = session (s .table) (s .ledger) (s .line) []
 
 -- the reads so far, what was owed after each having been written out
 abbrev pub after : List (List ℕ) → Session
 after reads = foldl (λ (s : Session) (bytes : List ℕ). paid (takenAll s bytes)) begun reads
 
 -- The same in buffers: n bytes of a line and `owed` bytes of answers, each from the start of its own.
-abbrev pub held : List ℕ → List ℕ → ℕ → List ℕ → ℕ → Session
-held t line n out owed = session t (take n line) (take owed out)
+abbrev pub held : List ℕ → List ℕ → List ℕ → ℕ → List ℕ → ℕ → Session
+held t g line n out owed = session t g (take n line) (take owed out)
 
 -- And all bytes of the buffer of a line: one byte more is put behind those that it has, where there is room, and what longer lines
 -- have left stays behind them.

@@ -80,6 +80,10 @@ Sender r = OfMessage r 1
 abbrev pub Receiver : ℕ → Field
 Receiver r = OfMessage r 2
 
+-- W2: "Receiver 8 is the desk." It is no controller, however many there are.
+abbrev pub desk : ℕ
+desk = 8
+
 abbrev pub SendingIncarnation : ℕ → Field
 SendingIncarnation r = OfMessage r 3
 

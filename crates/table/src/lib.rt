@@ -4,7 +4,7 @@
 ghost use mathlib.Core.Path.{_≡_};
 ghost use Prim.Native.Nat.{_≤_, _<_};
 ghost use lib.ListN.{length};
-ghost use Rattle.table.specs.Field.{OfController, OfPlace, OfMessage, Known, End, Size, SentCount, Degree, Incarnation, LiveCount, StableCount, PlaceIncarnation, PlaceNumber, Cause, Flag, MessageState, Sender, Receiver, SendingIncarnation, SendingNumber, placeHead, messageHead};
+ghost use Rattle.table.specs.Field.{OfController, OfPlace, OfMessage, Known, End, Size, SentCount, Degree, Incarnation, LiveCount, StableCount, PlaceIncarnation, PlaceNumber, Cause, Flag, MessageState, Sender, Receiver, SendingIncarnation, SendingNumber, Payload, placeHead, messageHead};
 ghost use Rattle.table.specs.Change.{put};
 ghost use Rattle.table.specs.Layout.{controllers, incarnations, places, messages, tableWords, position};
 ghost use Rattle.table.specs.Words.{state, words};
@@ -56,6 +56,9 @@ pub const LAST_INCARNATION: u32 = 15;
 
 pub const LAST_NUMBER: u32 = 64;
 
+// The receiver that is no controller: the desk.
+pub const DESK: u32 = 8;
+
 // States of a message. 0 is unused; 4, lost, is in form, but no step gives it.
 pub const HELD: u32 = 1;
 
@@ -64,6 +67,8 @@ pub const RELEASED: u32 = 2;
 pub const DELIVERED: u32 = 3;
 
 pub const DROPPED: u32 = 5;
+
+pub const PUBLISHED: u32 = 6;
 
 // The head.
 pub const SIZE: usize = 0;
@@ -130,6 +135,8 @@ pub const RECEIVER: usize = MESSAGES_FROM + RECEIVER_WORD;
 pub const SENDING_INCARNATION: usize = MESSAGES_FROM + SENDING_INCARNATION_WORD;
 
 pub const SENDING_NUMBER: usize = MESSAGES_FROM + SENDING_NUMBER_WORD;
+
+pub const PAYLOAD: usize = MESSAGES_FROM + PAYLOAD_WORD;
 
 pub const MESSAGE_VECTOR: usize = MESSAGES_FROM + MESSAGE_HEAD;
 
@@ -319,6 +326,13 @@ pub fn sending_number(t: &[u32], r: usize) -> u32
     ensures { λ x. ⌜ x ≡ state (now (t .entry)) (SendingNumber r) ⌝ }
 {
     t[SENDING_NUMBER + r * MESSAGE_WORDS]
+}
+
+pub fn payload(t: &[u32], r: usize) -> u32
+    requires { ⌜ (length (now t) ≡ tableWords) × (r < messages) ⌝ }
+    ensures { λ x. ⌜ x ≡ state (now (t .entry)) (Payload r) ⌝ }
+{
+    t[PAYLOAD + r * MESSAGE_WORDS]
 }
 
 // Where a record, its vector, or a row of known words begins, for a part that is lent.

@@ -1,6 +1,6 @@
--- Along a run that was computed on states: the answer to each step, the history, which is fed with the answers alone, and the tables,
--- each of which is that of its state.
-use mathlib.Core.Path.{_≡_, refl, sym, ap, _∙_, subst}
+-- Along a run that was computed on states: the answer to each step, the history and the citations, which are fed with the answers
+-- alone, the tables, each of which is that of its state, and the ledgers.
+use mathlib.Core.Path.{_≡_, refl, sym, ap, ap₂, _∙_}
 use mathlib.Core.Bool.{Bool, true, false, true≢false, not, _&&_}
 use mathlib.Core.List.{List, [], _∷_}
 use Prim.Native.Nat.{ℕ, zero, suc, _<_}
@@ -10,8 +10,7 @@ use Rattle.table.specs.Field.{State}
 use Rattle.table.specs.Words.{words}
 use Rattle.rules.specs.Limits.{house}
 use Rattle.rules.specs.Form.{inForm}
-use Rattle.rules.specs.Steps.{After}
-use Rattle.rules.specs.Step.{perform, looksAtForm, stepOn, written, step, asks, stepCall}
+use Rattle.rules.specs.Step.{perform, looksAtForm, stepOn, writtenBoth, step, asks, stepCall}
 use Rattle.rules.specs.declared.Answer.{Answer}
 use Rattle.rules.specs.declared.Answer.the-variants.{Done}
 use Rattle.rules.specs.declared.Command.{Command}
@@ -19,7 +18,8 @@ use Rattle.rules.specs.declared.Command.the-variants.{Open}
 use Rattle.listing.specs.Quiet as Q
 use Rattle.listing.specs.Quiet.{Quiet, quiet-opened, in-form}
 use Rattle.history.specs.History.{fed}
-use Rattle.history.specs.Demand.{Run, next, runs}
+use Rattle.history.specs.Citations.{Citations, cited}
+use Rattle.history.specs.Demand.{Run, stepIn, next, runs}
 use Rattle.history.specs.Examples.{ListingLine, line, all}
 use Rattle.testers.specs.StepSame.{step-words}
 use Rattle.testers.specs.Sample.{asked, answered, calls, answersFrom}
@@ -34,9 +34,9 @@ lineAt l j = getD l j (line (Open 0 0) Done)
 
 -- the calls of l get the answers of l
 abbrev pub Answered : Run → List ListingLine → Type 0
-Answered r l = answersFrom (r .table) (calls (asked l)) ≡ answered l
+Answered r l = answersFrom (r .table) (r .ledger) (calls (asked l)) ≡ answered l
 
-head-answered : (r : Run) (x : ListingLine) (l : List ListingLine) → Answered r (x ∷ l) → step (r .table) (x .asked) .answer ≡ x .answered
+head-answered : (r : Run) (x : ListingLine) (l : List ListingLine) → Answered r (x ∷ l) → stepIn r (x .asked) .answer ≡ x .answered
 unfolding answersFrom stepCall
 head-answered r x l h = ap (λ ys. getD ys 0 Done) h
 
@@ -44,7 +44,7 @@ tail-answered : (r : Run) (x : ListingLine) (l : List ListingLine) → Answered 
 unfolding answersFrom next
 tail-answered r x l h = ap (drop 1) h
 
-pub answer-at : (r : Run) (l : List ListingLine) → Answered r l → (j : ℕ) → j < length l → step (firstSteps r l j .table) (lineAt l j .asked) .answer ≡ lineAt l j .answered
+pub answer-at : (r : Run) (l : List ListingLine) → Answered r l → (j : ℕ) → j < length l → stepIn (firstSteps r l j) (lineAt l j .asked) .answer ≡ lineAt l j .answered
 unfolding runs
 answer-at r [] h j b = absurd (not-suc-le-zero b)
 answer-at r (x ∷ l) h zero b = head-answered r x l h
@@ -58,48 +58,70 @@ history-at r (x ∷ l) h zero = refl
 history-at r (x ∷ l) h (suc j) =
     history-at (next (asks (x .asked)) r) l (tail-answered r x l h) j ∙ ap (λ a. all (take j l) (fed (asks (x .asked)) a (r .history))) (head-answered r x l h)
 
--- TABLES
--- the state that the rules of a list of steps leave
-unfoldable pub performed : State → List Command → State
-performed σ [] = σ
-performed σ (x ∷ xs) = performed (perform house σ x .left) xs
+-- the citations of some lines
+unfoldable pub allCited : List ListingLine → Citations → Citations
+allCited [] q = q
+allCited (x ∷ l) q = allCited l (cited (asks (x .asked)) (x .answered) q)
 
--- step x finds the table t, that of the state σ, in form if it looks
-pub record Stage (t : List ℕ) (σ : State) (x : Command) : Type 0 where
+pub citations-after : (r : Run) (l : List ListingLine) → Answered r l → runs r (calls (asked l)) .citations ≡ allCited l (r .citations)
+unfolding runs allCited next stepCall
+citations-after r [] h = refl
+citations-after r (x ∷ l) h =
+    citations-after (next (asks (x .asked)) r) l (tail-answered r x l h) ∙ ap (λ a. allCited l (cited (asks (x .asked)) a (r .citations))) (head-answered r x l h)
+
+-- TABLES AND LEDGERS
+-- the state that step j of a run on states finds, and the ledger; those at its end for a step further on
+unfoldable pub stateAt : {σ : State} {g : List ℕ} {xs : List Command} {ys : List Answer} → Q.Run σ g xs ys → ℕ → State
+stateAt (Q.end {σ}) j = σ
+stateAt (Q.opening {σ} e w) zero = σ
+stateAt (Q.opening e w) (suc j) = stateAt w j
+stateAt (Q.next {σ} keep f e w) zero = σ
+stateAt (Q.next keep f e w) (suc j) = stateAt w j
+
+unfoldable pub ledgerAt : {σ : State} {g : List ℕ} {xs : List Command} {ys : List Answer} → Q.Run σ g xs ys → ℕ → List ℕ
+ledgerAt (Q.end {g = g}) j = g
+ledgerAt (Q.opening {g = g} e w) zero = g
+ledgerAt (Q.opening e w) (suc j) = ledgerAt w j
+ledgerAt (Q.next {g = g} keep f e w) zero = g
+ledgerAt (Q.next keep f e w) (suc j) = ledgerAt w j
+
+-- step x finds the table t, that of the state σ, in form if it looks, and the ledger g, which is k
+pub record Stage (t g : List ℕ) (σ : State) (k : List ℕ) (x : Command) : Type 0 where
   pub table-is : t ≡ words σ
+  pub ledger-is : g ≡ k
   pub good : looksAtForm x ≡ true → inForm house σ ≡ true
 
 -- then it does what its rule says
-pub stage-step : {t : List ℕ} {σ : State} {x : Command} → Stage t σ x → step t x ≡ written (perform house σ x)
+pub stage-step : {t g : List ℕ} {σ : State} {k : List ℕ} {x : Command} → Stage t g σ k x → step t g x ≡ writtenBoth (perform house σ k x)
 unfolding stepOn
-stage-step {t} {σ} {x} s = ap (λ u. step u x) (s .table-is) ∙ step-words σ x ∙ rw (looks (looksAtForm x) refl)
+stage-step {σ = σ} {k = k} {x = x} s = ap₂ (λ u k. step u k x) (s .table-is) (s .ledger-is) ∙ step-words σ k x ∙ rw (looks (looksAtForm x) refl)
   where
     looks : (b : Bool) → looksAtForm x ≡ b → (looksAtForm x && not (inForm house σ)) ≡ false
     looks true q = rw (q, s .good q)
     looks false q = rw q
 
--- the command of step j
+-- the command of step j; an opening, which looks at no form, for a step further on
 abbrev pub commandAt : List Command → ℕ → Command
 commandAt xs j = getD xs j (Open 0 0)
 
--- step j of a run from the table of σ
-abbrev pub StageAt : Run → State → List Command → ℕ → Type 0
-StageAt r σ xs j = Stage (runs r (calls (take j xs)) .table) (performed σ (take j xs)) (commandAt xs j)
+-- step j of the run r, which is w on states
+abbrev pub StageAt : Run → {σ : State} {g : List ℕ} {xs : List Command} {ys : List Answer} → Q.Run σ g xs ys → ℕ → Type 0
+StageAt r {xs = xs} w j = let s = runs r (calls (take j xs)) in Stage (s .table) (s .ledger) (stateAt w j) (ledgerAt w j) (commandAt xs j)
 
--- one step more at its beginning, whose rule leaves o
-stage-later : (r : Run) (σ : State) (x : Command) (xs : List Command) (o : After) → Stage (r .table) σ x → perform house σ x ≡ o →
-    ((s : Run) → s .table ≡ words (o .left) → (j : ℕ) → j < length xs → StageAt s (o .left) xs j) → (j : ℕ) → j < length xs → StageAt r σ (x ∷ xs) (suc j)
-unfolding runs performed next stepCall
-stage-later r σ x xs o s h w j b =
-    subst (λ o. Stage (runs (next (asks x) r) (calls (take j xs)) .table) (performed (o .left) (take j xs)) (commandAt xs j)) (sym h)
-    (w (next (asks x) r) (ap (λ u. u .table) (stage-step s) ∙ ap (λ o. words (o .left)) h) j b)
+opening-stage : {t g : List ℕ} {σ : State} {k : List ℕ} (n degree : ℕ) → t ≡ words σ → g ≡ k → Stage t g σ k (Open n degree)
+opening-stage n degree e h = record { table-is = e; ledger-is = h; good = λ z. absurd (true≢false (sym z)) }
 
-pub stage-at : {σ : State} {xs : List Command} {ys : List Answer} → Q.Run σ xs ys → Quiet σ → (r : Run) → r .table ≡ words σ → (j : ℕ) → j < length xs → StageAt r σ xs j
-unfolding runs performed
-stage-at Q.end q r e j b = absurd (not-suc-le-zero b)
-stage-at (Q.opening h w) q r e zero b = record { table-is = e; good = λ z. absurd (true≢false (sym z)) }
-stage-at (Q.opening {k = k} h w) q r e (suc j) b =
-    stage-later r _ (Open 3 k) _ _ (record { table-is = e; good = λ z. absurd (true≢false (sym z)) }) h (stage-at w (quiet-opened k)) j (le-of-suc-le-suc b)
-stage-at (Q.next {σ} keep f h w) q r e zero b = record { table-is = e; good = λ _. in-form σ q f }
-stage-at (Q.next {σ} {x = x} keep f h w) q r e (suc j) b =
-    stage-later r σ x _ _ (record { table-is = e; good = λ _. in-form σ q f }) h (stage-at w (keep q)) j (le-of-suc-le-suc b)
+pub stage-at : {σ : State} {g : List ℕ} {xs : List Command} {ys : List Answer} (w : Q.Run σ g xs ys) → Quiet σ → (r : Run) → r .table ≡ words σ → r .ledger ≡ g →
+    (j : ℕ) → StageAt r w j
+unfolding runs stateAt ledgerAt next stepCall
+stage-at Q.end q r e h zero = opening-stage 0 0 e h
+stage-at Q.end q r e h (suc j) = opening-stage 0 0 e h
+stage-at (Q.opening {k = k} p w) q r e h zero = opening-stage 3 k e h
+stage-at (Q.opening {k = k} p w) q r e h (suc j) =
+    let o = stage-step (opening-stage 3 k e h) ∙ ap writtenBoth p in
+    stage-at w (quiet-opened k) (next (asks (Open 3 k)) r) (ap (λ o. o .table) o) (ap (λ o. o .ledger) o) j
+stage-at (Q.next {σ} keep f p w) q r e h zero = record { table-is = e; ledger-is = h; good = λ _. in-form σ q f }
+stage-at (Q.next {σ} {x = x} keep f p w) q r e h (suc j) =
+    let s : Stage (r .table) (r .ledger) σ _ x = record { table-is = e; ledger-is = h; good = λ _. in-form σ q f } in
+    let o = stage-step s ∙ ap writtenBoth p in
+    stage-at w (keep q) (next (asks x) r) (ap (λ o. o .table) o) (ap (λ o. o .ledger) o) j

@@ -1,7 +1,7 @@
--- A second checkpoint finds a table in form, nothing to log, and its flag: it leaves the words that it found.
+-- A second checkpoint finds a table in form, nothing to log, and its flag: it leaves the words that it found, and the ledger.
 use mathlib.Core.Path.{_≡_, refl, sym, ap, ap₂, _∙_, subst}
 use mathlib.Core.Bool.{true, false, not, _&&_, _||_, or-true}
-use mathlib.Core.List.{[], _∷_}
+use mathlib.Core.List.{List, [], _∷_}
 use mathlib.Core.Logic.{_≢_}
 use Prim.Native.Nat.{ℕ, _+_, _-_, _≤_, _<_}
 use native.Mathlib.Omega.{arith}
@@ -17,7 +17,7 @@ use Rattle.table.specs.Numbering.{numberOf, Numbered, numbers-put}
 use Rattle.rules.specs.Limits.{house, lastIncarnation, lastNumber}
 use Rattle.rules.specs.Form.{controllerOk, highest, rowOk, placeOk, messageOk, inForm, vectorOk}
 use Rattle.rules.specs.Shared.{newestPlace, logged, loggedTo}
-use Rattle.rules.specs.Steps.{refusing, checkpointed, checkpointRefusals, stepCheckpoint}
+use Rattle.rules.specs.Steps.{After, refusing, AfterBoth, beside, checkpointed, checkpointRefusals, stepCheckpoint}
 use Rattle.rules.specs.Step.{perform, stepOn}
 use Rattle.rules.specs.declared.Command.the-variants.{Checkpoint}
 use Rattle.laws.specs.Facts.{form, below-8, controllerForm}
@@ -26,7 +26,7 @@ use Rattle.laws.specs.Records.{placeVector-of}
 use Rattle.model.specs.Tests.{eq?}
 use Rattle.image.specs.Tests.{fresh}
 use Rattle.testers.specs.FormSame.{zeros-same, controllerOk-of, rowOk-of, placeOk-of, messageOk-of}
-use Rattle.testers.specs.StepSame.{Same, same-refl}
+use Rattle.testers.specs.StepSame.{SameBoth, same-refl}
 
 -- A change ρ of σ that leaves the head and the numbers is in form where σ is, if each test that passed passes again.
 module _ (σ ρ : State) (e : inForm house σ ≡ true) (head : (k : ℕ) → ρ (OfHead k) ≡ σ (OfHead k)) (N : Numbered ρ σ) where
@@ -186,16 +186,16 @@ checkpoint-idle : (σ : State) (c : ℕ) → (σ (StableCount c) <? σ (LiveCoun
 unfolding checkpointed loggedTo
 checkpoint-idle σ c z flag = rw z (λ f v. sym (put-again σ (Flag c (newestPlace σ c)) 1 (sym flag) f v))
 
--- A step on what a checkpoint step left: the same answer, and the same words.
-pub checkpoint-twice : (σ : State) (c : ℕ) → let o = stepOn house σ (Checkpoint c) in Same (stepOn house (o .left) (Checkpoint c)) o
+-- A step on what a checkpoint step left: the same answer, the same words and the same ledger.
+pub checkpoint-twice : (σ : State) (g : List ℕ) (c : ℕ) → let o = stepOn house σ g (Checkpoint c) in SameBoth (stepOn house (o .left) (o .ledger) (Checkpoint c)) o
 unfolding stepOn perform stepCheckpoint refusing firstOf
-checkpoint-twice σ c =
-    cond-ind (λ o. Same (stepOn house (o .left) (Checkpoint c)) o) (not (inForm house σ))
+checkpoint-twice σ g c =
+    cond-ind (λ (o : AfterBoth). SameBoth (stepOn house (o .left) (o .ledger) (Checkpoint c)) o) (not (inForm house σ))
     (λ z. rw z (same-refl _))
     (λ z. let e = not-false (inForm house σ) z in
-    cond-ind (λ o. Same (stepOn house (o .left) (Checkpoint c)) o) (firstOf (checkpointRefusals σ c) == 0)
+    cond-ind (λ (o : After). SameBoth (stepOn house (o .left) g (Checkpoint c)) (beside o g)) (firstOf (checkpointRefusals σ c) == 0)
     (λ q. let h = checkpointAllowed σ c (sym (eqb-true (firstOf (checkpointRefusals σ c)) 0 q)) in
     let a = checkpoint-logged σ c in
     rw (checkpoint-form σ e c h, lt-leb (checkpointed σ c Size) c (omega (arith, a .size-is)))
-    (record { answer-is = refl; left-is = checkpoint-idle (checkpointed σ c) c (a .none-left) (checkpoint-flag σ c) }))
+    (record { answer-is = refl; left-is = checkpoint-idle (checkpointed σ c) c (a .none-left) (checkpoint-flag σ c); ledger-is = refl }))
     (λ q. rw (e, q) (same-refl _)))

@@ -8,16 +8,17 @@ use lib.Count.{ones}
 use lib.ListN.{length}
 use Rattle.base.specs.Choice.{_==_, _≤?_, cond-ind}
 use Rattle.base.specs.Cases.{firstOf}
-use Rattle.table.specs.Field.{State, Degree, Sender}
+use Rattle.table.specs.Field.{State, Sender}
 use Rattle.table.specs.Layout.{controllers, tableWords}
 use Rattle.table.specs.Words.{state}
 use Rattle.table.specs.Numbering.{recordOf}
 use Rattle.rules.specs.Limits.{house}
-use Rattle.rules.specs.Refusal.{LENGTH, FORM}
+use Rattle.rules.specs.Refusal.{LENGTH, FORM, LEDGER-USED-UP}
 use Rattle.rules.specs.Vector.{messageVector, filtered, mask}
-use Rattle.rules.specs.Form.{inForm, stateHeld}
-use Rattle.rules.specs.Steps.{After, refusing, messageRefusals, release, stepRelease}
-use Rattle.rules.specs.Step.{perform, stepOn, Out, lent, step}
+use Rattle.rules.specs.Form.{inForm, forDesk}
+use Rattle.rules.specs.Ledger.{countOf}
+use Rattle.rules.specs.Steps.{AfterBoth, refusingBoth, releaseRefusals, mayGo, release, stepRelease}
+use Rattle.rules.specs.Step.{perform, stepOn, OutBoth, lent, step}
 use Rattle.rules.specs.declared.Answer.{Answer}
 use Rattle.rules.specs.declared.Answer.the-variants.{Released, Held, Refused}
 use Rattle.rules.specs.declared.Command.the-variants.{Release}
@@ -55,19 +56,22 @@ counted-held m mask h =
       held = λ m′ mask′ e. let z : mask ≡ mask′ = cc in subst CountsNamed z h;
     }
 
-counted-release : (σ : State) (m : ℕ) → Counted (stepOn house σ (Release m) .answer)
-unfolding stepOn perform stepRelease refusing release
-counted-release σ m =
+counted-release : (σ : State) (g : List ℕ) (m : ℕ) → Counted (stepOn house σ g (Release m) .answer)
+unfolding stepOn perform stepRelease refusingBoth release
+counted-release σ g m =
     let r = recordOf σ m in
     let s = σ (Sender r) in
     let v = filtered σ s (messageVector σ r) in
     let h = ones-mask v (length-filtered σ s (messageVector σ r)) in
-    cond-ind (λ (o : After). Counted (o .answer)) (not (inForm house σ)) (λ _. counted-refused FORM)
-    (λ _. cond-ind (λ (o : After). Counted (o .answer)) (firstOf (messageRefusals σ r stateHeld) == 0)
-    (λ _. cond-ind (λ (o : After). Counted (o .answer)) (ones (mask v) ≤? σ (Degree s)) (λ _. counted-released m (mask v) h) (λ _. counted-held m (mask v) h))
-    (λ _. counted-refused (firstOf (messageRefusals σ r stateHeld))))
+    let counted : AfterBoth → Type 0 = λ o. Counted (o .answer) in
+    cond-ind counted (not (inForm house σ)) (λ _. counted-refused FORM)
+    (λ _. cond-ind counted (firstOf (releaseRefusals house σ g r) == 0)
+    (λ _. cond-ind counted (not (mayGo σ r (mask v))) (λ _. counted-held m (mask v) h)
+    (λ _. cond-ind counted (not (forDesk σ r)) (λ _. counted-released m (mask v) h)
+    (λ _. cond-ind counted (house .entries ≤? countOf g) (λ _. counted-refused LEDGER-USED-UP) (λ _. counted-released m (mask v) h))))
+    (λ _. counted-refused (firstOf (releaseRefusals house σ g r))))
 
--- on every table
-pub counted-step : (t : List ℕ) (m : ℕ) → Counted (step t (Release m) .answer)
+-- on every table, beside every ledger
+pub counted-step : (t g : List ℕ) (m : ℕ) → Counted (step t g (Release m) .answer)
 unfolding step lent
-counted-step t m = cond-ind (λ (o : Out). Counted (o .answer)) (length t == tableWords) (λ _. counted-release (state t) m) (λ _. counted-refused LENGTH)
+counted-step t g m = cond-ind (λ (o : OutBoth). Counted (o .answer)) (length t == tableWords) (λ _. counted-release (state t) g m) (λ _. counted-refused LENGTH)

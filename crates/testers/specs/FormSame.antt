@@ -8,12 +8,12 @@ use native.Mathlib.Omega.{arith}
 use Rattle.base.specs.Choice.{_==_, _≤?_, _<?_}
 use Rattle.base.specs.Ranges.{allb, allb-ext}
 use Rattle.base.specs.Cases.{allOf}
-use Rattle.table.specs.Field.{State, OfHead, OfController, Known, End, OfPlace, OfMessage, Size, Degree, Incarnation, LiveCount, StableCount, PlaceIncarnation, PlaceNumber, Cause, Flag, MessageState, Sender, Receiver, SendingIncarnation, SendingNumber, PairIncarnation, PairNumber, MessagePairIncarnation, MessagePairNumber, word, spareFrom}
+use Rattle.table.specs.Field.{State, OfHead, OfController, Known, End, OfPlace, OfMessage, Size, Degree, Incarnation, LiveCount, StableCount, PlaceIncarnation, PlaceNumber, Cause, Flag, MessageState, Sender, Receiver, SendingIncarnation, SendingNumber, PairIncarnation, PairNumber, MessagePairIncarnation, MessagePairNumber, desk, word, spareFrom}
 use Rattle.table.specs.Layout.{controllers, incarnations, places, messages, headWords, controllerWords, placeWords, messageWords}
 use Rattle.table.specs.Words.{Agree}
 use Rattle.table.specs.Numbering.{numberOf, used, lastGiven, number-same, used-agree, last-agree}
 use Rattle.rules.specs.Limits.{house, lastIncarnation}
-use Rattle.rules.specs.Form.{stateHeld, stateDropped, zeros, vectorOk, controllerOk, highest, rowOk, placeOk, messageOk, inForm}
+use Rattle.rules.specs.Form.{stateOk, zeros, vectorOk, controllerOk, highest, rowOk, placeOk, messageOk, inForm}
 use Rattle.laws.specs.Records.{placeVector-of, messageVector-of}
 
 pub zeros-same : (n : ℕ) (f g : ℕ → ℕ) → ((k : ℕ) → k < n → f k ≡ g k) → zeros n f ≡ zeros n g
@@ -76,10 +76,9 @@ module _ (σ τ : State) (n : ℕ) where
       let v = messageVector-of σ τ r (λ owner l. (e (word (MessagePairIncarnation r owner)) (omega arith), e (word (MessagePairNumber r owner)) (omega arith))) in
       λ d. cond (r <? count d)
       (allOf
-      ((stateHeld ≤? st d)
-      ∷ (st d ≤? stateDropped)
+      (stateOk (receiver d == desk) (st d)
       ∷ (sender d <? n)
-      ∷ (receiver d <? n)
+      ∷ ((receiver d <? n) || (receiver d == desk))
       ∷ (i d ≤? lastIncarnation)
       ∷ (1 ≤? x d)
       ∷ (x d ≤? house .numbers)

@@ -3,6 +3,7 @@ pub mod StepSame
 pub mod Refused
 pub mod Checkpoint
 pub mod Counted
+pub mod Desk
 pub mod Sample
 pub mod Along
 pub mod Judged
@@ -10,3 +11,5 @@ pub mod Echo
 pub mod WrongMachines
 pub mod Written
 pub mod NoneLost
+pub mod Ledgers
+pub mod Citing

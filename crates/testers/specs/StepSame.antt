@@ -1,8 +1,8 @@
--- A step looks only at words of the table: on states with the same words it answers the same and leaves the same words. So what
--- is computed on states by name holds of the step function on tables of words.
+-- A step looks only at words of the table and at the ledger: on states with the same words, beside one ledger, it answers the same and
+-- leaves the same words and the same ledger. So what is computed on states by name holds of the step function on tables of words.
 use mathlib.Core.Path.{_≡_, refl, sym, ap, ap₂, _∙_, subst}
-use mathlib.Core.Bool.{Bool, true, false, cond, not, _||_}
-use mathlib.Core.List.{List, _∷_}
+use mathlib.Core.Bool.{Bool, true, false, cond, not, _&&_, _||_}
+use mathlib.Core.List.{List, [], _∷_}
 use Prim.Native.Nat.{ℕ, _+_, _-_, _<_}
 use native.Mathlib.Omega.{arith}
 use lib.Count.{ones}
@@ -10,23 +10,24 @@ use lib.ListN.{length}
 use borrow.Author.Tests.{eqb-true, eq-eqb, leb-false, lt-ltb, not-false}
 use Rattle.base.specs.Choice.{_==_, _≤?_, _<?_, or-left, or-right, le?}
 use Rattle.base.specs.Cases.{Case, _⇒_, firstOf, hit}
-use Rattle.table.specs.Field.{State, OfMessage, End, Size, Degree, Incarnation, LiveCount, StableCount, Flag, MessageState, Sender, Receiver, messageHead, same}
+use Rattle.table.specs.Field.{State, OfMessage, End, Size, Degree, Incarnation, LiveCount, StableCount, Flag, MessageState, Sender, Receiver, Payload, desk, messageHead, same}
 use Rattle.table.specs.Change.{put}
 use Rattle.table.specs.Layout.{controllers, places, messages, tableWords}
 use Rattle.table.specs.Words.{state, words, length-words, word-at, words-same, Agree, agree-put, agree-put-to, agree-values}
 use Rattle.table.specs.Numbering.{numberOf, used, recordOf, number-same, used-agree, last-agree, record-agree}
 use Rattle.rules.specs.Limits.{house, lastIncarnation}
-use Rattle.rules.specs.Refusal.{FORM, CONTROLLER, MESSAGE, DEGREE, SAME-CONTROLLER, STATE, LOG-COUNT, NO-SUCH-CRASH, ALREADY-HEARD, MESSAGES-USED-UP, PLACES-USED-UP, INCARNATIONS-USED-UP}
+use Rattle.rules.specs.Refusal.{FORM, LEDGER, CONTROLLER, MESSAGE, DEGREE, SAME-CONTROLLER, STATE, LOG-COUNT, NO-SUCH-CRASH, ALREADY-HEARD, MESSAGES-USED-UP, PLACES-USED-UP, INCARNATIONS-USED-UP}
 use Rattle.rules.specs.Vector.{Vector, placeVector, messageVector, flat, filtered, condemned, mask, conflict, merged}
-use Rattle.rules.specs.Form.{inForm, stateHeld, stateReleased, stateDropped}
+use Rattle.rules.specs.Form.{inForm, stateHeld, stateReleased, stateDropped, statePublished}
+use Rattle.rules.specs.Ledger.{countOf, appended}
 use Rattle.rules.specs.Shared.{newestPlace}
-use Rattle.rules.specs.Steps.{After, refuse, refusing, stepOpen, stepDegree, stepSend, messageRefusals, letOut, release, stepRelease, intervalAdded, intervalBegins, deliver, stepDeliver, stepLog, checkpointed, stepCheckpoint, stepTell, crashed, stepCrash, noted, lowestCondemned, hear, hearRefusals, stepHear}
-use Rattle.rules.specs.Step.{perform, stepOn, out, written, lent, step}
+use Rattle.rules.specs.Steps.{After, refuse, refusing, AfterBoth, beside, refusingBoth, stepOpen, stepDegree, stepSend, messageRefusals, letOut, mayGo, release, stepRelease, intervalAdded, intervalBegins, deliver, stepDeliver, stepLog, checkpointed, stepCheckpoint, stepTell, crashed, stepCrash, noted, lowestCondemned, hear, hearRefusals, stepHear}
+use Rattle.rules.specs.Step.{perform, stepOn, outBoth, writtenBoth, lent, step}
 use Rattle.rules.specs.declared.Answer.the-variants.{Sent, Released, Held, Delivered, Crashed, Rolled, Refused}
 use Rattle.rules.specs.declared.Command.{Command}
 use Rattle.rules.specs.declared.Command.the-variants.{Open, SetDegree, Send, Release, Deliver, Log, Checkpoint, Tell, Crash, Hear}
-use Rattle.laws.specs.Facts.{Form, form, below-8, controllerForm, messageForm, message-near}
-use Rattle.laws.specs.Allowed.{sendAllowed, messageAllowed, logAllowed, checkpointAllowed, tellAllowed, crashAllowed, hearAllowed}
+use Rattle.laws.specs.Facts.{Form, form, below-8, controllerForm, messageForm, released-lt, message-near}
+use Rattle.laws.specs.Allowed.{sendAllowed, messageAllowed, releaseAllowed, logAllowed, checkpointAllowed, tellAllowed, crashAllowed, hearAllowed}
 use Rattle.laws.specs.Agree.{incarnation-same, live-same, stable-same, state-same, placeVector-same, messageVector-same, filtered-same, condemned-same, replayed-same, lowestCondemned-same, agree-logged, agree-loggedTo, agree-sent, agree-begun, agree-noted, agree-told}
 use Rattle.laws.specs.Chain.{Chain, chain-form, chain-noted, Starts, starts-put}
 use Rattle.laws.specs.Found.{lowest}
@@ -38,18 +39,28 @@ pub record Same (o p : After) : Type 0 where
   pub answer-is : o .answer ≡ p .answer
   pub left-is : Agree (o .left) (p .left)
 
-pub same-refl : (o : After) → Same o o
-same-refl o = record { answer-is = refl; left-is = λ f v. refl }
+-- the same of a step that looks at both buffers: and the same ledger
+pub record SameBoth (o p : AfterBoth) : Type 0 where
+  pub answer-is : o .answer ≡ p .answer
+  pub left-is : Agree (o .left) (p .left)
+  pub ledger-is : o .ledger ≡ p .ledger
+
+pub same-refl : (o : AfterBoth) → SameBoth o o
+same-refl o = record { answer-is = refl; left-is = λ f v. refl; ledger-is = refl }
+
+-- beside one ledger
+pub same-beside : {o p : After} (g : List ℕ) → Same o p → SameBoth (beside o g) (beside p g)
+same-beside g s = record { answer-is = s .answer-is; left-is = s .left-is; ledger-is = refl }
 
 -- then the same is written
-pub same-written : {o p : After} → Same o p → written o ≡ written p
-same-written {o} {p} s d = out (s .answer-is d) (words-same (o .left) (p .left) (s .left-is) d)
+pub same-written : {o p : AfterBoth} → SameBoth o p → writtenBoth o ≡ writtenBoth p
+same-written {o} {p} s d = outBoth (s .answer-is d) (words-same (o .left) (p .left) (s .left-is) d) (s .ledger-is d)
 
 -- a choice by a test that is the same
-same-cond : {b c : Bool} {o o′ p p′ : After} → b ≡ c → (b ≡ true → Same o p) → (b ≡ false → Same o′ p′) → Same (cond b o o′) (cond c p p′)
-same-cond {b} {c} {o} {o′} {p} {p′} q f g = subst (λ z. Same (cond b o o′) (cond z p p′)) q (go b f g)
+pub same-cond : {A : Type 0} (R : A → A → Type 0) {b c : Bool} {o o′ p p′ : A} → b ≡ c → (b ≡ true → R o p) → (b ≡ false → R o′ p′) → R (cond b o o′) (cond c p p′)
+same-cond R {b} {c} {o} {o′} {p} {p′} q f g = subst (λ z. R (cond b o o′) (cond z p p′)) q (go b f g)
   where
-    go : (b : Bool) → (b ≡ true → Same o p) → (b ≡ false → Same o′ p′) → Same (cond b o o′) (cond b p p′)
+    go : (b : Bool) → (b ≡ true → R o p) → (b ≡ false → R o′ p′) → R (cond b o o′) (cond b p p′)
     go true f g = f refl
     go false f g = g refl
 
@@ -75,7 +86,13 @@ module _ (σ τ : State) (e : Agree σ τ) where
   same-refusing : (cases cases′ : List Case) {o p : After} → firstOf cases ≡ firstOf cases′ → (0 ≡ firstOf cases → Same o p) →
       Same (refusing cases σ o) (refusing cases′ τ p)
   unfolding refusing
-  same-refusing cases cases′ q h = same-cond (ap (λ i. i == 0) q) (λ z. h (sym (eqb-true (firstOf cases) 0 z))) (λ _. same-refuse q)
+  same-refusing cases cases′ q h = same-cond Same (ap (λ i. i == 0) q) (λ z. h (sym (eqb-true (firstOf cases) 0 z))) (λ _. same-refuse q)
+
+  same-refusing-both : (g : List ℕ) (cases cases′ : List Case) {o p : AfterBoth} → firstOf cases ≡ firstOf cases′ → (0 ≡ firstOf cases → SameBoth o p) →
+      SameBoth (refusingBoth cases σ g o) (refusingBoth cases′ τ g p)
+  unfolding refusingBoth
+  same-refusing-both g cases cases′ q h =
+      same-cond SameBoth (ap (λ i. i == 0) q) (λ z. h (sym (eqb-true (firstOf cases) 0 z))) (λ _. same-beside g (same-refuse q))
 
   -- an interval begins, with vectors that are the same
   pub same-begins : (c m r : ℕ) {v w : Vector} → c < controllers → v ≡ w → Same (intervalBegins σ c m r v) (intervalBegins τ c m r w)
@@ -88,9 +105,9 @@ module _ (σ τ : State) (e : Agree σ τ) where
       }
 
   -- O
-  same-open : (n k : ℕ) → Same (stepOpen σ n k) (stepOpen τ n k)
+  same-open : (g : List ℕ) (n k : ℕ) → SameBoth (stepOpen house σ g n k) (stepOpen house τ g n k)
   unfolding stepOpen
-  same-open n k = same-refusing _ _ refl (λ _. record { answer-is = refl; left-is = λ f v. refl })
+  same-open g n k = same-refusing-both g _ _ refl (λ _. same-refl _)
 
   -- The other steps, where σ is in form.
   module _ (f : Form σ) where
@@ -122,7 +139,7 @@ module _ (σ τ : State) (e : Agree σ τ) where
     unfolding stepSend
     same-send sender receiver payload =
         same-refusing _ _
-        (same-first CONTROLLER _ _ (ap (λ n. (n ≤? sender) || (n ≤? receiver)) size)
+        (same-first CONTROLLER _ _ (ap (λ n. (n ≤? sender) || ((n ≤? receiver) && not (receiver == desk))) size)
         (λ _. same-first SAME-CONTROLLER _ _ refl (λ _. same-first MESSAGES-USED-UP _ _ (ap (λ u. messages ≤? u) (used-agree σ τ e)) (λ _. refl))))
         (λ z. let w = chain-form σ sender f (sendAllowed σ sender receiver z .sender-lt) in
         let p : newestPlace σ sender < σ (LiveCount sender) = omega (arith, w .live-pos) in
@@ -138,42 +155,46 @@ module _ (σ τ : State) (e : Agree σ τ) where
         (λ z. same-first STATE _ _ (ap (λ x. not (x == wanted)) (state-same σ τ e r (omega (arith, leb-false (used σ) r z, f .used-le)))) (λ _. refl))
 
     -- R
-    same-released : (m r : ℕ) → r < used σ → Same (release σ m r) (release τ m r)
-    unfolding release letOut
-    same-released m r h =
+    same-released : (g : List ℕ) (m r : ℕ) → r < used σ → SameBoth (release house σ g m r) (release house τ g m r)
+    unfolding release letOut mayGo
+    same-released g m r h =
         let rl : r < messages = omega (arith, f .used-le) in
         let sl = below-8 f (σ (Sender r)) (messageForm f r h .sender-lt) in
         let v = message-filtered (σ (Sender r)) r sl rl in
         let k = e (Degree (σ (Sender r))) (sl, omega arith) in
+        let outside = ap (λ x. x == desk) (e (Receiver r) (rl, omega arith)) in
+        let out : (st : ℕ) → Agree (letOut σ r _ st) (letOut τ r _ st) =
+        λ st. agree-put _ _ (MessageState r) st (agree-values σ τ (OfMessage r 0) messageHead (ap flat v) e) in
+        let released = ap (λ v. Released m (mask v)) v in
         rw (← e (Sender r) (rl, omega arith))
-        (same-cond (λ d. ones (mask (v d)) ≤? k d)
-        (λ _. record {
-          answer-is = ap (λ v. Released m (mask v)) v;
-          left-is = agree-put _ _ (MessageState r) stateReleased (agree-values σ τ (OfMessage r 0) messageHead (ap flat v) e);
-        })
-        (λ _. record { answer-is = ap (λ v. Held m (mask v)) v; left-is = e }))
+        (same-cond SameBoth (λ d. not (cond (outside d) (mask (v d) == 0) (ones (mask (v d)) ≤? k d)))
+        (λ _. record { answer-is = ap (λ v. Held m (mask v)) v; left-is = e; ledger-is = refl })
+        (λ _. same-cond SameBoth (ap not outside) (λ _. record { answer-is = released; left-is = out stateReleased; ledger-is = refl })
+        (λ _. same-cond SameBoth {b = house .entries ≤? countOf g} refl (λ _. same-beside g (same-refuse refl))
+        (λ _. record { answer-is = released; left-is = out statePublished; ledger-is = ap (λ x. appended g (m ∷ x ∷ [])) (e (Payload r) (rl, omega arith)) }))))
 
-    same-release : (m : ℕ) → Same (stepRelease σ m) (stepRelease τ m)
+    same-release : (g : List ℕ) (m : ℕ) → SameBoth (stepRelease house σ g m) (stepRelease house τ g m)
     unfolding stepRelease
-    same-release m =
+    same-release g m =
         let r = recordOf σ m in
         rw (← record-agree σ τ e m (f .used-le))
-        (same-refusing _ _ (message-cases r stateHeld) (λ z. same-released m r (messageAllowed σ r stateHeld z .record-used)))
+        (same-refusing-both g _ _ (same-first LEDGER _ _ refl (λ _. message-cases r stateHeld))
+        (λ z. same-released g m r (releaseAllowed σ g r z .0 .record-used)))
 
     -- D
-    same-delivered : (m r : ℕ) → r < used σ → Same (deliver house σ m r) (deliver house τ m r)
+    same-delivered : (m r : ℕ) → r < used σ → σ (MessageState r) ≡ stateReleased → Same (deliver house σ m r) (deliver house τ m r)
     unfolding deliver
-    same-delivered m r h =
+    same-delivered m r h st =
         let rl : r < messages = omega (arith, f .used-le) in
         let c = σ (Receiver r) in
-        let w = chain-form σ c f (messageForm f r h .receiver-lt) in
+        let w = chain-form σ c f (released-lt f r h st) in
         let ours = newest-filtered c w in
         let theirs = message-filtered c r (w .named) rl in
         rw (← e (Receiver r) (rl, omega arith))
-        (same-cond (condemned-same σ τ e c _ (w .named) (message-near f r rl) ∙ ap (condemned τ c) (messageVector-same σ τ e r rl))
+        (same-cond Same (condemned-same σ τ e c _ (w .named) (message-near f r rl) ∙ ap (condemned τ c) (messageVector-same σ τ e r rl))
         (λ _. record { answer-is = refl; left-is = agree-put σ τ (MessageState r) stateDropped e })
-        (λ _. same-cond (ap₂ (conflict c) ours theirs) (λ _. record { answer-is = refl; left-is = e })
-        (λ _. same-cond (ap (λ live. places ≤? live) (live-same σ τ e c (w .named))) (λ _. same-refuse refl)
+        (λ _. same-cond Same (ap₂ (conflict c) ours theirs) (λ _. record { answer-is = refl; left-is = e })
+        (λ _. same-cond Same (ap (λ live. places ≤? live) (live-same σ τ e c (w .named))) (λ _. same-refuse refl)
         (λ _. same-begins c m r (w .named) (ap₂ merged ours theirs)))))
 
     same-deliver : (m : ℕ) → Same (stepDeliver house σ m) (stepDeliver house τ m)
@@ -181,7 +202,7 @@ module _ (σ τ : State) (e : Agree σ τ) where
     same-deliver m =
         let r = recordOf σ m in
         rw (← record-agree σ τ e m (f .used-le))
-        (same-refusing _ _ (message-cases r stateReleased) (λ z. same-delivered m r (messageAllowed σ r stateReleased z .record-used)))
+        (same-refusing _ _ (message-cases r stateReleased) (λ z. let a = messageAllowed σ r stateReleased z in same-delivered m r (a .record-used) (a .state-is)))
 
     -- L
     same-log : (c q : ℕ) → Same (stepLog σ c q) (stepLog τ c q)
@@ -270,32 +291,33 @@ module _ (σ τ : State) (e : Agree σ τ) where
         let k = lowestCondemned (noted σ hearer owner i) hearer in
         let live = live-same σ τ e hearer (w .named) in
         rw (← lowestCondemned-same _ _ heard hearer (w′ .named) (w′ .live-le) (w′ .near))
-        (same-cond (ap (λ n. n ≤? k) live) (λ _. record { answer-is = refl; left-is = heard })
-        (λ l. same-cond (ap (λ j. lastIncarnation ≤? j) (incarnation-same σ τ e hearer (w .named))) (λ _. same-refuse refl)
+        (same-cond Same (ap (λ n. n ≤? k) live) (λ _. record { answer-is = refl; left-is = heard })
+        (λ l. same-cond Same (ap (λ j. lastIncarnation ≤? j) (incarnation-same σ τ e hearer (w .named))) (λ _. same-refuse refl)
         (λ j. let s = hear-starts hearer owner i w (leb-false (σ (LiveCount hearer)) k l) (leb-false lastIncarnation (σ (Incarnation hearer)) j) in
         let x = number-same σ τ e hearer k (w .named) in
         let again = replayed-same σ τ e hearer k (w .named) (omega (arith, s .room)) in
         record { answer-is = λ d. Rolled hearer (x d) (live d - k) (again d); left-is = agree-rolled _ _ hearer k s heard }))))
 
 -- the host's look at the form
-looked : (σ τ : State) → Agree σ τ → {o p : After} → (Form σ → Same o p) → Same (cond (not (inForm house σ)) (refuse FORM σ) o) (cond (not (inForm house τ)) (refuse FORM τ) p)
-looked σ τ e h = same-cond (ap not (inForm-same σ τ e)) (λ _. same-refuse σ τ e refl) (λ z. h (form σ (not-false (inForm house σ) z)))
+looked : (σ τ : State) → Agree σ τ → (g : List ℕ) {o p : AfterBoth} → (Form σ → SameBoth o p) →
+    SameBoth (cond (not (inForm house σ)) (beside (refuse FORM σ) g) o) (cond (not (inForm house τ)) (beside (refuse FORM τ) g) p)
+looked σ τ e g h = same-cond SameBoth (ap not (inForm-same σ τ e)) (λ _. same-beside g (same-refuse σ τ e refl)) (λ z. h (form σ (not-false (inForm house σ) z)))
 
--- a step on states with the same words
-pub same-step : (σ τ : State) → Agree σ τ → (x : Command) → Same (stepOn house σ x) (stepOn house τ x)
+-- a step on states with the same words, beside one ledger
+pub same-step : (σ τ : State) → Agree σ τ → (g : List ℕ) (x : Command) → SameBoth (stepOn house σ g x) (stepOn house τ g x)
 unfolding stepOn perform
-same-step σ τ e (Open n k) = same-open σ τ e n k
-same-step σ τ e (SetDegree c k) = looked σ τ e (λ f. same-degree σ τ e f c k)
-same-step σ τ e (Send sender receiver payload) = looked σ τ e (λ f. same-send σ τ e f sender receiver payload)
-same-step σ τ e (Release m) = looked σ τ e (λ f. same-release σ τ e f m)
-same-step σ τ e (Deliver m) = looked σ τ e (λ f. same-deliver σ τ e f m)
-same-step σ τ e (Log c q) = looked σ τ e (λ f. same-log σ τ e f c q)
-same-step σ τ e (Checkpoint c) = looked σ τ e (λ f. same-checkpoint σ τ e f c)
-same-step σ τ e (Tell owner holder) = looked σ τ e (λ f. same-tell σ τ e f owner holder)
-same-step σ τ e (Crash c) = looked σ τ e (λ f. same-crash σ τ e f c)
-same-step σ τ e (Hear hearer owner i) = looked σ τ e (λ f. same-hear σ τ e f hearer owner i)
+same-step σ τ e g (Open n k) = same-open σ τ e g n k
+same-step σ τ e g (SetDegree c k) = looked σ τ e g (λ f. same-beside g (same-degree σ τ e f c k))
+same-step σ τ e g (Send sender receiver payload) = looked σ τ e g (λ f. same-beside g (same-send σ τ e f sender receiver payload))
+same-step σ τ e g (Release m) = looked σ τ e g (λ f. same-release σ τ e f g m)
+same-step σ τ e g (Deliver m) = looked σ τ e g (λ f. same-beside g (same-deliver σ τ e f m))
+same-step σ τ e g (Log c q) = looked σ τ e g (λ f. same-beside g (same-log σ τ e f c q))
+same-step σ τ e g (Checkpoint c) = looked σ τ e g (λ f. same-beside g (same-checkpoint σ τ e f c))
+same-step σ τ e g (Tell owner holder) = looked σ τ e g (λ f. same-beside g (same-tell σ τ e f owner holder))
+same-step σ τ e g (Crash c) = looked σ τ e g (λ f. same-beside g (same-crash σ τ e f c))
+same-step σ τ e g (Hear hearer owner i) = looked σ τ e g (λ f. same-beside g (same-hear σ τ e f hearer owner i))
 
--- The step function on the table of a state is the step on that state.
-pub step-words : (σ : State) (x : Command) → step (words σ) x ≡ written (stepOn house σ x)
+-- The step function on the table of a state, beside a ledger, is the step on that state.
+pub step-words : (σ : State) (g : List ℕ) (x : Command) → step (words σ) g x ≡ writtenBoth (stepOn house σ g x)
 unfolding step lent
-step-words σ x = rw (eq-eqb (length (words σ)) tableWords (length-words σ)) (same-written (same-step (state (words σ)) σ (word-at σ) x))
+step-words σ g x = rw (eq-eqb (length (words σ)) tableWords (length-words σ)) (same-written (same-step (state (words σ)) σ (word-at σ) g x))

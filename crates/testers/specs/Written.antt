@@ -6,13 +6,15 @@ use lib.ListN.{length-replicate, getD-replicate}
 use Rattle.table.specs.Layout.{tableWords, position, position-lt}
 use Rattle.table.specs.Change.{blank}
 use Rattle.table.specs.Words.{words, words-of}
+use Rattle.rules.specs.Limits.{house}
+use Rattle.rules.specs.Ledger.{ledgerWords}
 use Rattle.rules.specs.Bytes.{bytes}
 use Rattle.rules.specs.Report.{report}
 use Rattle.rules.specs.Step.{step, stepCall}
 use Rattle.rules.specs.declared.Command.{Command}
 use Rattle.lines.specs.Lines.{stepOf, withNumbers, command, fields, digits, valueFrom, isNumber, areNumbers, asked, parse, decimalIn, spaced, lineOf, answerLine}
 use Rattle.lines.specs.declared.Parsed.the-variants.{Asks}
-use Rattle.lines.specs.Program.{linesOf, replyTo, reply, replies, firstTable, houseWrites}
+use Rattle.lines.specs.Program.{linesOf, replyTo, reply, replies, firstTable, firstLedger, houseWrites}
 use Rattle.listing.specs.ListingA as L
 use Rattle.listing.specs.ListingA.{listingA, listing-A}
 use Rattle.testers.specs.Sample.{calls, answersFrom, answers-words}
@@ -23,11 +25,12 @@ data Asking : List (List ℕ) → List Command → Type 0 where
   also : {l : List ℕ} {x : Command} {ls : List (List ℕ)} {xs : List Command} → parse l ≡ Asks x → Asking ls xs → Asking (l ∷ ls) (x ∷ xs)
 
 -- their answers are those of the steps
-asking-replies : (t : List ℕ) {ls : List (List ℕ)} {xs : List Command} → Asking ls xs → replies t ls ≡ flatten (map answerLine (answersFrom t (calls xs)))
+asking-replies : (t g : List ℕ) {ls : List (List ℕ)} {xs : List Command} → Asking ls xs → replies t g ls ≡ flatten (map answerLine (answersFrom t g (calls xs)))
 unfolding replies reply replyTo flatten answersFrom stepCall
-asking-replies t nothing = refl
-asking-replies t (also {x = x} {xs = xs} e f) =
-    rw e (ap (λ (l : List ℕ). answerLine (step t x .answer) ++ l) (asking-replies (step t x .table) f))
+asking-replies t g nothing = refl
+asking-replies t g (also {x = x} {xs = xs} e f) =
+    let o = step t g x in
+    rw e (ap (λ (l : List ℕ). answerLine (o .answer) ++ l) (asking-replies (o .table) (o .ledger) f))
 
 -- the table that the program starts with is the one of blank words
 first-blank : firstTable ≡ words blank
@@ -53,7 +56,8 @@ right-lines = refl
 pub listing-written : houseWrites leftColumn ≡ rightColumn
 unfolding houseWrites
 listing-written =
-    asking-replies firstTable left-asks
-    ∙ ap (λ (t : List ℕ). flatten (map answerLine (answersFrom t (calls listingA)))) first-blank
-    ∙ ap (λ a. flatten (map answerLine a)) (answers-words blank listingA ∙ listing-A)
+    let zero : ℕ = 0 in
+    asking-replies firstTable firstLedger left-asks
+    ∙ ap (λ (t : List ℕ). flatten (map answerLine (answersFrom t firstLedger (calls listingA)))) first-blank
+    ∙ ap (λ a. flatten (map answerLine a)) (answers-words blank firstLedger listingA ∙ listing-A firstLedger (length-replicate (ledgerWords house) zero))
     ∙ right-lines

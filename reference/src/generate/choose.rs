@@ -3,7 +3,7 @@
 use super::profile::Kind;
 use super::{Profile, Random};
 use crate::machine::Command;
-use crate::table::{state, Table, INCARNATIONS};
+use crate::table::{state, Table, DESK, INCARNATIONS};
 
 /// An opening of a house of this profile.
 pub(super) fn opening(random: &mut Random, profile: &Profile) -> Command {
@@ -85,12 +85,21 @@ impl Chooser<'_> {
     }
 
     fn send(&mut self, sender: u32) -> Command {
-        let last = self.table.n() - 1;
-        let to_last = sender != last && self.random.chance(self.profile.to_last);
         Command::Send {
             sender,
-            receiver: if to_last { last } else { self.other(sender) },
+            receiver: self.receiver(sender),
             payload: self.random.word(),
+        }
+    }
+
+    fn receiver(&mut self, sender: u32) -> u32 {
+        let last = self.table.n() - 1;
+        if self.random.chance(self.profile.to_desk) {
+            DESK
+        } else if sender != last && self.random.chance(self.profile.to_last) {
+            last
+        } else {
+            self.other(sender)
         }
     }
 

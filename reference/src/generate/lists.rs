@@ -1,17 +1,19 @@
 //! Random lists of steps: sensible ones, chosen by looking at the table, and senseless ones.
 
 use super::choose::{opening, Chooser};
-use super::{noise, Profile, Random};
+use super::{noise, sound_ledger, Profile, Random};
+use crate::ledger;
 use crate::machine::{step_with, Answer, Command, Fault};
 use crate::table::{in_form, Table, CONTROLLERS, WORDS};
 
-/// A random list in the doing: each item is the next step and its answer, and the table stands as
-/// the last one left it.
+/// A random list in the doing: each item is the next step and its answer, and the table and the ledger
+/// stand as the last one left them.
 pub struct Walk {
     random: Random,
     profile: &'static Profile,
     fault: Fault,
     table: Vec<u32>,
+    ledger: Vec<u32>,
     first: bool,
     left: u32,
 }
@@ -22,20 +24,21 @@ impl Walk {
         Walk::with_fault(seed, profile, Fault::None)
     }
 
-    /// A list of a faulty machine. The table before its first opening is zero or noise.
+    /// A list of a faulty machine. The table and the ledger before its first opening are zero or noise.
     pub fn with_fault(seed: u64, profile: &'static Profile, fault: Fault) -> Self {
         let mut random = Random::new(seed);
         let left = random.within(profile.steps.clone());
-        let table = if random.chance(50) {
-            noise(&mut random)
+        let (table, ledger) = if random.chance(50) {
+            (noise(&mut random), left_ledger(&mut random))
         } else {
-            vec![0; WORDS]
+            (vec![0; WORDS], vec![0; ledger::WORDS])
         };
         Walk {
             random,
             profile,
             fault,
             table,
+            ledger,
             first: true,
             left,
         }
@@ -44,6 +47,11 @@ impl Walk {
     /// The table as it stands.
     pub fn table(&self) -> &[u32] {
         &self.table
+    }
+
+    /// The ledger as it stands.
+    pub fn ledger(&self) -> &[u32] {
+        &self.ledger
     }
 
     fn command(&mut self) -> Command {
@@ -82,8 +90,17 @@ impl Iterator for Walk {
     fn next(&mut self) -> Option<Self::Item> {
         self.left = self.left.checked_sub(1)?;
         let command = self.command();
-        let answer = step_with(self.fault, &mut self.table, command);
+        let answer = step_with(self.fault, &mut self.table, &mut self.ledger, command);
         Some((command, answer))
+    }
+}
+
+/// What may stand in a ledger before an opening: entries of an earlier house, or mere noise.
+fn left_ledger(random: &mut Random) -> Vec<u32> {
+    if random.chance(50) {
+        sound_ledger(random)
+    } else {
+        (0..ledger::WORDS).map(|_| random.word()).collect()
     }
 }
 

@@ -2,7 +2,7 @@
 
 use super::Random;
 use crate::machine::Command;
-use crate::table::{state, Table, CONTROLLERS, INCARNATIONS, LAST_MESSAGE, LAST_NUMBER};
+use crate::table::{state, Table, CONTROLLERS, DESK, INCARNATIONS, LAST_MESSAGE, LAST_NUMBER};
 
 /// A step of each letter, as far as these words have the length of a table. The opening comes last: it
 /// leaves nothing of what was lent.
@@ -69,7 +69,7 @@ impl Namer<'_> {
             },
             Command::Send {
                 sender: controller,
-                receiver: other,
+                receiver: if self.random.chance(20) { DESK } else { other },
                 payload: self.random.word(),
             },
             Command::Release {

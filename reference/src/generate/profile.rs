@@ -30,6 +30,8 @@ pub struct Profile {
     pub(super) senseless: u32,
     /// How many of a hundred sends go to the last controller, whoever else could receive.
     pub(super) to_last: u32,
+    /// How many of a hundred sends go to the desk.
+    pub(super) to_desk: u32,
     /// How often a step is of each kind, among the sensible ones.
     pub(super) weights: [(Kind, u32); 10],
 }
@@ -58,6 +60,7 @@ impl Profile {
         steps: 20..=120,
         senseless: 5,
         to_last: 0,
+        to_desk: 20,
         weights: weights([1, 6, 50, 60, 70, 12, 4, 14, 6, 14]),
     };
     /// Few controllers that crash often and hear late.
@@ -67,6 +70,7 @@ impl Profile {
         steps: 60..=180,
         senseless: 1,
         to_last: 0,
+        to_desk: 20,
         weights: weights([0, 2, 50, 60, 80, 8, 2, 6, 9, 16]),
     };
     /// Little is stable and little is known, so that most work hangs on other work.
@@ -76,6 +80,7 @@ impl Profile {
         steps: 60..=160,
         senseless: 1,
         to_last: 0,
+        to_desk: 20,
         weights: weights([0, 2, 60, 70, 90, 6, 0, 6, 5, 10]),
     };
     /// One controller's chain and the messages fill up.
@@ -85,6 +90,7 @@ impl Profile {
         steps: 500..=600,
         senseless: 1,
         to_last: 85,
+        to_desk: 2,
         weights: weights([0, 2, 60, 60, 70, 30, 12, 10, 2, 4]),
     };
     /// Incarnations run out.
@@ -94,6 +100,7 @@ impl Profile {
         steps: 200..=400,
         senseless: 1,
         to_last: 30,
+        to_desk: 10,
         weights: weights([0, 3, 40, 50, 70, 2, 1, 4, 14, 30]),
     };
     /// Mostly nonsense.
@@ -103,15 +110,27 @@ impl Profile {
         steps: 20..=60,
         senseless: 60,
         to_last: 0,
+        to_desk: 20,
         weights: weights([3, 10, 30, 30, 30, 10, 10, 10, 10, 10]),
     };
+    /// All goes to the desk, until the ledger is full: it takes every message of a house.
+    pub const DESK: Profile = Profile {
+        name: "desk",
+        controllers: 1..=3,
+        steps: 290..=330,
+        senseless: 0,
+        to_last: 0,
+        to_desk: 100,
+        weights: weights([0, 2, 60, 60, 4, 4, 2, 4, 2, 4]),
+    };
     /// All of them.
-    pub const ALL: [&'static Profile; 6] = [
+    pub const ALL: [&'static Profile; 7] = [
         &Profile::MIXED,
         &Profile::CRASHES,
         &Profile::PARTIAL,
         &Profile::FULL,
         &Profile::WORN,
         &Profile::WILD,
+        &Profile::DESK,
     ];
 }

@@ -3,8 +3,8 @@
 
 use super::Random;
 use crate::table::{
-    Controller, Message, Place, Table, CONTROLLERS, INCARNATIONS, LAST_INCARNATION, LAST_MESSAGE,
-    LAST_NUMBER, WORDS,
+    state, Controller, Message, Place, Table, CONTROLLERS, DESK, INCARNATIONS, LAST_INCARNATION,
+    LAST_MESSAGE, LAST_NUMBER, WORDS,
 };
 use crate::vector::{Pair, Vector};
 
@@ -16,6 +16,9 @@ pub fn noise(random: &mut Random) -> Vec<u32> {
 /// A table in form with one word changed, and where. It may be in form still.
 pub fn damaged(random: &mut Random) -> (Vec<u32>, usize) {
     let mut words = in_form_table(random);
+    if random.chance(30) {
+        return damaged_message(random, words);
+    }
     // Half of the damage goes to the head, the counts and the first knowledge, where it matters most.
     let reach = if random.chance(50) { 100 } else { WORDS };
     let position = random.index(reach);
@@ -26,6 +29,24 @@ pub fn damaged(random: &mut Random) -> (Vec<u32>, usize) {
         _ => 0,
     };
     (words, position)
+}
+
+/// The table with another state or another receiver of one message: which states are in form hangs on
+/// the receiver, and a receiver past the last controller is only the desk.
+fn damaged_message(random: &mut Random, mut words: Vec<u32>) -> (Vec<u32>, usize) {
+    let before = words.clone();
+    if let Some(mut table) = Table::new(&mut words[..]).filter(|table| table.sent() > 0) {
+        let message = random.within(1..=table.sent());
+        let mut record = table.message(message);
+        match random.below(4) {
+            0 => record.state = state::PUBLISHED,
+            1 => record.state = random.within(0..=state::PUBLISHED + 1),
+            _ => record.receiver = random.within(table.n()..=DESK + 1),
+        }
+        table.set_message(message, &record);
+    }
+    let changed = words.iter().zip(&before).position(|(new, old)| new != old);
+    (words, changed.unwrap_or(0))
 }
 
 /// A table whose length isn't the right one, by one word or by many.
@@ -67,6 +88,15 @@ fn ranged(random: &mut Random, low: u32, high: u32) -> u32 {
         _ => random.within(low..=high.min(low + 5)),
     }
 }
+
+const FOR_CONTROLLERS: [u32; 5] = [
+    state::HELD,
+    state::RELEASED,
+    state::DELIVERED,
+    state::LOST,
+    state::DROPPED,
+];
+const FOR_THE_DESK: [u32; 3] = [state::HELD, state::DROPPED, state::PUBLISHED];
 
 struct Filler<'a> {
     random: &'a mut Random,
@@ -145,11 +175,17 @@ impl Filler<'_> {
         }
     }
 
+    /// One of five is for the desk. Its state is one of three then.
     fn message(&mut self) -> Message {
+        let (receiver, states) = if self.random.chance(20) {
+            (DESK, &FOR_THE_DESK[..])
+        } else {
+            (self.random.below(self.n), &FOR_CONTROLLERS[..])
+        };
         Message {
-            state: self.random.within(1..=5),
+            state: self.random.pick(states).unwrap_or(state::HELD),
             sender: self.random.below(self.n),
-            receiver: self.random.below(self.n),
+            receiver,
             incarnation: ranged(self.random, 0, LAST_INCARNATION),
             number: ranged(self.random, 1, LAST_NUMBER),
             payload: self.random.word(),

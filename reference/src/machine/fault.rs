@@ -3,9 +3,11 @@
 //! The rules ask for a fault in one place each; what the faulty machine does instead is here, so that
 //! the sound rules can be read without it.
 
+use super::rules::can_open;
 use super::{Answer, Command};
+use crate::ledger::{self, Entry, Ledger};
 use crate::refusal;
-use crate::table::{state, Controller, Table, INCARNATIONS};
+use crate::table::{in_form, state, Controller, Message, Table, DESK, INCARNATIONS, LAST_MESSAGE};
 use crate::vector::{is_condemned, Pair, Row, Vector};
 use std::array;
 
@@ -59,11 +61,33 @@ pub enum Fault {
     HeardBeforeLooking,
     /// One that "never hears".
     NeverHears,
+    /// Letting a message out to the desk by its sender's degree, as any other.
+    PublishedByTheDegree,
+    /// Publishing without an entry in the ledger.
+    PublishedWithoutEntry,
+    /// Appending an entry for a message to the desk that stays held.
+    LedgerWrittenOnHeld,
+    /// Opening without clearing the ledger.
+    LedgerNotCleared,
+    /// Writing the payload of an entry before the message number.
+    EntryOutOfOrder,
+    /// Looking whether the ledger is full before looking at the mask.
+    FullBeforeHeld,
+    /// Taking a table for in form that has a published message for a controller.
+    PublishedElsewhereInForm,
+    /// Changing messages for the desk as causes, like any others.
+    DeskChangedAsCause,
+    /// Looking at the ledger only if the message to be released is for the desk.
+    FourteenOnlyForTheDesk,
+    /// Looking at the ledger at every step.
+    LedgerLookedAtByAll,
+    /// Looking at the numbers of an opening before the ledger.
+    DegreeBeforeLedger,
 }
 
 impl Fault {
     /// Every planted fault.
-    pub const PLANTED: [Fault; 21] = [
+    pub const PLANTED: [Fault; 32] = [
         Fault::LargerAcrossIncarnations,
         Fault::NumbersWithoutIncarnations,
         Fault::StoredPairsCounted,
@@ -85,9 +109,35 @@ impl Fault {
         Fault::HeldBeforeLooking,
         Fault::HeardBeforeLooking,
         Fault::NeverHears,
+        Fault::PublishedByTheDegree,
+        Fault::PublishedWithoutEntry,
+        Fault::LedgerWrittenOnHeld,
+        Fault::LedgerNotCleared,
+        Fault::EntryOutOfOrder,
+        Fault::FullBeforeHeld,
+        Fault::PublishedElsewhereInForm,
+        Fault::DeskChangedAsCause,
+        Fault::FourteenOnlyForTheDesk,
+        Fault::LedgerLookedAtByAll,
+        Fault::DegreeBeforeLedger,
     ];
 
-    fn bends_the_table(self) -> bool {
+    /// Whether some list in a house just opened shows the fault. The others need a table or a ledger
+    /// that no list leads to.
+    pub fn shows_in_lists(self) -> bool {
+        !matches!(
+            self,
+            Fault::None
+                | Fault::FullBeforeHeld
+                | Fault::PublishedElsewhereInForm
+                | Fault::DeskChangedAsCause
+                | Fault::FourteenOnlyForTheDesk
+                | Fault::LedgerLookedAtByAll
+                | Fault::DegreeBeforeLedger
+        )
+    }
+
+    fn bends_what_was_written(self) -> bool {
         matches!(
             self,
             Fault::EndWordOnRollback
@@ -98,27 +148,33 @@ impl Fault {
                 | Fault::EndsBeforeCrash
                 | Fault::CondemnedOffered
                 | Fault::WritesNoWord
+                | Fault::PublishedWithoutEntry
+                | Fault::LedgerWrittenOnHeld
+                | Fault::LedgerNotCleared
+                | Fault::EntryOutOfOrder
         )
     }
 }
 
-/// The faults that need no rule: an answer given before the step, or an answer or a table bent after
-/// it. For all others the step is done on the table and answers for itself.
+/// The faults that need no rule: an answer given before the step, or an answer, a table or a ledger
+/// bent after it. For all others the step is done on what was lent and answers for itself.
 pub(super) fn around(
     fault: Fault,
     table: &mut [u32],
+    ledger: &mut [u32],
     command: Command,
-    step: impl FnOnce(&mut [u32]) -> Answer,
+    step: impl FnOnce(&mut [u32], &mut [u32]) -> Answer,
 ) -> Answer {
     if let Some(answer) = before_looking(fault, command) {
         return answer;
     }
-    if !fault.bends_the_table() {
-        return invented(fault, step(table));
+    if !fault.bends_what_was_written() {
+        return invented(fault, step(table, ledger));
     }
-    let before = table.to_vec();
-    let answer = step(table);
-    bend(fault, &before, table, answer);
+    let (table_before, ledger_before) = (table.to_vec(), ledger.to_vec());
+    let answer = step(table, ledger);
+    bend_table(fault, &table_before, table, answer);
+    bend_ledger(fault, &ledger_before, ledger, table, answer);
     answer
 }
 
@@ -162,6 +218,53 @@ fn invented(fault: Fault, mut answer: Answer) -> Answer {
     answer
 }
 
+/// What a faulty machine says of the ledger before the step, where it looks at another time.
+pub(super) fn ledger_fits(
+    fault: Fault,
+    table: &[u32],
+    words: &[u32],
+    command: Command,
+) -> Option<bool> {
+    match (fault, command) {
+        (Fault::FourteenOnlyForTheDesk, Command::Release { message }) => {
+            (!is_for_desk(table, message)).then_some(true)
+        }
+        (Fault::DegreeBeforeLedger, Command::Open { n, degree }) => {
+            (!can_open(n, degree)).then_some(true)
+        }
+        (Fault::LedgerLookedAtByAll, Command::Open { .. }) => None,
+        (Fault::LedgerLookedAtByAll, _) => Some(ledger::is_sound(words)),
+        _ => None,
+    }
+}
+
+/// Whether this is a message sent, and for the desk. The table is in form.
+fn is_for_desk(words: &[u32], message: u32) -> bool {
+    Table::new(words).is_some_and(|table| {
+        let sent = (1..=table.sent()).contains(&message);
+        sent && table.message(message).receiver == DESK
+    })
+}
+
+/// Whether a faulty machine takes words for a table in form that aren't: with state published in form
+/// for all receivers, they would be.
+pub(super) fn in_form_too(fault: Fault, words: &[u32]) -> bool {
+    if fault != Fault::PublishedElsewhereInForm {
+        return false;
+    }
+    let mut words = words.to_vec();
+    let Some(mut table) = Table::new(&mut words[..]) else {
+        return false;
+    };
+    for message in 1..=table.sent().min(LAST_MESSAGE) {
+        let record = table.message(message);
+        if record.state == state::PUBLISHED && record.receiver != DESK {
+            table.set_state(message, state::DROPPED);
+        }
+    }
+    in_form(&words)
+}
+
 /// A pair taken for condemned by its number alone: any end of its owner will do.
 pub(super) fn condemned_by_number(vector: &Vector, ends: &Row) -> bool {
     vector.iter().enumerate().any(|(owner, pair)| {
@@ -177,7 +280,7 @@ pub(super) fn larger_of_each(ours: &Vector, theirs: &Vector) -> Vector {
 }
 
 /// Makes of the table that the sound step left the one that the faulty machine would leave.
-fn bend(fault: Fault, before: &[u32], after: &mut [u32], answer: Answer) {
+fn bend_table(fault: Fault, before: &[u32], after: &mut [u32], answer: Answer) {
     if fault == Fault::WritesNoWord {
         return after.copy_from_slice(before);
     }
@@ -207,6 +310,40 @@ fn bend(fault: Fault, before: &[u32], after: &mut [u32], answer: Answer) {
             },
         ) => bend_rollback(fault, &before, &mut after, controller as usize, kept),
         _ => {}
+    }
+}
+
+/// Makes of the ledger that the sound step left the one that the faulty machine would leave.
+fn bend_ledger(fault: Fault, before: &[u32], after: &mut [u32], table: &[u32], answer: Answer) {
+    match (fault, answer) {
+        (Fault::WritesNoWord, _)
+        | (Fault::LedgerNotCleared, Answer::Done)
+        | (Fault::PublishedWithoutEntry, Answer::Released { .. }) => after.copy_from_slice(before),
+        (Fault::LedgerWrittenOnHeld, Answer::Held { message, .. })
+        | (Fault::EntryOutOfOrder, Answer::Released { message, .. })
+            if is_for_desk(table, message) =>
+        {
+            bend_entry(fault, after, table, message);
+        }
+        _ => {}
+    }
+}
+
+/// One entry too many, if there is room, or the newest one with its words exchanged.
+fn bend_entry(fault: Fault, ledger: &mut [u32], table: &[u32], message: u32) {
+    let (Some(mut ledger), Some(table)) = (Ledger::new(ledger), Table::new(table)) else {
+        return;
+    };
+    let Message { payload, .. } = table.message(message);
+    let count = ledger.count();
+    if fault == Fault::EntryOutOfOrder {
+        let exchanged = Entry {
+            message: payload,
+            payload: message,
+        };
+        ledger.set_entry(count - 1, exchanged);
+    } else if count < ledger::ENTRIES {
+        ledger.append(Entry { message, payload });
     }
 }
 
@@ -246,7 +383,7 @@ fn bend_causes(
     let ends = before.ends(controller);
     for place in kept..before.controller(controller).live {
         let cause = before.place(controller, place as usize).cause;
-        if cause != 0 {
+        if cause != 0 && before.message(cause).receiver != DESK {
             let state = match fault {
                 Fault::LostGiven => state::LOST,
                 Fault::EndsBeforeCrash if is_condemned(&before.message(cause).vector, &ends) => {

@@ -1,22 +1,33 @@
-//! The rules of the steps. Each looks at its refusals first, in the order of their numbers, and
-//! writes only once none is left.
+//! The rules of the steps. Each looks at its refusals first, in their order, and writes only once none
+//! is left.
+
+mod shared;
 
 use super::{fault, Answer, Command, Fault};
+use crate::ledger::{self, Entry, Ledger};
 use crate::refusal::{self, Refusal};
 use crate::table::{
-    in_form, state, Controller, Message, Place, Table, CONTROLLERS, LAST_INCARNATION, LAST_MESSAGE,
-    LAST_NUMBER,
+    in_form, state, Controller, Message, Place, Table, CONTROLLERS, DESK, LAST_INCARNATION,
+    LAST_MESSAGE, LAST_NUMBER,
 };
-use crate::vector::{filtered, is_condemned, mask, merged, Pair, Row, Vector};
+use crate::vector::{filtered, mask, Pair};
 
 type Outcome = Result<Answer, Refusal>;
 
 /// Does a step, or says why not.
-pub(super) fn perform(fault: Fault, words: &mut [u32], command: Command) -> Outcome {
+pub(super) fn perform(
+    fault: Fault,
+    words: &mut [u32],
+    ledger: &mut [u32],
+    command: Command,
+) -> Outcome {
     let table = Table::new(words).ok_or(refusal::LENGTH)?;
-    let opening = matches!(command, Command::Open { .. });
-    ensure(opening || in_form(table.words()), refusal::FORM)?;
-    let mut house = House { table, fault };
+    let mut house = House {
+        table,
+        ledger,
+        fault,
+    };
+    house.look_at_the_host(command)?;
     match command {
         Command::Open { n, degree } => house.open(n, degree),
         Command::SetDegree { controller, degree } => house.set_degree(controller, degree),
@@ -47,14 +58,40 @@ fn ensure(condition: bool, otherwise: Refusal) -> Result<(), Refusal> {
     }
 }
 
-/// The lent table in the hands of one step.
+/// What 5 asks of an opening.
+pub(super) fn can_open(n: u32, degree: u32) -> bool {
+    (1..=CONTROLLERS as u32).contains(&n) && degree <= n
+}
+
+/// The lent table and ledger in the hands of one step.
 struct House<'a> {
     table: Table<&'a mut [u32]>,
+    /// Of any length and content.
+    ledger: &'a mut [u32],
     fault: Fault,
 }
 
-/// The refusals of things named that aren't there.
+/// The refusals of what is lent and of things named that aren't there.
 impl House<'_> {
+    /// What else the host may have done wrong but the table's length. An opening doesn't look at the
+    /// table's form. 14 "stands directly after 2, at release and, for the length only, directly after 1
+    /// at opening"; no other step looks at the ledger.
+    fn look_at_the_host(&self, command: Command) -> Result<(), Refusal> {
+        let opening = matches!(command, Command::Open { .. });
+        ensure(opening || self.in_form(), refusal::FORM)?;
+        let fits = match command {
+            Command::Open { .. } => self.ledger.len() == ledger::WORDS,
+            Command::Release { .. } => ledger::is_sound(self.ledger),
+            _ => true,
+        };
+        let otherwise = fault::ledger_fits(self.fault, self.table.words(), self.ledger, command);
+        ensure(otherwise.unwrap_or(fits), refusal::LEDGER)
+    }
+
+    fn in_form(&self) -> bool {
+        in_form(self.table.words()) || fault::in_form_too(self.fault, self.table.words())
+    }
+
     fn controller(&self, controller: u32) -> Result<usize, Refusal> {
         ensure(controller < self.table.n(), refusal::CONTROLLER)?;
         Ok(controller as usize)
@@ -65,15 +102,35 @@ impl House<'_> {
         ensure(sent.contains(&message), refusal::MESSAGE)?;
         Ok(self.table.message(message))
     }
+
+    /// "Sends may name receiver 8."
+    fn receiver(&self, receiver: u32) -> Result<u32, Refusal> {
+        ensure(
+            receiver < self.table.n() || receiver == DESK,
+            refusal::CONTROLLER,
+        )?;
+        Ok(receiver)
+    }
+
+    /// The ledger, whose length an opening and a release have looked at by now.
+    fn ledger(&mut self) -> Result<Ledger<&mut [u32]>, Refusal> {
+        Ledger::new(&mut *self.ledger).ok_or(refusal::LEDGER)
+    }
+
+    /// "18 when publishing would carry the count past 128."
+    fn room_to_publish(&mut self) -> Result<(), Refusal> {
+        let count = self.ledger()?.count();
+        ensure(count < ledger::ENTRIES, refusal::LEDGER_USED_UP)
+    }
 }
 
 /// The steps.
 impl House<'_> {
     /// "n controllers, all with K = k; each has (0,1), flagged, stable, known to its owner, own pair
-    /// (0,1) in its vector; all else 0."
+    /// (0,1) in its vector; all else 0." And "an opening that is done clears the ledger".
     fn open(&mut self, n: u32, degree: u32) -> Outcome {
-        let fits = (1..=CONTROLLERS as u32).contains(&n) && degree <= n;
-        ensure(fits, refusal::DEGREE)?;
+        ensure(can_open(n, degree), refusal::DEGREE)?;
+        self.ledger()?.clear();
         self.table.clear();
         self.table.set_n(n);
         for c in 0..n as usize {
@@ -111,15 +168,15 @@ impl House<'_> {
     /// "Send payload p: message held, with the newest vector of s filtered for s."
     fn send(&mut self, sender: u32, receiver: u32, payload: u32) -> Outcome {
         let sender = self.controller(sender)?;
-        let receiver = self.controller(receiver)?;
-        ensure(sender != receiver, refusal::SAME_CONTROLLER)?;
+        let receiver = self.receiver(receiver)?;
+        ensure(sender as u32 != receiver, refusal::SAME_CONTROLLER)?;
         ensure(self.table.sent() < LAST_MESSAGE, refusal::MESSAGES_USED_UP)?;
         let message = self.table.sent() + 1;
         let newest = self.table.newest(sender);
         let record = Message {
             state: state::HELD,
             sender: sender as u32,
-            receiver: receiver as u32,
+            receiver,
             incarnation: newest.incarnation,
             number: newest.number,
             payload,
@@ -132,31 +189,57 @@ impl House<'_> {
 
     /// "Filter the message's vector for its sender. .. If the number of ones in the mask is at most K
     /// of the sender, the filtered vector is stored and the state is released. Otherwise it stays
-    /// held and no word changes."
+    /// held and no word changes." One for the desk is published instead of released.
     fn release(&mut self, message: u32) -> Outcome {
         let record = self.message(message)?;
         ensure(record.state == state::HELD, refusal::STATE)?;
-        let sender = record.sender as usize;
-        let vector = filtered(&record.vector, &self.table.known(sender));
+        let vector = filtered(&record.vector, &self.table.known(record.sender as usize));
         let mask = match self.fault {
             Fault::StoredPairsCounted => mask(&record.vector),
             _ => mask(&vector),
         };
-        if mask.count_ones() > self.table.controller(sender).degree {
+        if self.fault == Fault::FullBeforeHeld && record.receiver == DESK {
+            self.room_to_publish()?;
+        }
+        if mask.count_ones() > self.most_named(&record) {
             return Ok(Answer::Held { message, mask });
         }
-        let released = Message {
-            state: state::RELEASED,
+        let state = if record.receiver == DESK {
+            self.publish(message, record.payload)?;
+            state::PUBLISHED
+        } else {
+            state::RELEASED
+        };
+        let let_out = Message {
+            state,
             vector,
             ..record
         };
-        self.table.set_message(message, &released);
+        self.table.set_message(message, &let_out);
         Ok(Answer::Released { message, mask })
+    }
+
+    /// How many controllers the release of a message may name: "at most K of the sender". But "a
+    /// message to the desk is released only with mask 0, at any K".
+    fn most_named(&self, record: &Message) -> u32 {
+        if record.receiver == DESK && self.fault != Fault::PublishedByTheDegree {
+            0
+        } else {
+            self.table.controller(record.sender as usize).degree
+        }
+    }
+
+    /// "Publishing appends one pair", if there is room for it.
+    fn publish(&mut self, message: u32, payload: u32) -> Result<(), Refusal> {
+        self.room_to_publish()?;
+        self.ledger()?.append(Entry { message, payload });
+        Ok(())
     }
 
     /// "Deliver at its receiver c. Condemned to c: dropped. Else filter both c's newest vector and
     /// the message's for c"; then it waits, or "a new interval begins with cause m and flag 0; .. c's
-    /// own pair is the new interval. State: delivered."
+    /// own pair is the new interval. State: delivered." No message for the desk is ever released, so
+    /// that its delivery is refused.
     fn deliver(&mut self, message: u32) -> Outcome {
         let record = self.message(message)?;
         ensure(record.state == state::RELEASED, refusal::STATE)?;
@@ -267,160 +350,5 @@ impl House<'_> {
             },
             Some(kept) => self.roll_back(hearer, kept),
         })
-    }
-}
-
-/// The rules used by several steps, and the parts of single ones.
-impl House<'_> {
-    /// The only place where a vector is found condemned.
-    fn condemned(&self, vector: &Vector, ends: &Row) -> bool {
-        match self.fault {
-            Fault::NumbersWithoutIncarnations => fault::condemned_by_number(vector, ends),
-            _ => is_condemned(vector, ends),
-        }
-    }
-
-    /// The only place where two vectors are merged, for the delivery of `message` at its receiver.
-    fn merged(
-        &self,
-        message: u32,
-        receiver: usize,
-        ours: &Vector,
-        theirs: &Vector,
-    ) -> Option<Vector> {
-        match self.fault {
-            Fault::LargerAcrossIncarnations => Some(fault::larger_of_each(ours, theirs)),
-            Fault::EchoesAfterFirst if message > 1 => Some(*ours),
-            _ => merged(receiver, ours, theirs),
-        }
-    }
-
-    /// "A delivery begins the next number in the same incarnation", which is the controller's.
-    fn begin_next(&mut self, c: usize, cause: u32, mut vector: Vector) -> Pair {
-        let mut counts = self.table.controller(c);
-        let place = counts.live as usize;
-        counts.live += 1;
-        let interval = Pair::new(counts.incarnation, counts.live);
-        vector[c] = interval;
-        let record = Place {
-            incarnation: interval.incarnation,
-            number: interval.number,
-            cause,
-            flag: 0,
-            vector,
-        };
-        self.table.set_place(c, place, &record);
-        self.table.set_controller(c, counts);
-        interval
-    }
-
-    /// Logs all up to a number that isn't stable yet, if any.
-    fn log_up_to(&mut self, c: usize, number: u32) {
-        if self.table.controller(c).stable < number {
-            self.set_stable(c, number);
-        }
-    }
-
-    /// "c's known word for itself and its incarnation becomes the new stable count."
-    fn set_stable(&mut self, c: usize, stable: u32) {
-        let counts = Controller {
-            stable,
-            ..self.table.controller(c)
-        };
-        self.table.set_controller(c, counts);
-        self.table.set_known(c, c, counts.incarnation, stable);
-    }
-
-    /// The holder's known word becomes the larger of what it is and the given one.
-    fn raise_known(&mut self, holder: usize, owner: usize, incarnation: u32, word: u32) {
-        let known = self.table.known(holder).word(owner, incarnation);
-        self.table
-            .set_known(holder, owner, incarnation, known.max(word));
-    }
-
-    /// "The lowest place above 0 whose vector holds a condemned entry."
-    fn lowest_condemned_place(&self, hearer: usize, ends: &Row) -> Option<u32> {
-        (1..self.table.controller(hearer).live)
-            .find(|&place| self.condemned(&self.table.place(hearer, place as usize).vector, ends))
-    }
-
-    /// "That place's index is k: kept intervals not yet stable, if any, are logged as by L; each
-    /// cause of an undone interval becomes dropped .. [or] released again; then start anew."
-    fn roll_back(&mut self, hearer: usize, kept: u32) -> Answer {
-        let undone = self.table.controller(hearer).live - kept;
-        let replayed = self.replayed(hearer, kept);
-        self.log_up_to(hearer, kept);
-        self.settle_causes(hearer, kept);
-        self.start_anew(hearer, kept);
-        Answer::Rolled {
-            controller: hearer as u32,
-            kept,
-            undone,
-            replayed,
-        }
-    }
-
-    /// What becomes of the causes of intervals that leave the chain, at a crash: "the cause of each lost
-    /// interval becomes released again, or dropped if its vector is condemned to that controller by
-    /// its ends after the crash"; and at a rollback: "each cause of an undone interval becomes dropped
-    /// if its vector is condemned to b, else released again". The step has written its end word by now.
-    fn settle_causes(&mut self, c: usize, kept: u32) {
-        let ends = self.table.ends(c);
-        for cause in self.causes_above(c, kept) {
-            let condemned = self.condemned(&self.table.message(cause).vector, &ends);
-            let state = if condemned {
-                state::DROPPED
-            } else {
-                state::RELEASED
-            };
-            self.table.set_state(cause, state);
-        }
-    }
-
-    /// The causes of the live intervals with numbers above `kept`. "Cause (.. 0 for a start)."
-    fn causes_above(&self, c: usize, kept: u32) -> Vec<u32> {
-        (kept..self.table.controller(c).live)
-            .map(|place| self.table.place(c, place as usize).cause)
-            .filter(|&cause| cause != 0)
-            .collect()
-    }
-
-    /// "*Replayed* = k minus the highest flagged number on the chain that is at most k."
-    fn replayed(&self, c: usize, kept: u32) -> u32 {
-        let flagged = (0..kept)
-            .map(|place| self.table.place(c, place as usize))
-            .filter(|record| record.flag == 1)
-            .map(|record| record.number);
-        kept - flagged.max().unwrap_or(0)
-    }
-
-    /// "*Starting anew* at c after kept number k: freed places become 0. Place k gets the controller's
-    /// incarnation plus 1, number k + 1, cause 0, flag 0, and the kept vector filtered for c with c's
-    /// own pair set to the new interval. .. Live and stable counts become k + 1 and the controller's
-    /// incarnation is the new one. Known for c by c gets k + 1 at it."
-    fn start_anew(&mut self, c: usize, kept: u32) {
-        let mut counts = self.table.controller(c);
-        for freed in kept..counts.live {
-            self.table.set_place(c, freed as usize, &Place::default());
-        }
-        counts.incarnation += 1;
-        counts.live = kept;
-        self.table.set_controller(c, counts);
-        let kept_vector = self.table.newest(c).vector;
-        let vector = filtered(&kept_vector, &self.table.known(c));
-        let interval = self.begin_next(c, 0, vector);
-        self.set_stable(c, interval.number);
-        self.drop_held_above(c, kept);
-    }
-
-    /// "Held messages from c with sending number above k become dropped."
-    fn drop_held_above(&mut self, c: usize, kept: u32) {
-        for message in 1..=self.table.sent() {
-            let record = self.table.message(message);
-            let from_c = record.sender as usize == c;
-            if record.state == state::HELD && from_c && record.number > kept {
-                self.table.set_state(message, state::DROPPED);
-            }
-        }
     }
 }

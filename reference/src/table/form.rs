@@ -1,7 +1,7 @@
 //! "A table is *in form* when every word is in its range."
 
 use super::{
-    state, Controller, Message, Place, Table, CONTROLLERS, LAST_INCARNATION, LAST_MESSAGE,
+    state, Controller, Message, Place, Table, CONTROLLERS, DESK, LAST_INCARNATION, LAST_MESSAGE,
     LAST_NUMBER,
 };
 use crate::vector::{Pair, Row, Vector};
@@ -91,15 +91,26 @@ impl Form<'_> {
         (1..=self.sent).all(message_fits) && are_zero(self.table.messages_from(self.sent + 1))
     }
 
-    /// "Sent messages have state 1 to 5, sender and receiver below n, sending number 1 to 64;
-    /// incarnations 0 to 15; payload free."
+    /// "Sent messages have .. sender .. below n, sending number 1 to 64; incarnations 0 to 15; payload
+    /// free."
     fn message(&self, record: &Message) -> bool {
-        (state::HELD..=state::DROPPED).contains(&record.state)
+        self.receiver_and_state(record)
             && record.sender < self.n
-            && record.receiver < self.n
             && record.incarnation <= LAST_INCARNATION
             && (1..=LAST_NUMBER).contains(&record.number)
             && self.vector(&record.vector)
+    }
+
+    /// "Sent messages have state 1 to 5, .. receiver below n"; but "a message for receiver 8 has state
+    /// 1, 5 or 6 ..; state 6 is in form there alone".
+    fn receiver_and_state(&self, record: &Message) -> bool {
+        match record.receiver {
+            DESK => matches!(
+                record.state,
+                state::HELD | state::DROPPED | state::PUBLISHED
+            ),
+            receiver => receiver < self.n && (state::HELD..=state::DROPPED).contains(&record.state),
+        }
     }
 
     fn vector(&self, vector: &Vector) -> bool {

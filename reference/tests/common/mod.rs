@@ -1,22 +1,31 @@
-//! A house driven by its lines, with the table at hand.
+//! A house driven by its lines, with the table and the ledger at hand.
 #![allow(dead_code)] // Each test file uses its part of this.
 
-use reference::lines;
 use reference::machine::{step, Command};
 use reference::table::{in_form, Table, WORDS};
+use reference::{ledger, lines};
 
-/// A lent table.
+/// A lent table and a lent ledger.
+#[derive(Clone)]
 pub struct House {
-    /// Its words.
+    /// The words of the table.
     pub words: Vec<u32>,
+    /// The words of the ledger.
+    pub ledger: Vec<u32>,
 }
 
 impl House {
+    /// A table of these words, beside a zero ledger.
+    pub fn of(words: Vec<u32>) -> Self {
+        House {
+            words,
+            ledger: vec![0; ledger::WORDS],
+        }
+    }
+
     /// The zero table, after these lines; none of them may be bad or refused.
     pub fn after(script: &str) -> Self {
-        let mut house = House {
-            words: vec![0; WORDS],
-        };
+        let mut house = House::of(vec![0; WORDS]);
         house.go_on(script);
         house
     }
@@ -29,18 +38,24 @@ impl House {
         }
     }
 
-    /// The answer to one good line. A refusal must leave every word.
+    /// The answer to one good line. A refusal must leave every word of both.
     pub fn say(&mut self, line: &str) -> String {
         let command = lines::parse(line.as_bytes()).expect("a good line");
         self.answer(command)
     }
 
-    /// The answer to one command. A refusal must leave every word.
+    /// The answer to one command. A refusal must leave every word of both, and only a release that is
+    /// released and an opening may write the ledger.
     pub fn answer(&mut self, command: Command) -> String {
-        let before = self.words.clone();
-        let answer = lines::render(&step(&mut self.words, command));
-        if answer.starts_with("refused") {
-            assert!(self.words == before, "{command:?} was refused, and wrote");
+        let before = self.clone();
+        let answer = lines::render(&step(&mut self.words, &mut self.ledger, command));
+        let refused = answer.starts_with("refused");
+        let opened = matches!(command, Command::Open { .. });
+        if refused {
+            assert!(self.words == before.words, "{command:?} refused, and wrote");
+        }
+        if refused || !opened && !answer.starts_with("released") {
+            assert!(self.ledger == before.ledger, "{command:?} wrote the ledger");
         }
         answer
     }

@@ -10,7 +10,7 @@ use Rattle.machine.proofs.host_refusal.Statement.{statement}
 use Rattle.machine.proofs.host_refusal.Tie as tie
 
 returns : tie.Need-returns
-returns c = refuses _ _ _ (omega arith) (too-short _ _ (c .if1 .taken))
+returns c = refuses _ _ _ (omega arith) (λ g. too-short _ g _ (c .if1 .taken))
 
 returns-2 : tie.Need-returns-2
 returns-2 c =
@@ -21,7 +21,7 @@ returns-3 : tie.Need-returns-3
 returns-3 c =
     let s = c .before .before in
     refuses _ _ _ (omega arith)
-    (out-of-form _ _ (s .before .before .if1 .left) (sym (s .before .looks-at-form .ensures) ∙ not-false _ (s .if2 .left)) (sym (c .before .in-form .ensures) ∙ not-true _ (c .if3 .taken)))
+    (λ g. out-of-form _ g _ (s .before .before .if1 .left) (sym (s .before .looks-at-form .ensures) ∙ not-false _ (s .if2 .left)) (sym (c .before .in-form .ensures) ∙ not-true _ (c .if3 .taken)))
 
 returns-4 : tie.Need-returns-4
 returns-4 c =

@@ -15,9 +15,10 @@ unfolding messageOk allOf
 returns c =
     let v = c .vector-ok .ensures ∙ ap (vectorOk house _) (message-vector _ _ _ (c .before .message-vector-at .ensures)) in
     let x = c .before .before .before in
-    let y = x .before .before .before in
-    let in-use = rw (y .before .before .records-used .ensures) at (y .before .if1 .taken) in
-    rw (lt-ltb _ _ in-use, v, c .before .before .sending-incarnation .ensures, x .receiver .ensures, x .before .sender .ensures, x .before .before .sending-number .ensures, y .message-state .ensures)
+    let y = x .before .before in
+    let z = y .before .before in
+    let in-use = rw (z .before .before .records-used .ensures) at (z .before .if1 .taken) in
+    rw (lt-ltb _ _ in-use, v, c .before .before .sending-incarnation .ensures, x .sender .ensures, x .before .state-ok .ensures, y .message-state .ensures, y .before .sending-number .ensures, z .receiver .ensures)
 
 returns-2 : tie.Need-returns-2
 unfolding messageOk
@@ -29,4 +30,5 @@ message-ok-spec =
     (tie.spec
     (λ c. search needs) (λ c κs. search needs) (λ c κs. search needs) (λ c κs. search needs)
     (λ c κs. search needs) (λ c κs. search needs) (λ c κs. search needs) (λ c κs. search needs)
-    (λ c κs. search needs) (λ c κs. search needs) (λ c κs. search needs) returns returns-2)
+    (λ c κs. search needs) (λ c κs. search needs) (λ c κs. search needs) (λ c κs. search needs) returns
+    returns-2)

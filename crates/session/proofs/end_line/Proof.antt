@@ -10,20 +10,21 @@ use Rattle.session.proofs.end_line.Tie as tie
 
 slice-aggregate-parse : tie.Need-slice-aggregate-parse
 slice-aggregate-parse c =
-    let start = c .before .before .before .before in
+    let start = c .before .before .before .before .before in
     sym (length-take-le _ (start .args .line .now) (omega (arith, start .pre .0)))
 
 returns : tie.Need-returns
 returns c =
     let told = c .before .before .before .before in
     let bad = c .before .before .write-bad .ensures in
-    (ended-bad _ _ (sym (told .before .before .parse .ensures) ∙ told .enum-told .given .1) bad (omega arith), (omega (arith, bad .written .ends), bad .fits, written-drop (bad .written) (omega arith)))
+    (ended-bad _ _ _ (sym (told .before .before .parse .ensures) ∙ told .enum-told .given .1) bad (omega arith), (omega (arith, bad .written .ends), bad .fits, written-drop (bad .written) (omega arith)))
 
 returns-2 : tie.Need-returns-2
 returns-2 c =
-    let known = c .before .before .before .before .before .before .before .before .before in
+    let done = c .before .before .before .before .before .before .before .before in
+    let known = done .before .before .before .before in
     let answered = c .before .before .write-answer .ensures in
-    (ended-asked _ _ (sym (known .before .before .parse .ensures) ∙ known .x .given .1) (c .before .before .before .before .before .before .step .ensures) answered (omega arith), (omega (arith, answered .written .ends), answered .fits, written-drop (answered .written) (omega arith)))
+    (ended-asked _ _ _ (sym (known .before .before .parse .ensures) ∙ known .x .given .1) (done .step .ensures) answered (omega arith), (omega (arith, answered .written .ends), answered .fits, written-drop (answered .written) (omega arith)))
 
 pub end-line-spec : {M : Type 1} → statement M
 end-line-spec =
@@ -31,4 +32,4 @@ end-line-spec =
     (tie.spec
     slice-aggregate-parse (λ c κs. search needs) (λ c. search needs) (λ c. search needs) (λ c κs. search needs)
     (λ c. search needs) returns (λ c κs. search needs) (λ c κs. search needs) (λ c. search needs)
-    (λ c. search needs) returns-2)
+    (λ c. search needs) (λ c. search needs) returns-2)

@@ -7,14 +7,15 @@ use Rattle.session.proofs.finish.Statement.{statement}
 use Rattle.session.proofs.finish.Tie as tie
 
 returns : tie.Need-returns
-returns c = (finished-none _ _ _ (c .if1 .taken), (omega arith, refl))
+returns c = (finished-none _ _ _ _ (c .if1 .taken), (omega arith, refl))
 
 returns-2 : tie.Need-returns-2
 returns-2 c =
-    let e = c .before .before .before .before .end-line .ensures in
-    let left = c .before .before .before .before .before .before .before in
-    (finished-more _ _ _ (left .before .before .before .before .pre .0) (left .if1 .left) (e .0), (omega (arith, e .1 .1), e .1 .2))
+    let done = c .before .before .before .before .before .before in
+    let left = done .before .before .before .before in
+    let e = done .end-line .ensures in
+    (finished-more _ _ _ _ (left .before .before .before .before .before .pre .0) (left .if1 .left) (e .0), (omega (arith, e .1 .1), e .1 .2))
 
 pub finish-spec : {M : Type 1} → statement M
 finish-spec = tie.close (tie.spec
-    returns (λ c κs. search needs) (λ c. search needs) (λ c. search needs) returns-2)
+    returns (λ c κs. search needs) (λ c. search needs) (λ c. search needs) (λ c. search needs) returns-2)

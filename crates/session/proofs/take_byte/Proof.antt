@@ -9,23 +9,24 @@ use Rattle.session.proofs.take_byte.Tie as tie
 
 returns : tie.Need-returns
 returns c =
-    let e = c .before .before .before .before .end-line .ensures in
-    let feed = c .before .before .before .before .before .before .before .before .if1 .taken in
+    let done = c .before .before .before .before .before .before in
+    let e = done .end-line .ensures in
+    let feed = done .before .before .before .before .before .if1 .taken in
     (taken-feed _ _ feed (e .0), ((omega arith, e .1 .0, e .1 .1, e .1 .2), stored-feed _ _ _ feed))
 
 returns-2 : tie.Need-returns-2
 returns-2 c =
-    let pre = c .before .before .before .before .before .pre in
-    (taken-full _ _ _ _ _ (c .before .if1 .left) (pre .0) (pre .1) (c .if2 .taken), ((pre .1, omega arith, omega arith, refl), stored-full _ _ _ _ _ (c .before .if1 .left) (pre .0) (pre .1) (c .if2 .taken)))
+    let pre = c .before .before .before .before .before .before .pre in
+    (taken-full _ _ _ _ _ _ (c .before .if1 .left) (pre .0) (pre .1) (c .if2 .taken), ((pre .1, omega arith, omega arith, refl), stored-full _ _ _ _ _ _ (c .before .if1 .left) (pre .0) (pre .1) (c .if2 .taken)))
 
 returns-3 : tie.Need-returns-3
 returns-3 c =
-    let pre = c .before .before .before .before .before .pre in
-    (taken-more _ _ _ _ _ (c .before .if1 .left) (pre .0) (c .if2 .left), ((omega arith, omega arith, omega arith, refl), stored-more _ _ _ _ _ (c .before .if1 .left) (pre .0) (pre .1)))
+    let pre = c .before .before .before .before .before .before .pre in
+    (taken-more _ _ _ _ _ _ (c .before .if1 .left) (pre .0) (c .if2 .left), ((omega arith, omega arith, omega arith, refl), stored-more _ _ _ _ _ _ (c .before .if1 .left) (pre .0) (pre .1)))
 
 pub take-byte-spec : {M : Type 1} → statement M
 take-byte-spec =
     tie.close
     (tie.spec
-    (λ c κs. search needs) (λ c. search needs) (λ c. search needs) (λ c. search needs) returns
-    returns-2 (λ c. search needs) (λ c. search needs) (λ c. search needs) returns-3)
+    (λ c κs. search needs) (λ c. search needs) (λ c. search needs) (λ c. search needs) (λ c. search needs)
+    returns returns-2 (λ c. search needs) (λ c. search needs) (λ c. search needs) returns-3)

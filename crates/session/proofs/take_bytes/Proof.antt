@@ -12,27 +12,28 @@ use Rattle.session.proofs.take_bytes.Statement.{statement}
 use Rattle.session.proofs.take_bytes.Tie as tie
 
 abbrev Inv-loop : tie.InvT-loop
-Inv-loop t₀ line₀ n bytes out₀ p₀ i₀ t line out p i =
-    (held t line (p .line) out (p .owed) ≡ takenAll (session t₀ (take n line₀) []) (take i bytes)) × (i ≤ length bytes) × (length t ≡ length t₀) × (length line ≡ length line₀) × (length out ≡ length out₀) × (p .line ≤ lineRoom) × (p .owed ≤ answerRoom * i) × (line ≡ storedAll (session t₀ (take n line₀) []) line₀ (take i bytes)) × (drop (p .owed) out ≡ drop (p .owed) out₀)
+Inv-loop t₀ g₀ line₀ n bytes out₀ p₀ i₀ t g line out p i =
+    (held t g line (p .line) out (p .owed) ≡ takenAll (session t₀ g₀ (take n line₀) []) (take i bytes)) × (i ≤ length bytes) × (length t ≡ length t₀) × (length g ≡ length g₀) × (length line ≡ length line₀) × (length out ≡ length out₀) × (p .line ≤ lineRoom) × (p .owed ≤ answerRoom * i) × (line ≡ storedAll (session t₀ g₀ (take n line₀) []) line₀ (take i bytes)) × (drop (p .owed) out ≡ drop (p .owed) out₀)
 
 abbrev μ-loop : tie.MeasureT-loop
-μ-loop t₀ line₀ n bytes out₀ p₀ i₀ t line out p i = length bytes - i
+μ-loop t₀ g₀ line₀ n bytes out₀ p₀ i₀ t g line out p i = length bytes - i
 
 loop-holds : tie.Need-loop-holds Inv-loop μ-loop
 unfolding storedAll
-loop-holds c = (refl, omega arith, refl, refl, refl, c .before .before .before .before .pre .1, omega arith, refl, refl)
+loop-holds c = (refl, omega arith, refl, refl, refl, refl, c .before .before .before .before .before .pre .1, omega arith, refl, refl)
 
 loop-again : tie.Need-loop-again Inv-loop μ-loop
 loop-again c =
-    let e = c .before .before .before .before .before .before .take-byte .ensures in
-    let test = c .before .before .before .before .before .before .before .before .before .before .before in
+    let done = c .before .before .before .before .before .before .before .before in
+    let e = done .take-byte .ensures in
+    let test = done .before .before .before .before .before .before in
     let inv = test .before .loop .inv in
-    (taken-next _ _ _ (inv .0) (e .0) (test .loop-test .taken), omega arith, search needs, search needs, search needs, e .1 .0 .0, omega (arith, e .1 .0 .2), stored-next _ _ _ _ (inv .0) (inv .7) (e .1 .1) (test .loop-test .taken), behind-later _ _ _ _ _ (inv .8) (e .1 .0 .3) (e .1 .0 .1))
+    (taken-next _ _ _ (inv .0) (e .0) (test .loop-test .taken), omega arith, search needs, search needs, search needs, search needs, e .1 .0 .0, omega (arith, e .1 .0 .2), stored-next _ _ _ _ (inv .0) (inv .8) (e .1 .1) (test .loop-test .taken), behind-later _ _ _ _ _ (inv .9) (e .1 .0 .3) (e .1 .0 .1))
 
 returns : tie.Need-returns Inv-loop μ-loop
 returns c =
     let inv = c .before .loop .inv in
-    (taken-whole _ _ _ (inv .0) (c .loop-test .left), ((inv .5, omega (arith, inv .1, inv .4, inv .6, c .before .before .before .before .before .before .pre .2), inv .8), stored-whole _ _ _ _ (inv .7) (c .loop-test .left)))
+    (taken-whole _ _ _ (inv .0) (c .loop-test .left), ((inv .6, omega (arith, inv .1, inv .5, inv .7, c .before .before .before .before .before .before .before .pre .2), inv .9), stored-whole _ _ _ _ (inv .8) (c .loop-test .left)))
 
 pub take-bytes-spec : {M : Type 1} → statement M
 take-bytes-spec =
@@ -40,4 +41,4 @@ take-bytes-spec =
     (tie.spec
     Inv-loop μ-loop loop-holds (λ c. search needs) (λ c κs. search needs)
     (λ c. search needs) (λ c. search needs) loop-again (λ c. search needs) (λ c. search needs)
-    (λ c. search needs) returns)
+    (λ c. search needs) (λ c. search needs) returns)
