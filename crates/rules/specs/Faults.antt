@@ -1,7 +1,7 @@
 -- Document 01's "faults that look sensible", where the starred examples don't tell them from the rules, and those of the requests:
 -- one small state for each on which the fault would give something else.
 use mathlib.Core.Path.{_≡_, refl}
-use mathlib.Core.Bool.{Bool, true, false, cond}
+use mathlib.Core.Bool.{true, false}
 use mathlib.Core.List.{List, [], _∷_, map}
 use Prim.Native.Nat.{ℕ}
 use lib.Count.{onesIn, ones}
@@ -13,15 +13,15 @@ use Rattle.base.specs.Splice.{splice}
 use Rattle.table.specs.Field.{State, Known, End, SentCount, Degree, LiveCount, StableCount, Cause, MessageState, Receiver, SendingNumber, Payload, MessagePairNumber, desk, same}
 use Rattle.table.specs.Change.{blank, put, putPart, clearPlaces, putStates}
 use Rattle.table.specs.Numbering.{numberOf, used, messageOf}
-use Rattle.rules.specs.Vector.{placeVector, messageVector, flat, knownStable, filterPair, filtered, condemnedPair, condemned, maskTo, mask}
-use Rattle.rules.specs.Form.{stateHeld, stateReleased, stateDropped, statePublished, stateOk}
 use Rattle.rules.specs.Limits.{house, lastEntry}
 use Rattle.rules.specs.Refusal.{LEDGER-USED-UP}
+use Rattle.rules.specs.Vector.{placeVector, messageVector, flat, knownStable, filterPair, filtered, condemnedPair, condemned, maskTo, mask}
+use Rattle.rules.specs.Form.{stateHeld, stateReleased, stateDropped, statePublished, stateOk}
 use Rattle.rules.specs.Ledger.{countAt, ledgerWords, countOf, appended, blankLedger}
 use Rattle.rules.specs.Shared.{placeRecord, logged, loggedTo, causing, causedIn, causesIn, causes, offeredAgain, newVector, placed, entered, restarted, heldOrDropped, dropHeld, startAnew, removed}
 use Rattle.rules.specs.Steps.{refusingBoth, openHouse, stepOpen, letOut, mayGo, release, crashed, rolledBack}
 use Rattle.rules.specs.Report.{report}
-use Rattle.rules.specs.Starred.{Row, _is_, answer}
+use Rattle.rules.specs.Starred.{Row, _is_, no, yes, truth, answer}
 use Rattle.rules.specs.declared.Answer.the-variants.{Released, Held, Refused}
 
 -- message 1, in record 0, is from controller 0, of degree 0, and has the pair (0,2) of controller 1, which controller 0 knows to be stable
@@ -67,9 +67,6 @@ used-before = set (replicate (ledgerWords house) 0) countAt 1
 abbrev published-taken : State
 published-taken = put (put one-taken (Receiver 0) desk) (MessageState 0) statePublished
 
-abbrev truth : Bool → List ℕ
-truth b = cond b (1 ∷ []) (0 ∷ [])
-
 abbrev told-apart : List Row
 told-apart =
     -- "Counting stored pairs at release instead of filtered ones": it would be held.
@@ -99,9 +96,9 @@ told-apart =
     -- W2: an opening that leaves an old entry.
     ∷ ((countOf (stepOpen house blank used-before 1 0 .ledger) ∷ []) is (0 ∷ []))
     -- W2: state 6 in form elsewhere, or another at the desk.
-    ∷ (truth (stateOk false statePublished) is (0 ∷ []))
-    ∷ (truth (stateOk true statePublished) is (1 ∷ []))
-    ∷ (truth (stateOk true stateReleased) is (0 ∷ []))
+    ∷ (truth (stateOk false statePublished) is no)
+    ∷ (truth (stateOk true statePublished) is yes)
+    ∷ (truth (stateOk true stateReleased) is no)
     -- W2: a message to the desk changed as a cause.
     ∷ ((crashed published-taken 0 (MessageState 0) ∷ []) is (statePublished ∷ []))
     ∷ []

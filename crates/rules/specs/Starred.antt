@@ -26,13 +26,13 @@ infix 20 _is_
 abbrev pub _is_ : List ℕ → List ℕ → Row
 g is s = record { given = g; said = s }
 
-abbrev no : List ℕ
+abbrev pub no : List ℕ
 no = 0 ∷ []
 
-abbrev yes : List ℕ
+abbrev pub yes : List ℕ
 yes = 1 ∷ []
 
-abbrev truth : Bool → List ℕ
+abbrev pub truth : Bool → List ℕ
 truth b = cond b yes no
 
 abbrev pub answer : Answer → List ℕ

@@ -46,7 +46,8 @@ after a σ = record { answer = a; left = σ }
 abbrev pub refuse : ℕ → State → After
 refuse number σ = after (Refused number) σ
 
--- "Where several apply, the lowest number is given": the cases stand in order of number, and 0 is none of them.
+-- "Where several apply, the lowest number is given": the cases stand in that order, and the ledger's where W2 puts them; 0 is none of
+-- them.
 unfoldable pub refusing : List Case → State → After → After
 refusing cases σ o = cond (firstOf cases == 0) o (refuse (firstOf cases) σ)
 
