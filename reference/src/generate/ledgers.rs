@@ -1,5 +1,6 @@
 //! Random lent ledgers: sound ones, and ones that a release refuses.
 
+use super::tables::of_another_length;
 use super::Random;
 use crate::ledger::{Entry, Ledger, ENTRIES, WORDS};
 
@@ -43,14 +44,8 @@ fn any_entry(random: &mut Random) -> Entry {
 
 /// By one word or by many.
 fn wrong_length(random: &mut Random) -> Vec<u32> {
-    let mut words = sound_ledger(random);
-    match random.below(4) {
-        0 => words.truncate(WORDS - 1),
-        1 => words.push(0),
-        2 => words.clear(),
-        _ => words.truncate(random.index(WORDS)),
-    }
-    words
+    let words = sound_ledger(random);
+    of_another_length(random, words)
 }
 
 /// By one or by any number. All entries may be in use, or none.

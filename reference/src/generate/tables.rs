@@ -51,12 +51,18 @@ fn damaged_message(random: &mut Random, mut words: Vec<u32>) -> (Vec<u32>, usize
 
 /// A table whose length isn't the right one, by one word or by many.
 pub fn wrong_length(random: &mut Random) -> Vec<u32> {
-    let mut words = in_form_table(random);
+    let words = in_form_table(random);
+    of_another_length(random, words)
+}
+
+/// The same words, but for their length.
+pub(super) fn of_another_length(random: &mut Random, mut words: Vec<u32>) -> Vec<u32> {
+    let right = words.len();
     match random.below(4) {
-        0 => words.truncate(WORDS - 1),
+        0 => words.truncate(right - 1),
         1 => words.push(0),
         2 => words.clear(),
-        _ => words.truncate(random.index(WORDS)),
+        _ => words.truncate(random.index(right)),
     }
     words
 }
