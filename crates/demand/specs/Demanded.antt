@@ -41,7 +41,7 @@ unfolding fed fedStep answers valueAt report
 outcome-keeps {n} {μ} {h = h} (refused x number) o v = subst (Keeps n μ h μ) (sym (fed-refused x number h)) (keeps-refl v)
 outcome-keeps (opened j k p q r) o v = absurd (o j k refl refl)
 outcome-keeps (degree-set c k p q) o v = keeps-degree v c k p
-outcome-keeps (sent s r payload sender receiver ne) o v = keeps-send v s r sender receiver
+outcome-keeps (sent s r payload sender receiver ne) o v = keeps-send v s r sender
 outcome-keeps (released m mask l w) o v = keeps-release v m (l .pos) (l .sent)
 outcome-keeps (held m mask) o v = keeps-refl v
 outcome-keeps (dropped m p l w z) o v = keeps-refl v

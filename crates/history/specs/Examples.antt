@@ -6,6 +6,7 @@ use mathlib.Core.List.{List, [], _∷_, flatten}
 use Prim.Native.Nat.{ℕ}
 use lib.ListN.{take}
 use Rattle.base.specs.Lists.{tab}
+use Rattle.table.specs.Field.{desk}
 use Rattle.rules.specs.Report.{report}
 use Rattle.rules.specs.Step.{asks}
 use Rattle.rules.specs.declared.Answer.{Answer}
@@ -13,7 +14,7 @@ use Rattle.rules.specs.declared.Answer.the-variants.{Done, Sent, Released, Held
 use Rattle.rules.specs.declared.Command.{Command}
 use Rattle.rules.specs.declared.Command.the-variants.{Open, SetDegree, Send, Release, Deliver, Log, Checkpoint, Crash, Hear}
 use Rattle.history.specs.History.{interval, History, sameInterval, changedAt, changedAtInterval, newest, member, those, oldest, degreeSet, sentFrom, joined, leaving, stabilized, hearing, losing, opening, delivering, logging, checkpointing, restarting, crashing, rollingBack, answers, valueAt, fedStep, fed}
-use Rattle.history.specs.Citations.{Citation, Citations, noCitations, sentWith, letOutTo, citedStep, cited, ledgerOf}
+use Rattle.history.specs.Citations.{Citations, noCitations, sentWith, letOutTo, citedStep, cited, ledgerOf}
 use Rattle.history.specs.Demand.{RestsOnLost, named}
 
 -- a line of the listing: the step and its answer
@@ -44,6 +45,11 @@ listing =
 unfoldable pub all : List ListingLine → History → History
 all [] h = h
 all (x ∷ l) h = all l (fed (asks (x .asked)) (x .answered) h)
+
+-- and the citations
+unfoldable pub allCited : List ListingLine → Citations → Citations
+allCited [] q = q
+allCited (x ∷ l) q = allCited l (cited (asks (x .asked)) (x .answered) q)
 
 -- the history after the first k lines
 abbrev pub afterLines : ℕ → History
@@ -237,16 +243,11 @@ deliveries-hold =
 -- message 3, for the desk, is let out.
 abbrev pub goingOut : List ListingLine
 goingOut =
-    line (Send 0 8 24) (Sent 1) ∷ line (Release 1) (Held 1 2) ∷ line (Send 0 1 7) (Sent 2) ∷ line (Release 2) (Released 2 1)
-    ∷ line (Release 1) (Released 1 0) ∷ line (Send 1 8 25) (Sent 3) ∷ line (Release 3) (Released 3 0)
+    line (Send 0 desk 24) (Sent 1) ∷ line (Release 1) (Held 1 2) ∷ line (Send 0 1 7) (Sent 2) ∷ line (Release 2) (Released 2 1)
+    ∷ line (Release 1) (Released 1 0) ∷ line (Send 1 desk 25) (Sent 3) ∷ line (Release 3) (Released 3 0)
     ∷ []
 
--- what was published after all lines of a list
-unfoldable pub publishedBy : List ListingLine → Citations → List Citation
-publishedBy [] q = q .published
-publishedBy (x ∷ l) q = publishedBy l (cited (asks (x .asked)) (x .answered) q)
-
 -- messages 1 and 3 in the order of their release, each with the payload of its send, and the ledger that says so
-pub two-citations : take 6 (ledgerOf (publishedBy goingOut noCitations)) ≡ 2 ∷ 1 ∷ 24 ∷ 3 ∷ 25 ∷ 0 ∷ []
-unfolding publishedBy cited citedStep answers report valueAt changedAt sentWith letOutTo ledgerOf tab flatten
+pub two-citations : take 6 (ledgerOf (allCited goingOut noCitations .published)) ≡ 2 ∷ 1 ∷ 24 ∷ 3 ∷ 25 ∷ 0 ∷ []
+unfolding allCited cited citedStep answers report valueAt changedAt sentWith letOutTo ledgerOf tab flatten
 two-citations = refl

@@ -1,17 +1,21 @@
 -- What a step may do, in terms of the model alone: each answer with its change and with what was tested before it.
 use mathlib.Core.Path.{_≡_, refl}
-use mathlib.Core.Logic.{_≢_}
+use mathlib.Core.Logic.{_≢_, _⊎_}
 use Prim.Native.Nat.{ℕ, _+_, _≤_, _<_}
+use Rattle.table.specs.Field.{desk}
 use Rattle.table.specs.Layout.{controllers, incarnations}
 use Rattle.rules.specs.Step.{Call, asks}
 use Rattle.rules.specs.declared.Answer.{Answer}
 use Rattle.rules.specs.declared.Answer.the-variants.{Done, Sent, Released, Held, Delivered, Dropped, Waits, Crashed, Heard, Rolled, Refused}
 use Rattle.rules.specs.declared.Command.the-variants.{Open, SetDegree, Send, Release, Deliver, Log, Checkpoint, Tell, Crash, Hear}
 use Rattle.model.specs.Model.{Model, putController, degreeController, logController, loggedController, tellController, endController, beginController, anewController, sendMessage, releaseMessage, openModel}
-use Rattle.model.specs.Invariant.{Receives}
 use Rattle.model.specs.Vectors.{Condemned}
 use Rattle.model.specs.Steps.{Delivers, LetsOut}
 use Rattle.model.specs.Recovery.{HearsOf, notedController, NoneCondemned, LowestCondemned}
+
+-- a message goes to a controller of the house, or to the desk (W2)
+abbrev pub Receives : ℕ → ℕ → Type 0
+Receives n r = (r < n) ⊎ (r ≡ desk)
 
 -- In a house of n controllers with the model μ.
 module _ (n : ℕ) (μ : Model) where

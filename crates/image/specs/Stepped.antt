@@ -29,7 +29,6 @@ use Rattle.rules.specs.declared.Command.{Command}
 use Rattle.rules.specs.declared.Command.the-variants.{Open, SetDegree, Send, Release, Deliver, Log, Checkpoint, Tell, Crash, Hear}
 use Rattle.history.specs.History.{Interval}
 use Rattle.model.specs.Model as M
-use Rattle.model.specs.Invariant.{Receives}
 use Rattle.model.specs.Vectors.{Condemned}
 use Rattle.model.specs.Beginning.{Compatible}
 use Rattle.model.specs.Steps.{Delivers, LetsOut}
@@ -50,7 +49,7 @@ use Rattle.image.specs.Mask.{named-is}
 use Rattle.image.specs.Tests.{spared, condemned-for, compatible, filtered-is, released-is, sound, sound-noted, filtered-number, Fresh, fresh, fresh-kept, none-condemned, lowest-condemned}
 use Rattle.image.specs.Reads.{sent-is, degree-is, incarnation-is, live-is, stable-is, ends-is, to-is, from-is, message-vec-is}
 use Rattle.image.specs.Outcome as O
-use Rattle.image.specs.Outcome.{Outcome}
+use Rattle.image.specs.Outcome.{Outcome, Receives}
 
 -- an outcome of step x on σ, as it stands after the step
 abbrev pub Stepped : State → Command → After → Type 0

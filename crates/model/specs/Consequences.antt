@@ -90,7 +90,7 @@ pub record NamedFor (μ : Model) (h : History) (m a : ℕ) : Type 0 where
 -- what a release of message m names
 module _ {n : ℕ} {μ : Model} {h : History} (v : Inv n μ h) (m : ℕ) (pos : 1 ≤ m) (sent : m ≤ μ .sent) where
   -- the message in the model
-  message : MessageOk n h m (μ .message m)
+  message : MessageOk h m (μ .message m)
   message = v .message-ok m pos sent
 
   -- its sender is a controller of the house

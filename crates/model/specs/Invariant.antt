@@ -5,7 +5,6 @@ use mathlib.Core.Bool.{Bool}
 use mathlib.Core.Logic.{_⊎_, inl, inr, ⊎-elim}
 use Prim.Native.Nat.{ℕ, _≤_, _<_}
 use native.Mathlib.Omega.{arith}
-use Rattle.table.specs.Field.{desk}
 use Rattle.history.specs.History.{Interval, interval, History}
 use Rattle.history.specs.Demand.{RestsOnLost}
 use Rattle.model.specs.Model.{Pair, intervalOf, Vec, Controller, Message, Model, full}
@@ -98,14 +97,9 @@ pub record Settled (h : History) (c : ℕ) (k : Controller) : Type 0 where
   pub not-ended : k .ends c (k .incarnation) ≡ 0
   pub live-clean : (x : ℕ) → 1 ≤ x → x ≤ k .live → Spoilt h c (interval c (k .begunIn x) x) → ⊥
 
--- a message goes to a controller of the house, or to the desk (W2)
-abbrev pub Receives : ℕ → ℕ → Type 0
-Receives n r = (r < n) ⊎ (r ≡ desk)
-
-pub record MessageOk (n : ℕ) (h : History) (m : ℕ) (g : Message) : Type 0 where
+pub record MessageOk (h : History) (m : ℕ) (g : Message) : Type 0 where
   pub sending-is : h .sending m ≡ g .from
   pub receiver-is : h .receiver m ≡ g .to
-  pub to-ok : Receives n (g .to)
   pub from-begun : Is (h .begun (g .from))
   pub tracked : Tracks h (g .vec) (g .from)
 
@@ -117,7 +111,7 @@ pub record Inv (n : ℕ) (μ : Model) (h : History) : Type 0 where
   pub history : InOrder n h
   pub controller-ok : (c : ℕ) → c < n → ControllerOk h c (μ .controller c)
   pub settled : (c : ℕ) → c < n → Settled h c (μ .controller c)
-  pub message-ok : (m : ℕ) → 1 ≤ m → m ≤ μ .sent → MessageOk n h m (μ .message m)
+  pub message-ok : (m : ℕ) → 1 ≤ m → m ≤ μ .sent → MessageOk h m (μ .message m)
   pub agree : EndsAgree (μ .controller)
 
 -- h′ is later than h: what an interval rests on never changes, nothing begun, stable, lost or heard is taken back, nothing
@@ -275,12 +269,11 @@ module _ {h h′ : History} (e : Ext h h′) where
       }
 
   -- a message that keeps receiver and sending interval
-  pub message-on : {n m : ℕ} {g : Message} → h′ .sending m ≡ h .sending m → h′ .receiver m ≡ h .receiver m → MessageOk n h m g → MessageOk n h′ m g
+  pub message-on : {m : ℕ} {g : Message} → h′ .sending m ≡ h .sending m → h′ .receiver m ≡ h .receiver m → MessageOk h m g → MessageOk h′ m g
   message-on {g = g} p q o =
       record {
         sending-is = p ∙ o .sending-is;
         receiver-is = q ∙ o .receiver-is;
-        to-ok = o .to-ok;
         from-begun = e .begun-stays _ (o .from-begun);
         tracked = tracks-on (g .vec) _ (o .from-begun) (o .tracked);
       }

@@ -11,7 +11,7 @@ use Rattle.history.specs.Demand.{named}
 use Rattle.model.specs.Model.{Vec, Controller, Message, Model, full, filtered, putController, putMessage, degreeController, logController, loggedController, tellController, beginController, sendMessage, releasedVec, releaseMessage}
 use Rattle.model.specs.Tests.{Is, fails, not-passes, changedAt-ind, changedAt-same, changedAt-other}
 use Rattle.model.specs.Chain.{member-chain, chain-member, newest-chain, oldest-on, on-oldest}
-use Rattle.model.specs.Invariant.{Shape, ControllerOk, Receives, MessageOk, Inv, Ext, SameFacts, ext-refl, ext-same, frame-refl, frame-same, spoilt-same, tracks-on, knows-on, body-on, ends-on, message-on, controller-on, settled-on, some-live}
+use Rattle.model.specs.Invariant.{Shape, ControllerOk, MessageOk, Inv, Ext, SameFacts, ext-refl, ext-same, frame-refl, frame-same, spoilt-same, tracks-on, knows-on, body-on, ends-on, message-on, controller-on, settled-on, some-live}
 use Rattle.model.specs.Vectors.{Condemned, filtered-tracks, spoilt-condemned}
 use Rattle.model.specs.Knowing.{may-know, knows-told}
 use Rattle.model.specs.Growing.{grown-ext, grown-order, grown-frame, grown-back, grown-settled}
@@ -83,9 +83,9 @@ module _ {n : ℕ} {μ : Model} {h : History} (v : Inv n μ h) where
       ext = ext-same same
 
   -- S: the newest vector, filtered, tracks the newest interval, from which the message is sent
-  pub keeps-send : (s r : ℕ) → s < n → Receives n r → Keeps n μ h (sendMessage μ (μ .sent + 1) s r) (sentFrom h (μ .sent + 1) s r)
+  pub keeps-send : (s r : ℕ) → s < n → Keeps n μ h (sendMessage μ (μ .sent + 1) s r) (sentFrom h (μ .sent + 1) s r)
   unfolding sendMessage sentFrom
-  keeps-send s r sender receiver =
+  keeps-send s r sender =
       record {
         inv =
             record {
@@ -93,7 +93,7 @@ module _ {n : ℕ} {μ : Model} {h : History} (v : Inv n μ h) where
               controller-ok = λ c l. controller-on ext (frame-same c same refl refl refl) (v .controller-ok c l);
               settled = λ c l. settled-on ext (v .controller-ok c l) (λ y b z. spoilt-same same z) (v .settled c l);
               message-ok =
-                  changedAt-ind (λ m g. 1 ≤ m → m ≤ μ .sent + 1 → MessageOk n h′ m g) (μ .message) (μ .sent + 1) g (λ p l. new)
+                  changedAt-ind (λ m g. 1 ≤ m → m ≤ μ .sent + 1 → MessageOk h′ m g) (μ .message) (μ .sent + 1) g (λ p l. new)
                   (λ m ne p l. message-on ext (changedAt-other _ _ _ _ ne) (changedAt-other _ _ _ _ ne) (v .message-ok m p (omega arith)));
               agree = v .agree;
             };
@@ -129,12 +129,11 @@ module _ {n : ℕ} {μ : Model} {h : History} (v : Inv n μ h) where
       begun : Is (h .begun (g .from))
       begun = ok .body .live-begun (k .live) live-pos (omega arith)
 
-      new : MessageOk n h′ (μ .sent + 1) g
+      new : MessageOk h′ (μ .sent + 1) g
       new =
           record {
             sending-is = changedAt-same _ _ _ ∙ ap newest (ok .shape .chain-is) ∙ newest-chain s (k .begunIn) (k .live) live-pos;
             receiver-is = changedAt-same _ _ _;
-            to-ok = receiver;
             from-begun = begun;
             tracked =
                 tracks-on ext _ _ begun
@@ -151,7 +150,7 @@ module _ {n : ℕ} {μ : Model} {h : History} (v : Inv n μ h) where
               history = v .history;
               controller-ok = v .controller-ok;
               settled = v .settled;
-              message-ok = changedAt-ind (λ j g. 1 ≤ j → j ≤ μ .sent → MessageOk n h j g) (μ .message) m _ (λ p l. released) (λ j ne. v .message-ok j);
+              message-ok = changedAt-ind (λ j g. 1 ≤ j → j ≤ μ .sent → MessageOk h j g) (μ .message) m _ (λ p l. released) (λ j ne. v .message-ok j);
               agree = v .agree;
             };
         ext = ext-refl h;
@@ -162,15 +161,14 @@ module _ {n : ℕ} {μ : Model} {h : History} (v : Inv n μ h) where
         to-same = λ j l. changedAt-ind (λ j g. g .to ≡ μ .message j .to) (μ .message) m _ refl (λ j ne. refl) j;
       }
     where
-      o : MessageOk n h m (μ .message m)
+      o : MessageOk h m (μ .message m)
       o = v .message-ok m pos sent
 
-      released : MessageOk n h m (record { to = μ .message m .to; from = μ .message m .from; vec = releasedVec μ m })
+      released : MessageOk h m (record { to = μ .message m .to; from = μ .message m .from; vec = releasedVec μ m })
       released =
           record {
             sending-is = o .sending-is;
             receiver-is = o .receiver-is;
-            to-ok = o .to-ok;
             from-begun = o .from-begun;
             tracked =
                 filtered-tracks _ _ _ (v .history) (v .controller-ok _ (v .history .owner-below _ (o .from-begun)) .knows) (o .from-begun) (o .tracked);
@@ -203,7 +201,7 @@ module _ {n : ℕ} {μ : Model} {h : History} (v : Inv n μ h) where
       w : Vec
       w = μ .message m .vec
 
-      o : MessageOk n h m (μ .message m)
+      o : MessageOk h m (μ .message m)
       o = v .message-ok m (D .pos) (D .sent)
 
       begins : Begins n h c k w (μ .message m .from)

@@ -1,9 +1,11 @@
 -- "Where several apply, the lowest number is given": each step's own refusals come after the host's, in the papers' order.
 use mathlib.Core.Path.{_≡_, refl}
-use mathlib.Core.Bool.{Bool, true, cond, _&&_}
+use mathlib.Core.Bool.{Bool, true, _&&_}
 use mathlib.Core.List.{List, [], _∷_}
-use Prim.Native.Nat.{ℕ, suc}
+use Prim.Native.Nat.{ℕ}
+use lib.ListN.{length, getD}
 use Rattle.base.specs.Choice.{_==_, _<?_}
+use Rattle.base.specs.Ranges.{first}
 use Rattle.base.specs.Cases.{Case}
 use Rattle.table.specs.Field.{State}
 use Rattle.rules.specs.Limits.{Limits}
@@ -31,15 +33,14 @@ inTurn =
     ∷ LEDGER-USED-UP
     ∷ []
 
--- where a number stands in it, from 1 on
-abbrev turn : ℕ → List ℕ → ℕ
-turn number [] = 0
-turn number (n ∷ more) = cond (number == n) 1 (suc (turn number more))
+-- where a number stands in it, or its length where it doesn't
+abbrev turn : ℕ → ℕ
+turn number = first (length inTurn) (λ (i : ℕ). getD inTurn i 0 == number)
 
--- the cases stand in that order, from one after number n on
+-- the cases stand in it and in that order, from one after number n on
 abbrev rises : ℕ → List Case → Bool
 rises n [] = true
-rises n (x ∷ xs) = (turn n inTurn <? turn (x .number) inTurn) && rises (x .number) xs
+rises n (x ∷ xs) = (turn n <? turn (x .number)) && ((turn (x .number) <? length inTurn) && rises (x .number) xs)
 
 abbrev allRise : List (List Case) → Bool
 allRise [] = true
@@ -59,4 +60,5 @@ pub in-order : (L : Limits) (σ : State) (g : List ℕ) (a b c : ℕ) →
     ∷ hearRefusals σ a b c
     ∷ [])
     ≡ true
+unfolding first
 in-order L σ g a b c = refl

@@ -18,9 +18,9 @@ use Rattle.rules.specs.declared.Command.the-variants.{Open}
 use Rattle.listing.specs.Quiet as Q
 use Rattle.listing.specs.Quiet.{Quiet, quiet-opened, in-form}
 use Rattle.history.specs.History.{fed}
-use Rattle.history.specs.Citations.{Citations, cited}
+use Rattle.history.specs.Citations.{cited}
 use Rattle.history.specs.Demand.{Run, stepIn, next, runs}
-use Rattle.history.specs.Examples.{ListingLine, line, all}
+use Rattle.history.specs.Examples.{ListingLine, line, all, allCited}
 use Rattle.testers.specs.StepSame.{step-words}
 use Rattle.testers.specs.Sample.{asked, answered, calls, answersFrom}
 
@@ -57,11 +57,6 @@ history-at r [] h (suc j) = refl
 history-at r (x ∷ l) h zero = refl
 history-at r (x ∷ l) h (suc j) =
     history-at (next (asks (x .asked)) r) l (tail-answered r x l h) j ∙ ap (λ a. all (take j l) (fed (asks (x .asked)) a (r .history))) (head-answered r x l h)
-
--- the citations of some lines
-unfoldable pub allCited : List ListingLine → Citations → Citations
-allCited [] q = q
-allCited (x ∷ l) q = allCited l (cited (asks (x .asked)) (x .answered) q)
 
 pub citations-after : (r : Run) (l : List ListingLine) → Answered r l → runs r (calls (asked l)) .citations ≡ allCited l (r .citations)
 unfolding runs allCited next stepCall

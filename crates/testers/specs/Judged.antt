@@ -1,4 +1,4 @@
--- The moments of the sample run: the answers, some words of the tables, the ledger at the end, and what the history says, which is
+-- The moments of the sample run: the answers, some words of the tables, what was published, and what the history says, which is
 -- computed.
 use mathlib.Core.Path.{_≡_, refl, ap, _∙_}
 use mathlib.Core.Bool.{true, false}
@@ -20,10 +20,10 @@ use Rattle.rules.specs.declared.Command.the-variants.{Send, Deliver}
 use Rattle.history.specs.History.{interval, History, sameInterval, changedAt, changedAtInterval, newest, member, those, oldest, sentFrom, joined, leaving, stabilized, hearing, losing, opening, delivering, restarting, crashing, rollingBack, answers, valueAt, fedStep, fed}
 use Rattle.history.specs.Citations.{Citation, noCitations, sentWith, letOutTo, citedStep, cited}
 use Rattle.history.specs.Demand.{Run, stepIn, justOpened}
-use Rattle.history.specs.Examples.{all}
+use Rattle.history.specs.Examples.{all, allCited}
 use Rattle.listing.specs.Quiet.{steps, quiet-opened, goes}
 use Rattle.testers.specs.Sample.{sample, asked, calls, sample-run, sample-opened, sample-answers}
-use Rattle.testers.specs.Along.{firstSteps, lineAt, answer-at, history-at, allCited, citations-after, stateAt, StageAt, stage-step, stage-at}
+use Rattle.testers.specs.Along.{firstSteps, lineAt, answer-at, history-at, citations-after, stateAt, StageAt, stage-step, stage-at}
 
 abbrev pub list : List Call
 list = calls (asked sample)
