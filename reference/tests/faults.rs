@@ -52,7 +52,7 @@ const BY_LEDGER_OR_UNREADABLE: Means = [false, false, true, true, true, true];
 const BY_COMPARISON_ONLY: Means = [false, false, false, false, true, true];
 const ON_LENT_ONLY: Means = [false, false, false, false, false, true];
 
-const EXPECTED: [(Fault, Means); 32] = [
+const EXPECTED: [(Fault, Means); 36] = [
     (Fault::LargerAcrossIncarnations, BY_DEMAND),
     (Fault::NumbersWithoutIncarnations, BY_DEMAND_AND_PUBLISHED),
     (Fault::StoredPairsCounted, BY_COMPARISON_ONLY),
@@ -90,6 +90,12 @@ const EXPECTED: [(Fault, Means); 32] = [
     (Fault::FourteenOnlyForTheDesk, ON_LENT_ONLY),
     (Fault::LedgerLookedAtByAll, ON_LENT_ONLY),
     (Fault::DegreeBeforeLedger, ON_LENT_ONLY),
+    // The history doesn't know of checkpoints: what is replayed says nothing to demand 3.
+    (Fault::FigureOfThePlaceItself, BY_COMPARISON_ONLY),
+    (Fault::FigureNotRaised, BY_COMPARISON_ONLY),
+    (Fault::FirstPlaceLeftOut, BY_COMPARISON_ONLY),
+    // It leaves an interval live that rests on lost work.
+    (Fault::CondemnedPlacePassedOver, BY_DEMAND),
 ];
 
 const PROFILES: [(&Profile, u64); 3] = [

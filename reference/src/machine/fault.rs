@@ -83,11 +83,19 @@ pub enum Fault {
     LedgerLookedAtByAll,
     /// Looking at the numbers of an opening before the ledger.
     DegreeBeforeLedger,
+    /// Counting what a hearing replays from a checkpoint in the condemned place itself, if it has one.
+    FigureOfThePlaceItself,
+    /// Counting it from the first place's checkpoint, whatever is flagged after it.
+    FigureNotRaised,
+    /// Counting it from the checkpoints above the first place alone, and from 0 where there is none.
+    FirstPlaceLeftOut,
+    /// Looking for the lowest condemned place from place 2 on.
+    CondemnedPlacePassedOver,
 }
 
 impl Fault {
     /// Every planted fault.
-    pub const PLANTED: [Fault; 32] = [
+    pub const PLANTED: [Fault; 36] = [
         Fault::LargerAcrossIncarnations,
         Fault::NumbersWithoutIncarnations,
         Fault::StoredPairsCounted,
@@ -120,6 +128,10 @@ impl Fault {
         Fault::FourteenOnlyForTheDesk,
         Fault::LedgerLookedAtByAll,
         Fault::DegreeBeforeLedger,
+        Fault::FigureOfThePlaceItself,
+        Fault::FigureNotRaised,
+        Fault::FirstPlaceLeftOut,
+        Fault::CondemnedPlacePassedOver,
     ];
 
     /// Whether some list in a house just opened shows the fault. The others need a table or a ledger
@@ -277,6 +289,28 @@ pub(super) fn condemned_by_number(vector: &Vector, ends: &Row) -> bool {
 /// The lexicographically larger of each two pairs: a later incarnation hides an earlier one.
 pub(super) fn larger_of_each(ours: &Vector, theirs: &Vector) -> Vector {
     array::from_fn(|owner: usize| Pair::max(ours[owner], theirs[owner]))
+}
+
+/// What a faulty hearing says is replayed after `kept`, where it counts from the latest checkpoint of
+/// other places than those below the condemned one.
+pub(super) fn replayed_by_hearing(
+    fault: Fault,
+    words: &[u32],
+    hearer: usize,
+    kept: u32,
+) -> Option<u32> {
+    let looked_at = match fault {
+        Fault::FigureOfThePlaceItself => 0..kept + 1,
+        Fault::FigureNotRaised => 0..1,
+        Fault::FirstPlaceLeftOut => 1..kept,
+        _ => return None,
+    };
+    let table = Table::new(words)?;
+    let places = looked_at.map(|place| table.place(hearer, place as usize));
+    let flagged = places.filter(|record| record.flag == 1);
+    let latest = flagged.map(|record| record.number).max();
+    // The checkpoint of the condemned place has a number above the kept one.
+    Some(kept.saturating_sub(latest.unwrap_or(0)))
 }
 
 /// Makes of the table that the sound step left the one that the faulty machine would leave.

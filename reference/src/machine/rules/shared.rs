@@ -73,7 +73,11 @@ impl House<'_> {
 
     /// "The lowest place above 0 whose vector holds a condemned entry."
     pub(super) fn lowest_condemned_place(&self, hearer: usize, ends: &Row) -> Option<u32> {
-        (1..self.table.controller(hearer).live)
+        let first = match self.fault {
+            Fault::CondemnedPlacePassedOver => 2,
+            _ => 1,
+        };
+        (first..self.table.controller(hearer).live)
             .find(|&place| self.condemned(&self.table.place(hearer, place as usize).vector, ends))
     }
 
@@ -81,7 +85,8 @@ impl House<'_> {
     /// cause of an undone interval becomes dropped .. [or] released again; then start anew."
     pub(super) fn roll_back(&mut self, hearer: usize, kept: u32) -> Answer {
         let undone = self.table.controller(hearer).live - kept;
-        let replayed = self.replayed(hearer, kept);
+        let otherwise = fault::replayed_by_hearing(self.fault, self.table.words(), hearer, kept);
+        let replayed = otherwise.unwrap_or_else(|| self.replayed(hearer, kept));
         self.log_up_to(hearer, kept);
         self.settle_causes(hearer, kept);
         self.start_anew(hearer, kept);
