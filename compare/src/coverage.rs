@@ -100,7 +100,7 @@ pub struct Seen {
     answers: BTreeSet<String>,
     /// The refusals, each with the letter of its step.
     refusals: BTreeSet<(Refusal, char)>,
-    /// How often each case of causes and of the desk came up.
+    /// How often each case of causes, of rollbacks and of the desk came up.
     cases: BTreeMap<String, u64>,
     /// How far the houses went.
     pub extent: Extent,
@@ -120,8 +120,8 @@ impl Seen {
         }
     }
 
-    /// Takes note of what became of causes and of readings for the desk, by the words of
-    /// [`reference::causes`] and [`desk`](crate::desk).
+    /// Takes note of what became of causes, of rollbacks and of readings for the desk, by the words of
+    /// [`reference::causes`], [`reference::rollbacks`] and [`desk`](crate::desk).
     pub fn note_cases(&mut self, cases: impl IntoIterator<Item = String>) {
         for case in cases {
             *self.cases.entry(case).or_default() += 1;
@@ -166,10 +166,10 @@ impl Seen {
     ///
     /// # Panics
     /// If one is missing or there is another.
-    pub fn assert_cases<S: AsRef<str>>(&self, causes: &[S], desk: &[&str]) {
+    pub fn assert_cases<S: AsRef<str>>(&self, causes: &[S], others: &[&[&str]]) {
         println!("{:#?}", self.cases);
         let causes = causes.iter().map(S::as_ref);
-        let expected: BTreeSet<&str> = causes.chain(desk.iter().copied()).collect();
+        let expected: BTreeSet<&str> = causes.chain(others.concat()).collect();
         let seen = self.cases.keys().map(String::as_str).collect();
         assert_eq!(expected, seen);
     }

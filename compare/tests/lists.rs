@@ -9,7 +9,7 @@ use reference::causes::{self, Offers};
 use reference::demand::Judge;
 use reference::generate::{Profile, Walk};
 use reference::machine::{Answer, Command, Fault};
-use reference::refusal;
+use reference::{refusal, rollbacks};
 use std::thread;
 
 /// How many lists of each profile.
@@ -42,6 +42,7 @@ fn compare_list(profile: &'static Profile, seed: u64, seen: &mut Seen) {
         let (before_it, after_it) = (&before.table, &lent.table);
         seen.note_cases(causes::cases(before_it, command, answer, after_it));
         seen.note_cases(offers.feed(before_it, command, answer, after_it));
+        seen.note_cases(rollbacks::case(before_it, answer));
         seen.note_cases(desk::case(&before, command, answer));
         seen.note_extent(lent);
         before.clone_from(lent);
@@ -72,7 +73,7 @@ fn the_machines_agree_on_every_step() {
     seen.assert_all(refusal::CONTROLLER..=refusal::INCARNATIONS_USED_UP);
     assert_eq!(seen.refused(refusal::LEDGER), "");
     assert_eq!(seen.refused(refusal::LEDGER_USED_UP), "");
-    seen.assert_cases(&causes::IN_LISTS, &desk::IN_LISTS);
+    seen.assert_cases(&causes::IN_LISTS, &[&rollbacks::CASES, &desk::IN_LISTS]);
     assert_eq!(seen.extent, Extent::UTMOST);
 }
 

@@ -11,7 +11,7 @@ use reference::generate::{
 use reference::machine::{self, Answer, Command, Fault};
 use reference::table::state::{DROPPED, HELD, PUBLISHED};
 use reference::table::{self, Message, Table, DESK, WORDS};
-use reference::{causes, ledger, refusal};
+use reference::{causes, ledger, refusal, rollbacks};
 
 /// A step of each letter with sensible numbers, where the table has its length, and ten with any.
 fn steps(random: &mut Random, words: &[u32]) -> Vec<Command> {
@@ -41,6 +41,7 @@ fn compare_table(random: &mut Random, lent: &Lent, seen: &mut Seen) {
         }
         seen.note(command, answer);
         seen.note_cases(causes::cases(&lent.table, command, answer, &after.table));
+        seen.note_cases(rollbacks::case(&lent.table, answer));
         seen.note_cases(desk::case(lent, command, answer));
     }
 }
@@ -63,7 +64,10 @@ fn tables_in_form() {
     let seen = compare_tables(1, 4_000, in_form_table);
     assert!(seen.steps >= 80_000);
     seen.assert_all(refusal::CONTROLLER..);
-    seen.assert_cases(&causes::on_lent_tables(), &desk::ON_LENT);
+    seen.assert_cases(
+        &causes::on_lent_tables(),
+        &[&rollbacks::CASES, &desk::ON_LENT],
+    );
 }
 
 #[test]

@@ -12,6 +12,7 @@
 //! - [`demand`]: demand 3, judged by that history.
 //! - [`facts`]: what ties a table to its history after each step of the sound machine.
 //! - [`causes`]: what became of the causes of lost and undone intervals, in words.
+//! - [`rollbacks`]: from which checkpoint a rollback replays, in words.
 //! - [`generate`]: random lists of steps, lent tables and scripts.
 //!
 //! Quoted sentences in the comments are the rules that the code below them follows.
@@ -25,5 +26,6 @@ pub mod ledger;
 pub mod lines;
 pub mod machine;
 pub mod refusal;
+pub mod rollbacks;
 pub mod table;
 pub mod vector;

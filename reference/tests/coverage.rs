@@ -1,5 +1,6 @@
 //! The generators reach every answer, every refusal, the limits of a house, all that becomes of the
-//! causes of lost and undone intervals, and all that becomes of messages for the desk.
+//! causes of lost and undone intervals, all checkpoints that a rollback goes back to, and all that becomes
+//! of messages for the desk.
 
 use reference::causes::{self, Offers};
 use reference::generate::{
@@ -9,16 +10,18 @@ use reference::generate::{
 use reference::lines;
 use reference::machine::{step, Answer, Command};
 use reference::refusal::{self, Refusal};
+use reference::rollbacks;
 use reference::table::{state, Table, DESK};
 use std::collections::{BTreeMap, BTreeSet};
 
 /// The answers without their numbers, but a refusal with its own and the letter of its step; and how
-/// often each case of causes and of the desk came up.
+/// often each case of causes, of rollbacks and of the desk came up.
 #[derive(Default)]
 struct Seen {
     answers: BTreeSet<String>,
     refusals: BTreeSet<(Refusal, char)>,
     causes: BTreeMap<String, u64>,
+    rollbacks: BTreeMap<String, u64>,
     desk: BTreeMap<&'static str, u64>,
 }
 
@@ -40,6 +43,12 @@ impl Seen {
     fn note_causes(&mut self, cases: impl IntoIterator<Item = String>) {
         for case in cases {
             *self.causes.entry(case).or_default() += 1;
+        }
+    }
+
+    fn note_rollback(&mut self, case: Option<String>) {
+        if let Some(case) = case {
+            *self.rollbacks.entry(case).or_default() += 1;
         }
     }
 
@@ -146,6 +155,7 @@ fn lists_reach_everything() {
                 seen.note(command, answer);
                 seen.note_causes(causes::cases(&before, command, answer, walk.table()));
                 seen.note_causes(offers.feed(&before, command, answer, walk.table()));
+                seen.note_rollback(rollbacks::case(&before, answer));
                 seen.note_desk(&before, false, answer, walk.table());
                 before.copy_from_slice(walk.table());
                 let table = Table::new(walk.table()).expect("the right length");
@@ -176,10 +186,11 @@ fn lists_reach_everything() {
     assert_eq!(seen.refused(refusal::LEDGER), "");
     assert_eq!(seen.refused(refusal::LEDGER_USED_UP), "");
     println!(
-        "in lists: {:#?}\nfor the desk: {:#?}",
-        seen.causes, seen.desk
+        "in lists: {:#?}\n{:#?}\nfor the desk: {:#?}",
+        seen.causes, seen.rollbacks, seen.desk
     );
     assert!(seen.causes.keys().eq(&causes::IN_LISTS));
+    assert!(seen.rollbacks.keys().eq(&rollbacks::CASES));
     assert!(seen.desk.keys().eq(&DESK_IN_LISTS));
     assert_eq!((incarnation, live, sent, published), (15, 64, 128, 128));
     assert!(sizes.iter().eq(&[1, 2, 3, 4, 5, 6, 7, 8]), "{sizes:?}");
@@ -211,14 +222,16 @@ fn lent_tables_reach_everything() {
             let answer = step(&mut words, &mut ledger, command);
             seen.note(command, answer);
             seen.note_causes(causes::cases(&before, command, answer, &words));
+            seen.note_rollback(rollbacks::case(&before, answer));
             seen.note_desk(&before, full, answer, &words);
         }
     }
     println!(
-        "on lent tables: {:#?}\nfor the desk: {:#?}",
-        seen.causes, seen.desk
+        "on lent tables: {:#?}\n{:#?}\nfor the desk: {:#?}",
+        seen.causes, seen.rollbacks, seen.desk
     );
     assert!(seen.causes.keys().eq(&causes::on_lent_tables()));
+    assert!(seen.rollbacks.keys().eq(&rollbacks::CASES));
     assert!(seen.desk.keys().eq(&DESK_ON_LENT));
     assert!(seen.answers.iter().eq(&ANSWERS), "{:?}", seen.answers);
     assert_eq!(seen.refused(refusal::LENGTH), "CDHKLORSTX");
