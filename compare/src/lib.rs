@@ -4,6 +4,7 @@
 //! - [`proved`]: the proved machine, through its binding for Rust, and so through the C interface.
 //! - [`house`]: the proved program, through its standard input and output.
 //! - [`agreement`]: the same step on both machines, and the first thing in which they differ.
+//! - [`inputs`]: the lists and lent tables that are gone through.
 //! - [`desk`]: what became of the releases of readings for the desk, in words.
 //! - [`coverage`]: what a comparison has come across, so that a test can ask for all of it.
 
@@ -11,6 +12,7 @@ pub mod agreement;
 pub mod coverage;
 pub mod desk;
 pub mod house;
+pub mod inputs;
 pub mod proved;
 
 pub use proved::{in_form, step};

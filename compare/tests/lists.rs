@@ -4,6 +4,7 @@
 
 use compare::agreement::{beside, Buffer, Difference, Lent, Parting};
 use compare::coverage::{Extent, Seen};
+use compare::inputs::LISTS;
 use compare::{desk, effort, in_form};
 use reference::causes::{self, Offers};
 use reference::demand::Judge;
@@ -11,17 +12,6 @@ use reference::generate::{Profile, Walk};
 use reference::machine::{Answer, Command, Fault};
 use reference::{refusal, rollbacks};
 use std::thread;
-
-/// How many lists of each profile.
-const LISTS: [(&Profile, u64); 7] = [
-    (&Profile::MIXED, 1_600),
-    (&Profile::CRASHES, 700),
-    (&Profile::PARTIAL, 500),
-    (&Profile::FULL, 60),
-    (&Profile::WORN, 120),
-    (&Profile::WILD, 1_500),
-    (&Profile::DESK, 60),
-];
 
 fn compare_list(profile: &'static Profile, seed: u64, seen: &mut Seen) {
     let mut judge = Judge::default();

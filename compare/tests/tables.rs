@@ -3,36 +3,18 @@
 
 use compare::agreement::{on_lent, on_lent_with, Lent};
 use compare::coverage::Seen;
+use compare::inputs::{any_ledger, steps, Tables};
 use compare::{desk, effort, in_form};
-use reference::generate::{
-    damaged, damaged_ledger, in_form_table, named, noise, senseless, sound_ledger, wrong_length,
-    Profile, Random, Walk,
-};
+use reference::generate::{damaged, in_form_table, Profile, Random, Walk};
 use reference::machine::{self, Answer, Command, Fault};
 use reference::table::state::{DROPPED, HELD, PUBLISHED};
 use reference::table::{self, Message, Table, DESK, WORDS};
 use reference::{causes, ledger, refusal, rollbacks};
 
-/// A step of each letter with sensible numbers, where the table has its length, and ten with any.
-fn steps(random: &mut Random, words: &[u32]) -> Vec<Command> {
-    let mut steps = named(random, words);
-    steps.extend((0..10).map(|_| senseless(random)));
-    steps
-}
-
-/// Mostly a sound one: a release looks no further than a damaged one.
-fn any_ledger(random: &mut Random) -> Vec<u32> {
-    if random.chance(20) {
-        damaged_ledger(random)
-    } else {
-        sound_ledger(random)
-    }
-}
-
 /// Does each of many steps on the table and the ledger as they were lent.
-fn compare_table(random: &mut Random, lent: &Lent, seen: &mut Seen) {
+fn compare_table(lent: &Lent, steps: Vec<Command>, seen: &mut Seen) {
     assert_eq!(in_form(&lent.table), table::in_form(&lent.table));
-    for command in steps(random, &lent.table) {
+    for command in steps {
         let agreed = on_lent(lent, command);
         let (answer, after) =
             agreed.unwrap_or_else(|difference| panic!("{command:?}: {difference:?}"));
@@ -46,22 +28,17 @@ fn compare_table(random: &mut Random, lent: &Lent, seen: &mut Seen) {
     }
 }
 
-fn compare_tables(seed: u64, tables: u64, lent: impl Fn(&mut Random) -> Vec<u32>) -> Seen {
-    let mut random = Random::new(seed);
+fn compare_tables(tables: Tables) -> Seen {
     let mut seen = Seen::default();
-    for _ in 0..effort(tables) {
-        let lent = Lent {
-            table: lent(&mut random),
-            ledger: any_ledger(&mut random),
-        };
-        compare_table(&mut random, &lent, &mut seen);
+    for (lent, steps) in tables.with_steps() {
+        compare_table(&lent, steps, &mut seen);
     }
     seen
 }
 
 #[test]
 fn tables_in_form() {
-    let seen = compare_tables(1, 4_000, in_form_table);
+    let seen = compare_tables(Tables::IN_FORM);
     assert!(seen.steps >= 80_000);
     seen.assert_all(refusal::CONTROLLER..);
     seen.assert_cases(
@@ -72,18 +49,14 @@ fn tables_in_form() {
 
 #[test]
 fn damaged_tables() {
-    let seen = compare_tables(2, 3_000, |random| damaged(random).0);
+    let seen = compare_tables(Tables::DAMAGED);
     assert!(seen.steps >= 60_000);
-    // Many of them are in form still.
     seen.assert_all(refusal::FORM..);
 }
 
 #[test]
 fn tables_of_another_length_and_noise() {
-    let seen = compare_tables(3, 600, |random| match random.below(3) {
-        0 => noise(random),
-        _ => wrong_length(random),
-    });
+    let seen = compare_tables(Tables::NOISE);
     assert!(seen.steps >= 6_000);
     assert_eq!(seen.refused(refusal::LENGTH), "CDHKLORSTX");
     // An opening doesn't look at the form.
@@ -109,7 +82,8 @@ fn every_wrong_length_is_refused() {
             ledger: any_ledger(&mut random),
         };
         for _ in 0..10 {
-            compare_table(&mut random, &lent, &mut seen);
+            let steps = steps(&mut random, &lent.table);
+            compare_table(&lent, steps, &mut seen);
         }
         assert!(!in_form(&lent.table), "{length} words");
     }
