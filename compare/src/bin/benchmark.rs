@@ -1,10 +1,11 @@
 //! Times the proved machine and the reference on the same scripts, in one run: by the step, by the
-//! line of the program, and by the check that a table is in form.
+//! line of the program, by the check that a table is in form, and by the hearing of a crash.
 //!
 //! With the argument `house_reference` it is the program of the reference, so that one command builds
-//! both sides.
+//! both sides. With the name of a hearing and a number it does that hearing so often with the proved
+//! machine and no clock, to have its instructions counted.
 
-use compare::agreement::Lent;
+use compare::agreement::{on_lent, Lent};
 use compare::house::{self, Session};
 use compare::{in_form, proved};
 use reference::generate::{senseless, Profile, Random, Walk};
@@ -14,7 +15,7 @@ use reference::machine::{self, Answer, Command};
 use reference::table::{self, Table, DESK, LAST_MESSAGE};
 use std::env;
 use std::hint::black_box;
-use std::io::{self, Read, Write};
+use std::io::{self, ErrorKind, Read, Write};
 use std::process::Command as Program;
 use std::time::{Duration, Instant};
 
@@ -24,6 +25,8 @@ const AS_REFERENCE: &str = "house_reference";
 const STEPS: usize = 6_000;
 /// The checks of a table in a round.
 const CHECKS: usize = 3_000;
+/// The hearings of a crash in a round.
+const HEARINGS: usize = 3_000;
 /// How often each measure is taken. Every other time the reference goes first.
 const ROUNDS: usize = 9;
 
@@ -36,9 +39,19 @@ struct Mix {
     steps: Vec<Command>,
 }
 
+/// Hearings of controller 0 in the house that [`crowded`] leads to: a name, who crashed, and the answer.
+const HEARD: [(&str, u32, &str); 3] = [
+    ("nothing to undo", 1, "heard 0"),
+    ("all above place 0 to undo", 2, "rolled 0 1 63 0"),
+    ("the newest to undo", 3, "rolled 0 63 1 62"),
+];
+
 fn main() -> io::Result<()> {
-    if env::args().any(|argument| argument == AS_REFERENCE) {
-        return play_reference();
+    let arguments: Vec<String> = env::args().skip(1).collect();
+    match &arguments[..] {
+        [name] if name == AS_REFERENCE => return play_reference(),
+        [name, times] => return repeat(name, times),
+        _ => {}
     }
     if cfg!(debug_assertions) {
         println!("Not a fair run: the reference is built with extra checks. Use --release.");
@@ -51,6 +64,11 @@ fn main() -> io::Result<()> {
     mixes.iter().for_each(time_lines);
     heading("microseconds a check that a table is in form");
     mixes.iter().for_each(time_checks);
+    heading("microseconds a hearing, 64 live, one checkpoint at place 0");
+    let house = led_to(&crowded());
+    for (name, crashed, answer) in HEARD {
+        time_hearing(name, &house, hearing(crashed), answer);
+    }
     Ok(())
 }
 
@@ -89,13 +107,7 @@ fn small() -> Mix {
 fn full() -> Mix {
     let mut opening = vec![Command::Open { n: 8, degree: 8 }];
     for message in 1..=LAST_MESSAGE {
-        opening.push(Command::Send {
-            sender: 2 + message % 6,
-            receiver: message % 2,
-            payload: message,
-        });
-        opening.push(Command::Release { message });
-        opening.push(Command::Deliver { message });
+        opening.extend(passed(message, 2 + message % 6, message % 2));
     }
     let mut random = Random::new(1);
     Mix {
@@ -103,6 +115,36 @@ fn full() -> Mix {
         opening,
         steps: (0..STEPS).map(|_| in_full_house(&mut random)).collect(),
     }
+}
+
+/// A message that is sent, released and delivered.
+fn passed(message: u32, sender: u32, receiver: u32) -> [Command; 3] {
+    let sending = Command::Send {
+        sender,
+        receiver,
+        payload: message,
+    };
+    [
+        sending,
+        Command::Release { message },
+        Command::Deliver { message },
+    ]
+}
+
+/// Steps to a house of eight where controller 0 has 64 live intervals and no checkpoint but that of place
+/// 0, and 1, 2 and 3 have crashed. Of work that was lost, all its places above 0 rest on 2's, its newest
+/// one on 3's, and none on 1's.
+fn crowded() -> Vec<Command> {
+    let mut steps = vec![Command::Open { n: 8, degree: 8 }];
+    // A delivery that isn't logged gives 2 and 3 something to lose.
+    let senders = [(4, 2), (2, 0)].into_iter();
+    let senders = senders.chain((0..61).map(|sender| (4 + sender % 4, 0)));
+    let senders = senders.chain([(4, 3), (3, 0)]);
+    for (message, (sender, receiver)) in (1..).zip(senders) {
+        steps.extend(passed(message, sender, receiver));
+    }
+    steps.extend([1, 2, 3].map(|controller| Command::Crash { controller }));
+    steps
 }
 
 /// A step that frees no place: half of them change words, and half are refused after a look.
@@ -167,17 +209,22 @@ fn no_sense() -> Mix {
     }
 }
 
+/// The house that these steps lead to.
+fn led_to(steps: &[Command]) -> Lent {
+    let mut house = Lent {
+        table: vec![0; table::WORDS],
+        ledger: vec![0; ledger::WORDS],
+    };
+    for &command in steps {
+        machine::step(&mut house.table, &mut house.ledger, command);
+    }
+    house
+}
+
 impl Mix {
     /// The house that the opening leads to.
     fn house(&self) -> Lent {
-        let mut house = Lent {
-            table: vec![0; table::WORDS],
-            ledger: vec![0; ledger::WORDS],
-        };
-        for &command in &self.opening {
-            machine::step(&mut house.table, &mut house.ledger, command);
-        }
-        house
+        led_to(&self.opening)
     }
 
     /// The lines of the whole script.
@@ -324,4 +371,50 @@ fn describe(mix: &Mix, words: &[u32]) -> String {
         live,
         table.sent()
     )
+}
+
+fn hearing(crashed: u32) -> Command {
+    Command::Hear {
+        hearer: 0,
+        crashed,
+        incarnation: 0,
+    }
+}
+
+fn time_hearing(name: &str, house: &Lent, command: Command, answer: &str) {
+    let agreed = on_lent(house, command);
+    let (answered, _) = agreed.unwrap_or_else(|difference| panic!("{name}: {difference:?}"));
+    assert_eq!(lines::render(&answered), answer, "{name}");
+    let times = medians(
+        || play_hearings(house, command, proved::step),
+        || play_hearings(house, command, machine::step),
+    );
+    row(name, HEARINGS, times);
+}
+
+/// The time of all hearings of a round with a machine, each in a copy of the house. Only the steps are
+/// timed.
+fn play_hearings(house: &Lent, command: Command, machine: Machine) -> Duration {
+    let hear = |_| {
+        let Lent {
+            mut table,
+            mut ledger,
+        } = house.clone();
+        let start = Instant::now();
+        black_box(machine(&mut table, &mut ledger, black_box(command)));
+        start.elapsed()
+    };
+    (0..HEARINGS).map(hear).sum()
+}
+
+/// Does a hearing so many times with the proved machine, each in a copy of the house.
+fn repeat(name: &str, times: &str) -> io::Result<()> {
+    let heard = HEARD.iter().find(|heard| heard.0 == name);
+    let &(_, crashed, _) = heard.ok_or(ErrorKind::InvalidInput)?;
+    let times: usize = times.parse().map_err(io::Error::other)?;
+    let house = led_to(&crowded());
+    for _ in 0..times {
+        black_box(house.clone().step(hearing(crashed)));
+    }
+    Ok(())
 }
