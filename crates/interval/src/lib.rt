@@ -1,7 +1,6 @@
-// The places of a controller's chain: writing an interval record, freeing places, the lowest condemned place, and the
-// replay figure.
+// The places of a controller's chain: writing an interval record, freeing places, the latest checkpoint, and the walk of H.
 ghost use mathlib.Core.Path.{_≡_};
-ghost use Prim.Native.Nat.{_≤_, _<_};
+ghost use Prim.Native.Nat.{_+_, _≤_, _<_};
 ghost use lib.ListN.{length};
 ghost use Rattle.table.specs.Field.{OfPlace};
 ghost use Rattle.table.specs.Change.{putPart, clearPlaces};
@@ -10,7 +9,7 @@ ghost use Rattle.table.specs.Words.{state, words};
 ghost use Rattle.rules.specs.Shared.{placeRecord, latestFlagged};
 ghost use Rattle.rules.specs.Steps.{lowestCondemned};
 ghost use Rattle.laws.specs.Chain.{Chain};
-ghost use Rattle.interval.specs.Walks.{zeroWords};
+ghost use Rattle.interval.specs.Lent.{zeroWords};
 
 // The 20 words of a place, lent from inside the table, become an interval's record.
 pub fn write_interval(d: &mut [u32], i: u32, x: u32, cause: u32, flag: u32, v: [[u32; 2]; 8])
@@ -67,30 +66,6 @@ pub fn clear_places(t: &mut [u32], c: usize, p: usize, q: usize)
     clear(&mut t[from..to]);
 }
 
-// The lowest place of the hearer above 0 whose vector holds a condemned entry, or the live count.
-pub fn lowest_condemned(t: &[u32], hearer: usize) -> usize
-    requires { ⌜ (length (now t) ≡ tableWords) × Chain (state (now t)) hearer ⌝ }
-    ensures { λ k. ⌜ k ≡ lowestCondemned (state (now (t .entry))) hearer ⌝ }
-{
-    let live = table::live_count(t, hearer) as usize;
-    let mut p = 1;
-    let k = 'places: loop {
-        if live <= p {
-            break 'places p;
-        }
-        let v = vector::place_vector(t, hearer, p);
-        let mut owner = 0;
-        while owner < table::CONTROLLERS {
-            if vector::condemned_pair(t, hearer, owner, v[owner]) {
-                break 'places p;
-            }
-            owner += 1;
-        }
-        p += 1;
-    };
-    k
-}
-
 // The number of the latest checkpoint among the first k places of c, or 0.
 pub fn latest_flagged(t: &[u32], c: usize, k: usize) -> u32
     requires { ⌜ (length (now t) ≡ tableWords) × (c < controllers) × (k ≤ places) ⌝ }
@@ -105,4 +80,49 @@ pub fn latest_flagged(t: &[u32], c: usize, k: usize) -> u32
         p = q;
     }
     0
+}
+
+// The same of the places up to p, where `flagged` is that of the places below p: raised if p is flagged.
+pub fn raise_flagged(t: &[u32], c: usize, p: usize, flagged: u32) -> u32
+    requires { ⌜ (length (now t) ≡ tableWords) × (c < controllers) × (p < places) × (flagged ≡ latestFlagged (state (now t)) c p) ⌝ }
+    ensures { λ x. ⌜ x ≡ latestFlagged (state (now (t .entry))) c (p + 1) ⌝ }
+{
+    if table::flag(t, c, p) == 1 {
+        table::number_of(t, c, p as u32 + 1)
+    } else {
+        flagged
+    }
+}
+
+// Where the walk of H stopped: the place, and the running figure there, the number of the latest checkpoint below it.
+pub struct Stop {
+    pub place: usize,
+    pub flagged: u32,
+}
+
+// The walk of H upwards: to the lowest place above 0 whose vector holds a condemned entry, or past the last live one. What holds at
+// each place that it comes to is `Come` in specs/Walks.antt.
+pub fn lowest_condemned(t: &[u32], hearer: usize) -> Stop
+    requires { ⌜ (length (now t) ≡ tableWords) × Chain (state (now t)) hearer ⌝ }
+    ensures { λ s. ⌜ (s .place ≡ lowestCondemned (state (now (t .entry))) hearer) × (s .flagged ≡ latestFlagged (state (now (t .entry))) hearer (s .place)) ⌝ }
+{
+    let live = table::live_count(t, hearer) as usize;
+    let mut flagged = latest_flagged(t, hearer, 1);
+    let mut p = 1;
+    let place = 'places: loop {
+        if live <= p {
+            break 'places p;
+        }
+        let mut owner = 0;
+        while owner < table::CONTROLLERS {
+            let entry = vector::place_pair(t, hearer, p, owner);
+            if vector::condemned_pair(t, hearer, owner, entry) {
+                break 'places p;
+            }
+            owner += 1;
+        }
+        flagged = raise_flagged(t, hearer, p, flagged);
+        p += 1;
+    };
+    Stop { place, flagged }
 }

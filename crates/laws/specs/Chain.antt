@@ -8,7 +8,7 @@ use native.Mathlib.Omega.{arith}
 use borrow.Author.Tests.{le-leb}
 use Rattle.base.specs.Choice.{_==_, _≤?_, _<?_, cond-ind}
 use Rattle.base.specs.Cases.{firstOf}
-use Rattle.table.specs.Field.{Field, State, OfHead, OfController, Known, End, OfPlace, OfMessage, Size, Incarnation, LiveCount, StableCount, Sender, Receiver, PairIncarnation, PairNumber, MessagePairIncarnation, MessagePairNumber, word, placeHead, messageHead}
+use Rattle.table.specs.Field.{Field, State, OfHead, OfController, Known, End, OfPlace, OfMessage, Size, Incarnation, LiveCount, StableCount, Flag, Sender, Receiver, PairIncarnation, PairNumber, MessagePairIncarnation, MessagePairNumber, word, messageHead}
 use Rattle.table.specs.Change.{put, put-ind, putStates, states-ind}
 use Rattle.table.specs.Layout.{controllers, places, messages}
 use Rattle.table.specs.Words.{state, words, agree-words}
@@ -29,6 +29,7 @@ pub record Chain (σ : State) (c : ℕ) : Type 0 where
   pub incarnation-le : σ (Incarnation c) ≤ lastIncarnation
   pub live-pos : 1 ≤ σ (LiveCount c)
   pub live-le : σ (LiveCount c) ≤ places
+  pub first-flag : σ (Flag c 0) ≡ 1
   pub near : (p : ℕ) → p < σ (LiveCount c) → Near (placeVector σ c p)
   pub used-le : used σ ≤ messages
   pub message-near : (r : ℕ) → r < messages → Near (messageVector σ r)
@@ -42,6 +43,7 @@ chain-form σ c f h =
       incarnation-le = k .incarnation-le;
       live-pos = k .live-pos;
       live-le = k .live-le;
+      first-flag = placeForm f c 0 h (k .live-pos) .first-flag refl;
       near = λ p q. placeForm f c p h q .vector .near;
       used-le = f .used-le;
       message-near = message-near f;
@@ -50,13 +52,13 @@ chain-form σ c f h =
 pub chain-of : (t : List ℕ) (c : ℕ) → Lent t → c < state t Size → Chain (state t) c
 chain-of t c l h = chain-form (state t) c (form (state t) (l .good)) h
 
--- the words that it looks at: those of numbering, incarnations and live counts, and all vectors
+-- the words that it looks at: those of numbering, incarnations and live counts, and all flags and vectors
 abbrev pub onChain : Field → Bool
 onChain (OfHead k) = true
 onChain (OfController c k) = (k == word (Incarnation c)) || (k == word (LiveCount c))
 onChain (Known holder owner i) = false
 onChain (End holder owner i) = false
-onChain (OfPlace c p k) = placeHead ≤? k
+onChain (OfPlace c p k) = word (Flag c p) ≤? k
 onChain (OfMessage r k) = numbering (OfMessage r k) || (messageHead ≤? k)
 
 numbering-on : (f : Field) → numbering f ≡ true → onChain f ≡ true
@@ -78,6 +80,7 @@ chain-kept σ τ c h w =
       incarnation-le = omega (arith, w .incarnation-le);
       live-pos = omega (arith, w .live-pos);
       live-le = omega (arith, w .live-le);
+      first-flag = h (Flag c 0) refl ∙ w .first-flag;
       near = λ p l. subst Near (sym (vector-of p)) (w .near p (omega arith));
       used-le = omega (arith, w .used-le);
       message-near = λ r l. subst Near (sym (message-of r)) (w .message-near r l);
@@ -86,7 +89,7 @@ chain-kept σ τ c h w =
     vector-of : (p : ℕ) → placeVector τ c p ≡ placeVector σ c p
     vector-of p =
         placeVector-of τ σ c p
-        (λ owner l. (h (PairIncarnation c p owner) (le-leb placeHead (word (PairIncarnation c p owner)) (omega arith)), h (PairNumber c p owner) (le-leb placeHead (word (PairNumber c p owner)) (omega arith))))
+        (λ owner l. (h (PairIncarnation c p owner) (le-leb (word (Flag c p)) (word (PairIncarnation c p owner)) (omega arith)), h (PairNumber c p owner) (le-leb (word (Flag c p)) (word (PairNumber c p owner)) (omega arith))))
 
     message-of : (r : ℕ) → messageVector τ r ≡ messageVector σ r
     message-of r =
@@ -121,6 +124,7 @@ chain-words σ c {t} q w =
       incarnation-le = omega (arith, w .incarnation-le);
       live-pos = omega (arith, w .live-pos);
       live-le = omega (arith, w .live-le);
+      first-flag = e (Flag c 0) (w .named, omega arith, omega arith) ∙ w .first-flag;
       near = λ p l. subst Near (sym (placeVector-same (state t) σ e c p (w .named) (omega (arith, w .live-le)))) (w .near p (omega arith));
       used-le = omega (arith, used-agree (state t) σ e, w .used-le);
       message-near = λ r l. subst Near (sym (messageVector-same (state t) σ e r l)) (w .message-near r l);

@@ -1,15 +1,19 @@
--- What the tests over ranges say when they have failed or passed: condemned vectors, conflicts, the lowest condemned place.
-use mathlib.Core.Path.{_≡_, refl, ap, _∙_}
+-- What the tests over ranges say when they have failed or passed: condemned vectors, conflicts, the lowest condemned place; and
+-- what the latest checkpoint is.
+use mathlib.Core.Path.{_≡_, refl, sym, ap, _∙_}
 use mathlib.Core.Bool.{Bool, true, false, not}
 use mathlib.Core.Logic.{_≢_}
-use Prim.Native.Nat.{ℕ, _+_, _-_, _≤_, _<_}
+use Prim.Native.Nat.{ℕ, zero, suc, _+_, _-_, _≤_, _<_, zero-le}
+use native.Mathlib.Decide.{ℕ-discrete}
 use native.Mathlib.Omega.{arith}
 use borrow.Author.Tests.{ltb-true, ltb-false, eqb-true, eqb-false, ne-eqb, not-true, not-false}
-use Rattle.base.specs.Choice.{_==_, and-left, and-right}
+use Rattle.base.specs.Choice.{_==_, and-left, and-right, cond-ind}
 use Rattle.base.specs.Ranges.{anyb-clear, anyb-some, first-le, first-before, first-hit}
-use Rattle.table.specs.Field.{State, End, LiveCount}
+use Rattle.table.specs.Field.{State, End, LiveCount, Flag}
 use Rattle.table.specs.Layout.{controllers}
+use Rattle.table.specs.Numbering.{numberOf, number-from}
 use Rattle.rules.specs.Vector.{Pair, Vector, incarnation, number, empty, pairOf, placeVector, condemnedPair, condemned, conflictPair, conflict}
+use Rattle.rules.specs.Shared.{latestFlagged}
 use Rattle.rules.specs.Steps.{lowestCondemned}
 
 -- "the lowest place above 0 whose vector holds a condemned entry", k, or the live count
@@ -32,6 +36,54 @@ lowest σ hearer l =
       before = λ p p1 pk. ap (λ i. condemned σ hearer (placeVector σ hearer i)) (let e : p ≡ 1 + (p - 1) = omega arith in e) ∙ first-before n f (p - 1) (omega arith);
       hit = λ kl. first-hit n f (omega arith);
     }
+
+-- "the highest flagged number on the chain that is at most k", x: the number of one of the first k places, which is flagged, and
+-- none of them that is flagged has a higher one
+pub record Highest (σ : State) (c k x : ℕ) : Type 0 where
+  pub place : ℕ
+  pub below : place < k
+  pub flagged : σ (Flag c place) ≡ 1
+  pub number-is : x ≡ numberOf σ c (place + 1)
+  pub none-higher : (p : ℕ) → p < k → σ (Flag c p) ≡ 1 → numberOf σ c (p + 1) ≤ x
+
+-- a place more, which is not flagged
+highest-more : (σ : State) (c k x : ℕ) → σ (Flag c k) ≢ 1 → Highest σ c k x → Highest σ c (suc k) x
+highest-more σ c k x ne h =
+    record {
+      place = h .place;
+      below = omega (arith, h .below);
+      flagged = h .flagged;
+      number-is = h .number-is;
+      none-higher =
+          λ p l f. elim (ℕ-discrete p k) [
+            | yes e ↦ absurd (ne (ap (λ p. σ (Flag c p)) (sym e) ∙ f))
+            | no e ↦ h .none-higher p (omega arith) f
+          ];
+    }
+
+-- that is what is found where place 0 is flagged
+pub highest : (σ : State) (c k : ℕ) → σ (Flag c 0) ≡ 1 → 1 ≤ k → Highest σ c k (latestFlagged σ c k)
+unfolding latestFlagged
+highest σ c zero f l = absurd (omega arith)
+highest σ c (suc p) f l =
+    cond-ind (Highest σ c (suc p)) (σ (Flag c p) == 1)
+    (λ e. record {
+      place = p;
+      below = omega arith;
+      flagged = eqb-true _ _ e;
+      number-is = refl;
+      none-higher = λ q u _. omega (arith, number-from σ c (q + 1), number-from σ c (p + 1));
+    })
+    (λ e. let ne = eqb-false (σ (Flag c p)) 1 e in
+    highest-more σ c p _ ne (highest σ c p f (elim (ℕ-discrete p 0) [ yes z ↦ absurd (ne (ap (λ p. σ (Flag c p)) z ∙ f)) | no z ↦ omega arith ])))
+
+-- the latest checkpoint among the first k places has a number of theirs
+pub flagged-le : (σ : State) (c k : ℕ) → latestFlagged σ c k ≤ numberOf σ c k
+unfolding latestFlagged
+flagged-le σ c zero = zero-le
+flagged-le σ c (suc p) =
+    cond-ind (λ x. x ≤ numberOf σ c (suc p)) (σ (Flag c p) == 1) (λ e. omega (arith, number-from σ c (p + 1), number-from σ c (suc p)))
+    (λ e. omega (arith, flagged-le σ c p, number-from σ c p, number-from σ c (suc p)))
 
 -- a pair that is not condemned is at most the end word, if there is one; a condemned one exceeds it
 clear-pair : (σ : State) (holder owner : ℕ) (p : Pair) → condemnedPair σ holder owner p ≡ false → σ (End holder owner (incarnation p)) ≢ 0 → number p ≤ σ (End holder owner (incarnation p))

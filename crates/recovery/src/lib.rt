@@ -8,6 +8,7 @@ ghost use Rattle.table.specs.Change.{put};
 ghost use Rattle.table.specs.Layout.{controllers, incarnations, tableWords};
 ghost use Rattle.table.specs.Words.{state, words};
 ghost use Rattle.rules.specs.Limits.{house};
+ghost use Rattle.rules.specs.Shared.{latestFlagged};
 ghost use Rattle.rules.specs.Steps.{crashRefusals, crashed, stepCrash, noted, rolledBack, hear, hearRefusals, stepHear};
 ghost use Rattle.rules.specs.Step.{out, written};
 ghost use Rattle.laws.specs.Answering.{Lent};
@@ -82,14 +83,14 @@ pub fn roll_back(t: &mut [u32], hearer: usize, k: u32)
     restart::remove_intervals(t, hearer, k);
 }
 
-// The same, with the answer to it.
-pub fn undo(t: &mut [u32], hearer: usize, k: u32) -> Answer
-    requires { ⌜ (length (now t) ≡ tableWords) × Starts (state (now t)) hearer k ⌝ }
+// The same, with the answer to it; `flagged` is the number of the latest checkpoint that is kept.
+pub fn undo(t: &mut [u32], hearer: usize, k: u32, flagged: u32) -> Answer
+    requires { ⌜ (length (now t) ≡ tableWords) × Starts (state (now t)) hearer k × (flagged ≡ latestFlagged (state (now t)) hearer k) ⌝ }
     ensures { λ a. ⌜ out a (now (t .exit)) ≡ written (undoing (state (now (t .entry))) hearer k) ⌝ }
 {
     let live = table::live_count(t, hearer);
     let x = table::number_of(t, hearer, k);
-    let again = restart::replay(t, hearer, k);
+    let again = x - flagged;
     roll_back(t, hearer, k);
     Answer::Rolled(hearer as u32, x, live - k, again)
 }
@@ -144,15 +145,15 @@ pub fn hear_crash(t: &mut [u32], hearer: usize, owner: usize, i: usize) -> Answe
 {
     let known = table::known(t, hearer, owner, i);
     note(t, hearer, owner, i);
-    let p = interval::lowest_condemned(t, hearer);
-    if table::live_count(t, hearer) as usize <= p {
+    let stop = interval::lowest_condemned(t, hearer);
+    if table::live_count(t, hearer) as usize <= stop.place {
         return Answer::Heard(hearer as u32);
     }
     if table::LAST_INCARNATION <= table::incarnation(t, hearer) {
         take_back(t, hearer, owner, i, known);
         return Answer::Refused(refusal::INCARNATIONS_USED_UP);
     }
-    undo(t, hearer, p as u32)
+    undo(t, hearer, stop.place as u32, stop.flagged)
 }
 
 // H, on a table in form.

@@ -1,29 +1,20 @@
 -- The replay figure, and what starting anew and removing intervals write, one call after the other.
 use mathlib.Core.Path.{_≡_, refl, sym, ap, ap₂, _∙_, subst}
 use mathlib.Core.List.{List}
-use Prim.Native.Nat.{ℕ, zero, suc, _+_, _-_, _≤_, _<_, zero-le}
+use Prim.Native.Nat.{ℕ, _+_, _-_, _<_}
 use native.Mathlib.Omega.{arith}
 use lib.ListN.{set}
-use Rattle.base.specs.Choice.{_==_, cond-ind}
-use Rattle.table.specs.Field.{State, Known, OfPlace, Incarnation, LiveCount, StableCount, Flag}
+use Rattle.table.specs.Field.{State, Known, OfPlace, Incarnation, LiveCount, StableCount}
 use Rattle.table.specs.Change.{put, putPart, clearPlaces}
 use Rattle.table.specs.Layout.{controllers}
 use Rattle.table.specs.Words.{state, words, agree-words, called, then-put, then-part}
-use Rattle.table.specs.Numbering.{numberOf, number-from}
+use Rattle.table.specs.Numbering.{numberOf}
 use Rattle.rules.specs.Vector.{Vector, pair, placeVector, filtered}
 use Rattle.rules.specs.Shared.{placeRecord, newVector, placed, entered, restarted, dropHeld, startAnew, causes, removed, latestFlagged, replayed}
 use Rattle.laws.specs.Facts.{Near}
 use Rattle.laws.specs.Agree.{agree-dropHeld, agree-entered}
 use Rattle.laws.specs.Chain.{Starts, starts-words, starts-causes}
 use Rattle.laws.specs.Kept.{then-start}
-
--- the latest checkpoint among the first k places has a number of theirs
-pub flagged-le : (σ : State) (c k : ℕ) → latestFlagged σ c k ≤ numberOf σ c k
-unfolding latestFlagged
-flagged-le σ c zero = zero-le
-flagged-le σ c (suc p) =
-    cond-ind (λ x. x ≤ numberOf σ c (suc p)) (σ (Flag c p) == 1) (λ e. omega (arith, number-from σ c (p + 1), number-from σ c (suc p)))
-    (λ e. omega (arith, flagged-le σ c p, number-from σ c p, number-from σ c (suc p)))
 
 -- the replay figure from its two numbers
 pub replay-is : (σ : State) (c k x y : ℕ) → x ≡ numberOf σ c k → y ≡ latestFlagged σ c k → x - y ≡ replayed σ c k

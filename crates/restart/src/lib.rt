@@ -1,4 +1,4 @@
-// What a crash and a rollback share: how many intervals are replayed, starting anew, and removing intervals.
+// How many intervals a crash has replayed; and what a crash and a rollback share: starting anew, and removing intervals.
 ghost use mathlib.Core.Path.{_≡_};
 ghost use Prim.Native.Nat.{_≤_, _<_};
 ghost use lib.ListN.{length};

@@ -6,11 +6,11 @@ use mathlib.Core.List.{List, [], _∷_, map}
 use Prim.Native.Nat.{ℕ}
 use lib.Count.{onesIn, ones}
 use lib.ListN.{set, replicate}
-use Rattle.base.specs.Ranges.{anyb}
+use Rattle.base.specs.Ranges.{anyb, first}
 use Rattle.base.specs.Lists.{tab}
 use Rattle.base.specs.Cases.{firstOf}
 use Rattle.base.specs.Splice.{splice}
-use Rattle.table.specs.Field.{State, Known, End, SentCount, Degree, LiveCount, StableCount, Cause, MessageState, Receiver, SendingNumber, Payload, MessagePairNumber, desk, same}
+use Rattle.table.specs.Field.{State, Known, End, SentCount, Degree, LiveCount, StableCount, Cause, Flag, PairNumber, MessageState, Receiver, SendingNumber, Payload, MessagePairNumber, desk, same}
 use Rattle.table.specs.Change.{blank, put, putPart, clearPlaces, putStates}
 use Rattle.table.specs.Numbering.{numberOf, used, messageOf}
 use Rattle.rules.specs.Limits.{house, lastEntry}
@@ -18,11 +18,11 @@ use Rattle.rules.specs.Refusal.{LEDGER-USED-UP}
 use Rattle.rules.specs.Vector.{placeVector, messageVector, flat, knownStable, filterPair, filtered, condemnedPair, condemned, maskTo, mask}
 use Rattle.rules.specs.Form.{stateHeld, stateReleased, stateDropped, statePublished, stateOk}
 use Rattle.rules.specs.Ledger.{countAt, ledgerWords, countOf, appended, blankLedger}
-use Rattle.rules.specs.Shared.{placeRecord, logged, loggedTo, causing, causedIn, causesIn, causes, offeredAgain, newVector, placed, entered, restarted, heldOrDropped, dropHeld, startAnew, removed}
-use Rattle.rules.specs.Steps.{refusingBoth, openHouse, stepOpen, letOut, mayGo, release, crashed, rolledBack}
+use Rattle.rules.specs.Shared.{placeRecord, logged, loggedTo, causing, causedIn, causesIn, causes, offeredAgain, newVector, placed, entered, restarted, heldOrDropped, dropHeld, startAnew, removed, latestFlagged, replayed}
+use Rattle.rules.specs.Steps.{refusingBoth, openHouse, stepOpen, letOut, mayGo, release, crashed, noted, lowestCondemned, rolledBack, hear}
 use Rattle.rules.specs.Report.{report}
 use Rattle.rules.specs.Starred.{Row, _is_, no, yes, truth, answer}
-use Rattle.rules.specs.declared.Answer.the-variants.{Released, Held, Refused}
+use Rattle.rules.specs.declared.Answer.the-variants.{Released, Held, Rolled, Refused}
 
 -- message 1, in record 0, is from controller 0, of degree 0, and has the pair (0,2) of controller 1, which controller 0 knows to be stable
 abbrev since-logged : State
@@ -67,6 +67,11 @@ used-before = set (replicate (ledgerWords house) 0) countAt 1
 abbrev published-taken : State
 published-taken = put (put one-taken (Receiver 0) desk) (MessageState 0) statePublished
 
+-- controller 0 has four live intervals, and the first, second and fourth are checkpoints; the fourth rests on the second interval of
+-- controller 1, which kept only its first in a crash
+abbrev one-orphan : State
+one-orphan = put (put (put (put (put (put blank (LiveCount 0) 4) (Flag 0 0) 1) (Flag 0 1) 1) (Flag 0 3) 1) (PairNumber 0 3 1) 2) (End 1 1 0) 1
+
 abbrev told-apart : List Row
 told-apart =
     -- "Counting stored pairs at release instead of filtered ones": it would be held.
@@ -101,8 +106,14 @@ told-apart =
     ∷ (truth (stateOk true stateReleased) is no)
     -- W2: a message to the desk changed as a cause.
     ∷ ((crashed published-taken 0 (MessageState 0) ∷ []) is (statePublished ∷ []))
+    -- W3: replayed from the checkpoint of the condemned place itself, or from the first place's though a later one is kept.
+    ∷ (answer (hear one-orphan 0 1 0 .answer) is answer (Rolled 0 3 1 1))
+    -- W3: the first place's checkpoint left out.
+    ∷ (answer (hear (put one-orphan (Flag 0 1) 0) 0 1 0 .answer) is answer (Rolled 0 3 1 2))
+    -- W3: a condemned place passed over: the second interval rests on lost work, too.
+    ∷ (answer (hear (put one-orphan (PairNumber 0 1 1) 2) 0 1 0 .answer) is answer (Rolled 0 1 3 0))
     ∷ []
 
 pub told-apart-hold : map (λ (x : Row). x .given) told-apart ≡ map (λ (x : Row). x .said) told-apart
-unfolding put same putPart clearPlaces putStates tab anyb numberOf used messageOf placeVector messageVector flat knownStable filterPair filtered condemnedPair condemned maskTo mask placeRecord logged loggedTo causing causedIn causesIn causes offeredAgain newVector placed entered restarted heldOrDropped dropHeld startAnew removed stateOk appended blankLedger splice firstOf refusingBoth openHouse stepOpen letOut mayGo release crashed rolledBack report onesIn ones
+unfolding put same putPart clearPlaces putStates tab anyb numberOf used messageOf placeVector messageVector flat knownStable filterPair filtered condemnedPair condemned maskTo mask placeRecord logged loggedTo causing causedIn causesIn causes offeredAgain newVector placed entered restarted heldOrDropped dropHeld startAnew removed latestFlagged replayed stateOk appended blankLedger splice firstOf refusingBoth openHouse stepOpen letOut mayGo release crashed noted lowestCondemned rolledBack hear report first onesIn ones
 told-apart-hold = refl

@@ -7,15 +7,23 @@ ghost use lib.Dec.{leb};
 ghost use lib.ListN.{length};
 ghost use Rattle.table.specs.Layout.{controllers, incarnations, places, messages, vectorWords, tableWords};
 ghost use Rattle.table.specs.Words.{state};
-ghost use Rattle.rules.specs.Vector.{incarnation, placeVector, messageVector, flat, filterPair, filtered, condemnedPair, condemned, mask, conflictPair, conflict, mergePair, merged};
+ghost use Rattle.rules.specs.Vector.{incarnation, pairOf, placeVector, messageVector, flat, filterPair, filtered, condemnedPair, condemned, mask, conflictPair, conflict, mergePair, merged};
 ghost use Rattle.laws.specs.Facts.{Near};
-ghost use Rattle.vector.specs.At.{vectorAt};
+ghost use Rattle.vector.specs.At.{pairAt, vectorAt};
 
 // Incarnation and number.
 pub type Pair = [u32; 2];
 
 // The pair of each owner.
 pub type Vector = [Pair; table::CONTROLLERS];
+
+// The pair of `owner` in the vector whose words begin at word `at`.
+pub fn pair_at(t: &[u32], at: usize, owner: usize) -> Pair
+    requires { ⌜ (at + vectorWords ≤ length (now t)) × (owner < controllers) ⌝ }
+    ensures { λ p. ⌜ p ≡ pairAt (now (t .entry)) at owner ⌝ }
+{
+    [t[at + 2 * owner], t[at + 2 * owner + 1]]
+}
 
 // The vector whose words begin at word `at`.
 pub fn vector_at(t: &[u32], at: usize) -> Vector
@@ -25,7 +33,7 @@ pub fn vector_at(t: &[u32], at: usize) -> Vector
     let mut v = [[0u32; 2]; table::CONTROLLERS];
     let mut owner = 0;
     while owner < table::CONTROLLERS {
-        let p = [t[at + 2 * owner], t[at + 2 * owner + 1]];
+        let p = pair_at(t, at, owner);
         v[owner] = p;
         owner += 1;
     }
@@ -37,6 +45,14 @@ pub fn place_vector(t: &[u32], c: usize, p: usize) -> Vector
     ensures { λ v. ⌜ v ≡ placeVector (state (now (t .entry))) c p ⌝ }
 {
     vector_at(t, table::place_vector_at(c, p))
+}
+
+// The pair of `owner` in the vector of a place; the other pairs are not looked at.
+pub fn place_pair(t: &[u32], c: usize, p: usize, owner: usize) -> Pair
+    requires { ⌜ (length (now t) ≡ tableWords) × (c < controllers) × (p < places) × (owner < controllers) ⌝ }
+    ensures { λ q. ⌜ q ≡ pairOf (placeVector (state (now (t .entry))) c p) owner ⌝ }
+{
+    pair_at(t, table::place_vector_at(c, p), owner)
 }
 
 pub fn message_vector(t: &[u32], r: usize) -> Vector

@@ -1,47 +1,54 @@
 -- On the noted table the walk finds the place that the rule names: none (hear-none), one too late (hear-late), or one from which
 -- on intervals are undone (hear-undone).
 use borrow.Author.Needs.{needs}
-use Rattle.recovery.specs.Hearing.{Walked, heard-chain, hear-none, hear-late, hear-starts, hear-undone}
+use Rattle.recovery.specs.Hearing.{Walked, heard-chain, heard-long, hear-none, hear-late, hear-starts, hear-undone}
 use Rattle.recovery.proofs.hear_crash.Statement.{statement}
 use Rattle.recovery.proofs.hear_crash.Tie as tie
 
 -- what is known where the walk has found a place
 walked : (c : tie.After-lowest-condemned) → let n = c .before .before .before .before in
     let s = n .before .before .before .before .before .args in
-    Walked (s .t .now) (n .note .last .0) (s .hearer) (s .owner) (s .i) (n .before .before .known .result) (c .lowest-condemned .result)
+    Walked (s .t .now) (n .note .last .0) (s .hearer) (s .owner) (s .i) (n .before .before .known .result) (c .lowest-condemned .result .place)
 walked c =
     let n = c .before .before .before .before in
     record {
       hears = n .before .before .before .before .before .pre;
       known-is = n .before .before .known .ensures;
       noted-is = n .note .ensures;
-      place-is = c .lowest-condemned .ensures;
+      place-is = c .lowest-condemned .ensures .0;
     }
 
 lowest-condemned-requires : tie.Need-lowest-condemned-requires
 lowest-condemned-requires c κs = (search needs, search heard-chain)
 
 returns : tie.Need-returns
-returns c = hear-none (walked (c .before .before .before)) (c .before .live-count .ensures) (c .if1 .taken)
+returns c =
+    let read = c .before .before in
+    hear-none (walked (read .before .before)) (read .live-count .ensures) (c .if1 .taken)
 
 returns-2 : tie.Need-returns-2
 returns-2 c =
     let late = c .before .before .before .before in
     let some = late .before .before .before in
-    hear-late (walked (some .before .before .before)) (some .before .live-count .ensures) (some .if1 .left) (late .before .incarnation .ensures) (late .if2 .taken)
+    let read = some .before .before in
+    hear-late (walked (read .before .before)) (read .live-count .ensures) (some .if1 .left) (late .before .incarnation .ensures) (late .if2 .taken)
     (c .before .before .take-back .ensures)
 
 undo-requires : tie.Need-undo-requires
 undo-requires c κs =
-    let some = c .before .before .before .before in
-    let w = walked (some .before .before .before) in
-    (search needs, hear-starts w (some .before .live-count .ensures) (some .if1 .left) (c .before .before .incarnation .ensures) (c .before .if2 .left))
+    let early = c .before .before in
+    let some = early .before .before .before in
+    let read = some .before .before in
+    let stop = read .before .before in
+    let w = walked stop in
+    (heard-long w, hear-starts w (read .live-count .ensures) (some .if1 .left) (early .before .incarnation .ensures) (early .if2 .left), stop .lowest-condemned .ensures .1)
 
 returns-3 : tie.Need-returns-3
 returns-3 c =
-    let early = c .before .before .before .before in
+    let early = c .before .before .before .before .before in
     let some = early .before .before .before in
-    hear-undone (walked (some .before .before .before)) (some .before .live-count .ensures) (some .if1 .left) (early .before .incarnation .ensures) (early .if2 .left)
+    let read = some .before .before in
+    hear-undone (walked (read .before .before)) (read .live-count .ensures) (some .if1 .left) (early .before .incarnation .ensures) (early .if2 .left)
     (c .before .before .undo .ensures)
 
 pub hear-crash-spec : {M : Type 1} → statement M

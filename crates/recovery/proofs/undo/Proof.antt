@@ -1,8 +1,17 @@
--- The answer's numbers are read before the words change (undo-done).
+-- The answer's numbers are read before the words change (undo-done); the latest checkpoint has a number of the kept intervals
+-- (flagged-le).
+use native.Mathlib.Omega.{arith}
 use borrow.Author.Needs.{needs}
+use Rattle.table.specs.Words.{state}
+use Rattle.laws.specs.Found.{flagged-le}
 use Rattle.recovery.specs.Rolling.{undo-done}
 use Rattle.recovery.proofs.undo.Statement.{statement}
 use Rattle.recovery.proofs.undo.Tie as tie
+
+sub-again : tie.Need-sub-again
+sub-again c =
+    let s = c .before .before .before .before .before in
+    omega (arith, c .number-of .ensures, s .pre .2, flagged-le (state (s .args .t .now)) (s .args .hearer) (s .args .k))
 
 returns : tie.Need-returns
 returns c = search undo-done
@@ -11,5 +20,5 @@ pub undo-spec : {M : Type 1} → statement M
 undo-spec =
     tie.close
     (tie.spec
-    (λ c κs. search needs) (λ c κs. search needs) (λ c κs. search needs) (λ c κs. search needs)
-    (λ c. search needs) (λ c. search needs) (λ c. search needs) returns)
+    (λ c κs. search needs) (λ c κs. search needs) sub-again (λ c κs. search needs) (λ c. search needs)
+    (λ c. search needs) (λ c. search needs) returns)

@@ -2,7 +2,8 @@
 use native.Mathlib.Omega.{arith}
 use borrow.Author.Needs.{needs}
 use Rattle.table.specs.Words.{state}
-use Rattle.restart.specs.Anew.{flagged-le, replay-is}
+use Rattle.laws.specs.Found.{flagged-le}
+use Rattle.restart.specs.Anew.{replay-is}
 use Rattle.restart.proofs.replay.Statement.{statement}
 use Rattle.restart.proofs.replay.Tie as tie
 
