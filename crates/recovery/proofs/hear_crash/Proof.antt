@@ -1,5 +1,5 @@
 -- On the noted table the walk finds the place that the rule names: none (hear-none), one too late (hear-late), or one from which
--- on intervals are undone (hear-undone).
+-- on intervals are undone (hear-undone); its figure is the one that `undo` asks for.
 use borrow.Author.Needs.{needs}
 use Rattle.recovery.specs.Hearing.{Walked, heard-chain, heard-long, hear-none, hear-late, hear-starts, hear-undone}
 use Rattle.recovery.proofs.hear_crash.Statement.{statement}
