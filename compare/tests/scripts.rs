@@ -27,10 +27,11 @@ fn listing_a() -> Vec<(String, String)> {
 }
 
 /// The examples that README and the guide show: Listing A, the worked example of the method's paper, a
-/// message that is offered again after a crash, and readings for the desk.
+/// message that is offered again after a crash, readings for the desk, and a rollback that replays from a
+/// later checkpoint.
 #[test]
 fn stored_examples_are_answered_as_stored() {
-    for name in ["listing_a", "paper", "offered_again", "desk"] {
+    for name in ["listing_a", "paper", "offered_again", "desk", "replayed"] {
         let [script, expected] = stored(name);
         assert_eq!(played(&script), expected, "{name}");
         assert_eq!(lines::run(&script), expected, "{name}");
