@@ -17,7 +17,7 @@ use Rattle.table.specs.Numbering.{numberOf}
 use Rattle.rules.specs.Vector.{Pair, Vector, incarnation, pairOf, placeVector, condemnedPair, condemned}
 use Rattle.rules.specs.Shared.{latestFlagged}
 use Rattle.rules.specs.Steps.{lowestCondemned}
-use Rattle.laws.specs.Found.{Highest, highest}
+use Rattle.laws.specs.Found.{Highest, highest, highest-only}
 use Rattle.laws.specs.Chain.{Chain}
 
 -- The walk of H along the hearer's `live` intervals has come to place p, with `flagged` as its running figure. W3: "At each place the
@@ -27,7 +27,7 @@ pub record Come (t : List ℕ) (hearer live flagged p : ℕ) : Type 0 where
   -- "no earlier place above 0 holds a condemned entry"
   pub clean : (q : ℕ) → q < p → 1 ≤ q → condemned (state t) hearer (placeVector (state t) hearer q) ≡ false
   -- "the figure is the highest flagged number below this place"
-  pub figure : flagged ≡ latestFlagged (state t) hearer p
+  pub figure : Highest (state t) hearer p flagged
   -- p is on the chain, or the first place past it
   pub pos : 1 ≤ p
   pub le : p ≤ live
@@ -35,15 +35,27 @@ pub record Come (t : List ℕ) (hearer live flagged p : ℕ) : Type 0 where
   pub chain : Chain (state t) hearer
   pub long : length t ≡ tableWords
 
--- So the figure is the number of a flagged place below p, and no flagged place below p has a higher one.
-pub come-highest : (t : List ℕ) (hearer live flagged p : ℕ) → Come t hearer live flagged p → Highest (state t) hearer p flagged
-come-highest t hearer live flagged p w = subst (Highest (state t) hearer p) (sym (w .figure)) (highest (state t) hearer p (w .chain .first-flag) (w .pos))
+-- That is the number from which the rule counts what is replayed.
+pub come-latest : (t : List ℕ) (hearer live flagged p : ℕ) → Come t hearer live flagged p → flagged ≡ latestFlagged (state t) hearer p
+come-latest t hearer live flagged p w = highest-only (state t) hearer p flagged _ (w .figure) (highest (state t) hearer p (w .chain .first-flag) (w .pos))
+
+-- And back: where the rule's number was read, it is the highest.
+come-highest : (t : List ℕ) (hearer flagged p : ℕ) → Chain (state t) hearer → 1 ≤ p → flagged ≡ latestFlagged (state t) hearer p → Highest (state t) hearer p flagged
+come-highest t hearer flagged p w l e = subst (Highest (state t) hearer p) (sym e) (highest (state t) hearer p (w .first-flag) l)
 
 -- at place 1, with the figure of place 0
 pub come-first : (t : List ℕ) (hearer live flagged : ℕ) → length t ≡ tableWords → Chain (state t) hearer → live ≡ state t (LiveCount hearer) →
     flagged ≡ latestFlagged (state t) hearer 1 → Come t hearer live flagged 1
 come-first t hearer live flagged l w e f =
-    record { clean = λ q u h. absurd (omega arith); figure = f; pos = omega arith; le = omega (arith, w .live-pos); live-is = e; chain = w; long = l }
+    record {
+      clean = λ q u h. absurd (omega arith);
+      figure = come-highest t hearer flagged 1 w (omega arith) f;
+      pos = omega arith;
+      le = omega (arith, w .live-pos);
+      live-is = e;
+      chain = w;
+      long = l;
+    }
 
 -- past the chain, which is what the rule gives where no place is condemned
 pub come-end : (t : List ℕ) (hearer live flagged p : ℕ) → Come t hearer live flagged p → live ≤ p → p ≡ lowestCondemned (state t) hearer
@@ -102,7 +114,7 @@ module _ (t : List ℕ) (hearer live flagged p : ℕ) where
   judged-clear owner raised w l e =
       record {
         clean = below-more _ _ (w .come .clean) (λ _. anyb-none _ controllers (λ k h. w .none k (omega arith)));
-        figure = e;
+        figure = come-highest t hearer raised (p + 1) (w .come .chain) (omega arith) e;
         pos = omega arith;
         le = omega (arith, w .on-chain);
         live-is = w .come .live-is;

@@ -9,7 +9,7 @@ ghost use Rattle.table.specs.Words.{state, words};
 ghost use Rattle.rules.specs.Shared.{placeRecord, latestFlagged};
 ghost use Rattle.rules.specs.Steps.{lowestCondemned};
 ghost use Rattle.laws.specs.Chain.{Chain};
-ghost use Rattle.interval.specs.Lent.{zeroWords};
+ghost use Rattle.interval.specs.LentPlaces.{zeroWords};
 
 // The 20 words of a place, lent from inside the table, become an interval's record.
 pub fn write_interval(d: &mut [u32], i: u32, x: u32, cause: u32, flag: u32, v: [[u32; 2]; 8])
@@ -82,7 +82,7 @@ pub fn latest_flagged(t: &[u32], c: usize, k: usize) -> u32
     0
 }
 
-// The same of the places up to p, where `flagged` is that of the places below p: raised if p is flagged.
+// The number of the latest checkpoint among the places up to and with p, from `flagged`, that of the places below p.
 pub fn raise_flagged(t: &[u32], c: usize, p: usize, flagged: u32) -> u32
     requires { ⌜ (length (now t) ≡ tableWords) × (c < controllers) × (p < places) × (flagged ≡ latestFlagged (state (now t)) c p) ⌝ }
     ensures { λ x. ⌜ x ≡ latestFlagged (state (now (t .entry))) c (p + 1) ⌝ }
@@ -100,8 +100,8 @@ pub struct Stop {
     pub flagged: u32,
 }
 
-// The walk of H upwards: to the lowest place above 0 whose vector holds a condemned entry, or past the last live one. What holds at
-// each place that it comes to is `Come` in specs/Walks.antt.
+// The walk of H upwards: to the lowest place above 0 whose vector holds a condemned entry, or past the last live one. The figure
+// begins as that of place 0 alone. What holds at each place that the walk comes to is `Come` in specs/Walks.antt.
 pub fn lowest_condemned(t: &[u32], hearer: usize) -> Stop
     requires { ⌜ (length (now t) ≡ tableWords) × Chain (state (now t)) hearer ⌝ }
     ensures { λ s. ⌜ (s .place ≡ lowestCondemned (state (now (t .entry))) hearer) × (s .flagged ≡ latestFlagged (state (now (t .entry))) hearer (s .place)) ⌝ }

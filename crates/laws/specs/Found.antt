@@ -1,11 +1,13 @@
 -- What the tests over ranges say when they have failed or passed: condemned vectors, conflicts, the lowest condemned place; and
 -- what the latest checkpoint is.
-use mathlib.Core.Path.{_≡_, refl, sym, ap, _∙_}
+use mathlib.Core.Path.{_≡_, refl, ap, _∙_, subst}
 use mathlib.Core.Bool.{Bool, true, false, not}
 use mathlib.Core.Logic.{_≢_}
 use Prim.Native.Nat.{ℕ, zero, suc, _+_, _-_, _≤_, _<_, zero-le}
 use native.Mathlib.Decide.{ℕ-discrete}
+use native.Mathlib.Numerals.{add-one}
 use native.Mathlib.Omega.{arith}
+use borrow.Author.Count.{below-more}
 use borrow.Author.Tests.{ltb-true, ltb-false, eqb-true, eqb-false, ne-eqb, not-true, not-false}
 use Rattle.base.specs.Choice.{_==_, and-left, and-right, cond-ind}
 use Rattle.base.specs.Ranges.{anyb-clear, anyb-some, first-le, first-before, first-hit}
@@ -37,31 +39,32 @@ lowest σ hearer l =
       hit = λ kl. first-hit n f (omega arith);
     }
 
--- "the highest flagged number on the chain that is at most k", x: the number of one of the first k places, which is flagged, and
--- none of them that is flagged has a higher one
+-- "the highest flagged number on the chain that is at most k", x: the number of a flagged place among the first k, and no flagged
+-- one of these has a higher number. (Place p has the number of the (p + 1)-th interval.)
 pub record Highest (σ : State) (c k x : ℕ) : Type 0 where
   pub place : ℕ
   pub below : place < k
-  pub flagged : σ (Flag c place) ≡ 1
+  pub flag-is : σ (Flag c place) ≡ 1
   pub number-is : x ≡ numberOf σ c (place + 1)
   pub none-higher : (p : ℕ) → p < k → σ (Flag c p) ≡ 1 → numberOf σ c (p + 1) ≤ x
 
+-- there is only one
+pub highest-only : (σ : State) (c k x y : ℕ) → Highest σ c k x → Highest σ c k y → x ≡ y
+highest-only σ c k x y h g =
+    omega (arith, h .number-is, g .number-is, g .none-higher (h .place) (omega (arith, h .below)) (h .flag-is), h .none-higher (g .place) (omega (arith, g .below)) (g .flag-is))
+
 -- a place more, which is not flagged
-highest-more : (σ : State) (c k x : ℕ) → σ (Flag c k) ≢ 1 → Highest σ c k x → Highest σ c (suc k) x
+highest-more : (σ : State) (c k x : ℕ) → σ (Flag c k) ≢ 1 → Highest σ c k x → Highest σ c (k + 1) x
 highest-more σ c k x ne h =
     record {
       place = h .place;
       below = omega (arith, h .below);
-      flagged = h .flagged;
+      flag-is = h .flag-is;
       number-is = h .number-is;
-      none-higher =
-          λ p l f. elim (ℕ-discrete p k) [
-            | yes e ↦ absurd (ne (ap (λ p. σ (Flag c p)) (sym e) ∙ f))
-            | no e ↦ h .none-higher p (omega arith) f
-          ];
+      none-higher = below-more _ k (h .none-higher) (λ f. absurd (ne f));
     }
 
--- that is what is found where place 0 is flagged
+-- where place 0 is flagged, the rule finds it
 pub highest : (σ : State) (c k : ℕ) → σ (Flag c 0) ≡ 1 → 1 ≤ k → Highest σ c k (latestFlagged σ c k)
 unfolding latestFlagged
 highest σ c zero f l = absurd (omega arith)
@@ -70,12 +73,13 @@ highest σ c (suc p) f l =
     (λ e. record {
       place = p;
       below = omega arith;
-      flagged = eqb-true _ _ e;
+      flag-is = eqb-true _ _ e;
       number-is = refl;
       none-higher = λ q u _. omega (arith, number-from σ c (q + 1), number-from σ c (p + 1));
     })
     (λ e. let ne = eqb-false (σ (Flag c p)) 1 e in
-    highest-more σ c p _ ne (highest σ c p f (elim (ℕ-discrete p 0) [ yes z ↦ absurd (ne (ap (λ p. σ (Flag c p)) z ∙ f)) | no z ↦ omega arith ])))
+    let pos : 1 ≤ p = elim (ℕ-discrete p 0) [ yes z ↦ absurd (ne (ap (λ p. σ (Flag c p)) z ∙ f)) | no z ↦ omega arith ] in
+    subst (λ k. Highest σ c k (latestFlagged σ c p)) (add-one p) (highest-more σ c p _ ne (highest σ c p f pos)))
 
 -- the latest checkpoint among the first k places has a number of theirs
 pub flagged-le : (σ : State) (c k : ℕ) → latestFlagged σ c k ≤ numberOf σ c k

@@ -25,7 +25,7 @@ use Rattle.rules.specs.declared.Answer.the-variants.{Done, Refused}
 use Rattle.laws.specs.Records.{length-place-record}
 use Rattle.laws.specs.Allowed.{OpenAllowed, openAllowed}
 use Rattle.laws.specs.Answering.{refused-both, granted-both}
-use Rattle.interval.specs.Lent.{zeroWords, zero-at, length-zero}
+use Rattle.interval.specs.LentPlaces.{zeroWords, zero-at, length-zero}
 
 -- σ with controller c begun
 unfoldable pub beginsAt : State → ℕ → ℕ → State

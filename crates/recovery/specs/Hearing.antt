@@ -12,7 +12,7 @@ use Rattle.base.specs.Cases.{Case, firstOf, none, hit, skip}
 use Rattle.table.specs.Field.{Field, State, Known, End, Size, Incarnation, LiveCount, Flag, same}
 use Rattle.table.specs.Change.{put, put-ind, put-other}
 use Rattle.table.specs.Layout.{controllers, incarnations, tableWords}
-use Rattle.table.specs.Words.{state, words, length-words, words-same, Agree, agree-words, agree-put, put-again, then-put}
+use Rattle.table.specs.Words.{state, words, words-same, Agree, agree-words, agree-put, put-again, then-put}
 use Rattle.table.specs.Numbering.{Numbered, numberOf, numbers-put, numbers-trans, number-same}
 use Rattle.rules.specs.Limits.{lastIncarnation}
 use Rattle.rules.specs.Refusal.{CONTROLLER, NO-SUCH-CRASH, ALREADY-HEARD, INCARNATIONS-USED-UP}
@@ -146,9 +146,6 @@ pub record Walked (t t₁ : List ℕ) (hearer owner i known k : ℕ) : Type 0 wh
 module _ {t t₁ : List ℕ} {hearer owner i known k : ℕ} (w : Walked t t₁ hearer owner i known k) where
   abbrev heard : State
   heard = noted (state t) hearer owner i
-
-  pub heard-long : length t₁ ≡ tableWords
-  heard-long = ap length (w .noted-is) ∙ length-words _
 
   chain : Chain (state t₁) hearer
   chain = heard-chain t t₁ hearer owner i (w .hears) (w .noted-is)

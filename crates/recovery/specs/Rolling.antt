@@ -5,7 +5,7 @@ use Prim.Native.Nat.{ℕ, _-_}
 use Rattle.table.specs.Field.{State, LiveCount}
 use Rattle.table.specs.Words.{state, words}
 use Rattle.table.specs.Numbering.{numberOf}
-use Rattle.rules.specs.Shared.{loggedTo, removed, latestFlagged, replayed}
+use Rattle.rules.specs.Shared.{loggedTo, removed, replayed}
 use Rattle.rules.specs.Steps.{After, after, rolledBack}
 use Rattle.rules.specs.Step.{out, written}
 use Rattle.rules.specs.declared.Answer.the-variants.{Rolled}
@@ -28,7 +28,6 @@ module _ (t t₁ : List ℕ) (hearer j k : ℕ) (s : Starts (state t) hearer k) 
 abbrev pub undoing : State → ℕ → ℕ → After
 undoing σ hearer k = after (Rolled hearer (numberOf σ hearer k) (σ (LiveCount hearer) - k) (replayed σ hearer k)) (rolledBack σ hearer k)
 
-pub undo-done : (t u : List ℕ) (hearer live k x flagged : ℕ) → live ≡ state t (LiveCount hearer) → x ≡ numberOf (state t) hearer k → flagged ≡ latestFlagged (state t) hearer k →
-    u ≡ words (rolledBack (state t) hearer k) → out (Rolled hearer x (live - k) (x - flagged)) u ≡ written (undoing (state t) hearer k)
-unfolding replayed
-undo-done t u hearer live k x flagged el ex ef e d = out (Rolled hearer (ex d) (el d - k) (ex d - ef d)) (e d)
+pub undo-done : (t u : List ℕ) (hearer live k x again : ℕ) → live ≡ state t (LiveCount hearer) → x ≡ numberOf (state t) hearer k → again ≡ replayed (state t) hearer k →
+    u ≡ words (rolledBack (state t) hearer k) → out (Rolled hearer x (live - k) again) u ≡ written (undoing (state t) hearer k)
+undo-done t u hearer live k x again el ex ea e d = out (Rolled hearer (ex d) (el d - k) (ea d)) (e d)

@@ -1,5 +1,5 @@
 -- Each turn stores a 0, so that the part is filled with zeros from the front (Filled).
-use Rattle.interval.specs.Lent.{zeroWords, zero-filled}
+use Rattle.interval.specs.LentPlaces.{zeroWords, zero-filled}
 use Rattle.base.specs.Lists.{Filled, filled-none, filled-more}
 use lib.ListN.{length}
 use borrow.Author.Needs.{needs}

@@ -1,5 +1,5 @@
 -- The lent part comes back as zeros, and the other words are as they were (lent-cleared).
-use Rattle.interval.specs.Lent.{lent-cleared}
+use Rattle.interval.specs.LentPlaces.{lent-cleared}
 use lib.ListN.{length-take, length-drop}
 use native.Mathlib.Omega.{arith}
 use borrow.Author.Needs.{needs}

@@ -1,7 +1,7 @@
 -- At place p none below it holds a condemned entry, and the figure is the highest flagged number below it (Come); at each owner
 -- none before it condemns p (Judged).
 use Rattle.table.specs.Layout.{controllers}
-use Rattle.interval.specs.Walks.{Come, come-first, come-end, Judged, judged-first, place-lt, entry-near, judged-more, judged-hit, judged-clear}
+use Rattle.interval.specs.Walks.{Come, come-latest, come-first, come-end, Judged, judged-first, place-lt, entry-near, judged-more, judged-hit, judged-clear}
 use Prim.Native.Nat.{_-_}
 use native.Mathlib.Omega.{arith}
 use borrow.Author.Needs.{needs}
@@ -53,19 +53,19 @@ loop-again c =
 raise-flagged-requires : tie.Need-raise-flagged-requires Inv-loop μ-loop Inv-places μ-places
 raise-flagged-requires c κs =
     let w = c .before .loop .inv in
-    (w .come .long, w .come .chain .named, place-lt _ _ _ _ _ _ w, w .come .figure)
+    (w .come .long, w .come .chain .named, place-lt _ _ _ _ _ _ w, come-latest _ _ _ _ _ (w .come))
 
 places-again : tie.Need-places-again Inv-loop μ-loop Inv-places μ-places
 places-again c = judged-clear _ _ _ _ _ _ _ (c .before .before .loop .inv) (c .before .loop-test .left) (c .raise-flagged .ensures)
 
 returns : tie.Need-returns Inv-loop μ-loop Inv-places μ-places
-returns c = let w = c .before .places .inv in (come-end _ _ _ _ _ w (c .if1 .taken), w .figure)
+returns c = let w = c .before .places .inv in (come-end _ _ _ _ _ w (c .if1 .taken), come-latest _ _ _ _ _ w)
 
 returns-2 : tie.Need-returns-2 Inv-loop μ-loop Inv-places μ-places
 returns-2 c =
     let l = c .before .before .before in
     let w = l .before .loop .inv in
-    (judged-hit _ _ _ _ _ _ _ _ w (l .loop-test .taken) (c .before .before .place-pair .ensures) (c .before .condemned-pair .ensures) (c .if2 .taken), w .come .figure)
+    (judged-hit _ _ _ _ _ _ _ _ w (l .loop-test .taken) (c .before .before .place-pair .ensures) (c .before .condemned-pair .ensures) (c .if2 .taken), come-latest _ _ _ _ _ (w .come))
 
 pub lowest-condemned-spec : {M : Type 1} → statement M
 lowest-condemned-spec =

@@ -1,5 +1,5 @@
 -- The lent part comes back as the record, and the other words are as they were (lent-interval).
-use Rattle.interval.specs.Lent.{lent-interval}
+use Rattle.interval.specs.LentPlaces.{lent-interval}
 use mathlib.Core.Path.{refl}
 use borrow.Author.Needs.{needs}
 use Rattle.interval.proofs.write_place.Statement.{statement}

@@ -1,6 +1,6 @@
 -- At turn c the table is that of the opened state with only the controllers below c begun (openedTo).
 use Rattle.table.specs.Words.{words, long-of}
-use Rattle.interval.specs.Lent.{zeroWords}
+use Rattle.interval.specs.LentPlaces.{zeroWords}
 use Rattle.opening.specs.Opened.{openedTo, opened-none, opened-next, opened-all}
 use borrow.Author.Needs.{needs}
 use mathlib.Core.Path.{_≡_, ap, _∙_}

@@ -1,7 +1,7 @@
 -- On the noted table the walk finds the place that the rule names: none (hear-none), one too late (hear-late), or one from which
 -- on intervals are undone (hear-undone); its figure is the one that `undo` asks for.
 use borrow.Author.Needs.{needs}
-use Rattle.recovery.specs.Hearing.{Walked, heard-chain, heard-long, hear-none, hear-late, hear-starts, hear-undone}
+use Rattle.recovery.specs.Hearing.{Walked, heard-chain, hear-none, hear-late, hear-starts, hear-undone}
 use Rattle.recovery.proofs.hear_crash.Statement.{statement}
 use Rattle.recovery.proofs.hear_crash.Tie as tie
 
@@ -41,7 +41,7 @@ undo-requires c κs =
     let read = some .before .before in
     let stop = read .before .before in
     let w = walked stop in
-    (heard-long w, hear-starts w (read .live-count .ensures) (some .if1 .left) (early .before .incarnation .ensures) (early .if2 .left), stop .lowest-condemned .ensures .1)
+    (search needs, hear-starts w (read .live-count .ensures) (some .if1 .left) (early .before .incarnation .ensures) (early .if2 .left), stop .lowest-condemned .ensures .1)
 
 returns-3 : tie.Need-returns-3
 returns-3 c =

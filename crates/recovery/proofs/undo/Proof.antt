@@ -1,9 +1,10 @@
 -- The answer's numbers are read before the words change (undo-done); the latest checkpoint has a number of the kept intervals
--- (flagged-le).
+-- (flagged-le), so that the difference is the one of the definition (replay-is).
 use native.Mathlib.Omega.{arith}
 use borrow.Author.Needs.{needs}
 use Rattle.table.specs.Words.{state}
 use Rattle.laws.specs.Found.{flagged-le}
+use Rattle.restart.specs.Anew.{replay-is}
 use Rattle.recovery.specs.Rolling.{undo-done}
 use Rattle.recovery.proofs.undo.Statement.{statement}
 use Rattle.recovery.proofs.undo.Tie as tie
@@ -14,7 +15,7 @@ sub-again c =
     omega (arith, c .number-of .ensures, s .pre .2, flagged-le (state (s .args .t .now)) (s .args .hearer) (s .args .k))
 
 returns : tie.Need-returns
-returns c = search undo-done
+returns c = search (undo-done, replay-is)
 
 pub undo-spec : {M : Type 1} → statement M
 undo-spec =
