@@ -11,15 +11,15 @@ use Rattle.rules.specs.Steps.{degreeRefusals, logRefusals, tellRefusals}
 use Rattle.laws.specs.Facts.{form, controllerForm}
 use Rattle.laws.specs.Allowed.{degreeAllowed, logAllowed, tellAllowed}
 use Rattle.laws.specs.Answering.{Lent}
-use Rattle.laws.specs.Chain.{Chain, chain-of}
+use Rattle.laws.specs.Chain.{Counts, chain-counts, chain-of}
 
--- a controller below the size n that was read has its chain, and its stable count is at most its live count
+-- a controller below the size n that was read has its counts, and its stable count is at most its live count
 module _ (t : List ℕ) (l : Lent t) (n c : ℕ) (e : n ≡ state t Size) (h : c < n) where
-  pub sized-chain : Chain (state t) c
-  sized-chain = chain-of t c l (omega arith)
+  pub sized-counts : Counts (state t) c
+  sized-counts = chain-counts (chain-of t c l (omega arith))
 
   pub sized-named : c < controllers
-  sized-named = sized-chain .named
+  sized-named = sized-counts .named
 
   pub sized-stable : (live stable : ℕ) → live ≡ state t (LiveCount c) → stable ≡ state t (StableCount c) → stable ≤ live
   sized-stable live stable p q = omega (arith, controllerForm (form (state t) (l .good)) c (omega arith) .stable-le)
@@ -29,9 +29,9 @@ module _ (t : List ℕ) (l : Lent t) (n : ℕ) (z : n ≡ 0) where
   pub degree-named : (c k : ℕ) → n ≡ firstOf (degreeRefusals (state t) c k) → c < controllers
   degree-named c k e = chain-of t c l (degreeAllowed (state t) c k (sym z ∙ e) .controller-lt) .named
 
-  -- L: the controller has its chain, and q of its intervals are not stable
-  pub log-chain : (c q : ℕ) → n ≡ firstOf (logRefusals (state t) c q) → Chain (state t) c
-  log-chain c q e = chain-of t c l (logAllowed (state t) c q (sym z ∙ e) .controller-lt)
+  -- L: the controller has its counts, and q of its intervals are not stable
+  pub log-counts : (c q : ℕ) → n ≡ firstOf (logRefusals (state t) c q) → Counts (state t) c
+  log-counts c q e = chain-counts (chain-of t c l (logAllowed (state t) c q (sym z ∙ e) .controller-lt))
 
   pub log-some : (c q : ℕ) → n ≡ firstOf (logRefusals (state t) c q) → q ≤ state t (LiveCount c) - state t (StableCount c)
   log-some c q e = logAllowed (state t) c q (sym z ∙ e) .number-le

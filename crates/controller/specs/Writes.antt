@@ -1,49 +1,25 @@
 -- What each function leaves, from what it has read and what its calls have left.
-use mathlib.Core.Path.{_≡_, ap₂, _∙_}
+use mathlib.Core.Path.{_≡_, _∙_}
 use mathlib.Core.List.{List, _++_}
 use Prim.Native.Nat.{ℕ, _+_, _-_, _≤_, _<_, max}
 use native.Mathlib.Omega.{arith}
 use lib.ListN.{length, take, drop}
-use borrow.Author.Tests.{le-leb, lt-leb, lt-ltb, le-ltb}
+use borrow.Author.Tests.{le-leb, lt-leb}
 use Rattle.base.specs.Cases.{none, hit, skip}
 use Rattle.base.specs.Lists.{length-tab}
-use Rattle.table.specs.Field.{Known, Size, Incarnation, LiveCount, StableCount, Flag}
-use Rattle.table.specs.Change.{put}
+use Rattle.table.specs.Field.{Known, Size, StableCount}
 use Rattle.table.specs.Layout.{controllers, incarnations, tableWords, position}
-use Rattle.table.specs.Words.{state, words, words-state, fits-known, lent-part, then-put}
-use Rattle.table.specs.Numbering.{numberOf}
-use Rattle.rules.specs.Shared.{logged, loggedTo}
+use Rattle.table.specs.Words.{state, words, words-state, fits-known, lent-part}
+use Rattle.rules.specs.Shared.{logged, checkpointed}
 use Rattle.rules.specs.Refusal.{CONTROLLER}
-use Rattle.rules.specs.Steps.{checkpointed, checkpointRefusals, stepCheckpoint, toldRow, told}
+use Rattle.rules.specs.Steps.{checkpointRefusals, stepCheckpoint, toldRow, told}
 use Rattle.rules.specs.Step.{out, written}
 use Rattle.rules.specs.declared.Answer.the-variants.{Done, Refused}
 use Rattle.laws.specs.Answering.{refused, granted, leaves}
 
--- logging: the stable count, and then the known word of the incarnation i, with the number x
-pub writes-logged : (t u w : List ℕ) (c k i x : ℕ) → i ≡ state t (Incarnation c) → x ≡ numberOf (state t) c k →
-    u ≡ words (put (state t) (StableCount c) k) → w ≡ words (put (state u) (Known c c i) x) → w ≡ words (logged (state t) c k)
-unfolding logged
-writes-logged t u w c k i x p q e h =
-    then-put _ (Known c c i) x e h ∙ ap₂ (λ i x. words (put (put (state t) (StableCount c) k) (Known c c i) x)) p q
-
--- "if any": some are not yet stable, or none
-pub logs-some : (t u : List ℕ) (c k n : ℕ) → n ≡ state t (StableCount c) → n < k → u ≡ words (logged (state t) c k) → u ≡ words (loggedTo (state t) c k)
-unfolding loggedTo
-logs-some t u c k n q h e = rw (lt-ltb (state t (StableCount c)) k (omega arith)) e
-
-pub logs-none : (t : List ℕ) (c k n : ℕ) → length t ≡ tableWords → n ≡ state t (StableCount c) → k ≤ n → t ≡ words (loggedTo (state t) c k)
-unfolding loggedTo
-logs-none t c k n l q h = rw (le-ltb (state t (StableCount c)) k (omega arith)) (words-state t l)
-
 -- L, after the stable count was read
 pub writes-oldest : (t u : List ℕ) (c q n : ℕ) → n ≡ state t (StableCount c) → u ≡ words (logged (state t) c (n + q)) → u ≡ words (logged (state t) c (state t (StableCount c) + q))
 writes-oldest t u c q n e h = rw e at h
-
--- C: after the logging, the flag of the newest place
-pub writes-flag : (t u w : List ℕ) (c live : ℕ) → live ≡ state t (LiveCount c) → u ≡ words (loggedTo (state t) c live) → w ≡ words (put (state u) (Flag c (live - 1)) 1) →
-    w ≡ words (checkpointed (state t) c)
-unfolding checkpointed
-writes-flag t u w c live q e h = rw q at (then-put (loggedTo (state t) c live) (Flag c (live - 1)) 1 e h)
 
 -- T: the holder's row of the owner, from word a to word b, was lent and came back as what it is told
 pub writes-told : (t ys row : List ℕ) (owner holder a b : ℕ) → length t ≡ tableWords → owner < controllers → holder < controllers → row ≡ toldRow (state t) owner holder →

@@ -6,11 +6,11 @@ ghost use Rattle.base.specs.Cases.{firstOf};
 ghost use Rattle.table.specs.Field.{LiveCount, StableCount};
 ghost use Rattle.table.specs.Layout.{controllers, tableWords};
 ghost use Rattle.table.specs.Words.{state, words};
-ghost use Rattle.rules.specs.Shared.{logged, loggedTo};
-ghost use Rattle.rules.specs.Steps.{degreeRefusals, logRefusals, tellRefusals, checkpointed, toldRow, told, stepDegree, stepLog, stepCheckpoint, stepTell};
+ghost use Rattle.rules.specs.Shared.{logged};
+ghost use Rattle.rules.specs.Steps.{degreeRefusals, logRefusals, tellRefusals, toldRow, told, stepDegree, stepLog, stepCheckpoint, stepTell};
 ghost use Rattle.rules.specs.Step.{out, written};
 ghost use Rattle.laws.specs.Answering.{Lent};
-ghost use Rattle.laws.specs.Chain.{Chain};
+ghost use Rattle.laws.specs.Chain.{Counts};
 use rules::Answer;
 use rules::refusal;
 
@@ -41,27 +41,6 @@ pub fn set_degree(t: &mut [u32], c: u32, k: u32) -> Answer
     Answer::Done
 }
 
-// The k oldest live intervals of c are stable.
-pub fn log_to(t: &mut [u32], c: usize, k: u32)
-    requires { ⌜ (length (now t) ≡ tableWords) × Chain (state (now t)) c ⌝ }
-    ensures { λ _. ⌜ now (t .exit) ≡ words (logged (state (now (t .entry))) c k) ⌝ }
-{
-    let i = table::incarnation(t, c) as usize;
-    let x = table::number_of(t, c, k);
-    table::set_stable_count(t, c, k);
-    table::set_known(t, c, c, i, x);
-}
-
-// The same, if any of them are not yet stable.
-pub fn log_rest(t: &mut [u32], c: usize, k: u32)
-    requires { ⌜ (length (now t) ≡ tableWords) × Chain (state (now t)) c ⌝ }
-    ensures { λ _. ⌜ now (t .exit) ≡ words (loggedTo (state (now (t .entry))) c k) ⌝ }
-{
-    if table::stable_count(t, c) < k {
-        log_to(t, c, k);
-    }
-}
-
 pub fn log_refusal(t: &[u32], c: u32, q: u32) -> u32
     requires { ⌜ Lent (now t) ⌝ }
     ensures { λ no. ⌜ no ≡ firstOf (logRefusals (state (now (t .entry))) c q) ⌝ }
@@ -79,11 +58,11 @@ pub fn log_refusal(t: &[u32], c: u32, q: u32) -> u32
 
 // The q oldest live intervals of c that are not stable become so.
 pub fn log_oldest(t: &mut [u32], c: usize, q: u32)
-    requires { ⌜ (length (now t) ≡ tableWords) × Chain (state (now t)) c × (q ≤ state (now t) (LiveCount c) - state (now t) (StableCount c)) ⌝ }
+    requires { ⌜ (length (now t) ≡ tableWords) × Counts (state (now t)) c × (q ≤ state (now t) (LiveCount c) - state (now t) (StableCount c)) ⌝ }
     ensures { λ _. ⌜ now (t .exit) ≡ words (logged (state (now (t .entry))) c (state (now (t .entry)) (StableCount c) + q)) ⌝ }
 {
     let stable = table::stable_count(t, c);
-    log_to(t, c, stable + q);
+    checkpoint::log_to(t, c, stable + q);
 }
 
 // L c q, on a table in form.
@@ -99,16 +78,6 @@ pub fn log(t: &mut [u32], c: u32, q: u32) -> Answer
     Answer::Done
 }
 
-// All live intervals of c are logged, and its newest place is flagged.
-pub fn flag_newest(t: &mut [u32], c: usize)
-    requires { ⌜ (length (now t) ≡ tableWords) × Chain (state (now t)) c ⌝ }
-    ensures { λ _. ⌜ now (t .exit) ≡ words (checkpointed (state (now (t .entry))) c) ⌝ }
-{
-    let live = table::live_count(t, c);
-    log_rest(t, c, live);
-    table::set_flag(t, c, live as usize - 1, 1);
-}
-
 // C c, on a table in form.
 pub fn checkpoint(t: &mut [u32], c: u32) -> Answer
     requires { ⌜ Lent (now t) ⌝ }
@@ -117,7 +86,7 @@ pub fn checkpoint(t: &mut [u32], c: u32) -> Answer
     if table::size(t) <= c {
         return Answer::Refused(refusal::CONTROLLER);
     }
-    flag_newest(t, c as usize);
+    checkpoint::flag_newest(t, c as usize);
     Answer::Done
 }
 

@@ -15,22 +15,36 @@ use Rattle.rules.specs.Limits.{house}
 use Rattle.rules.specs.Refusal.{PLACES-USED-UP}
 use Rattle.rules.specs.Vector.{Vector, pair, placeVector, messageVector, filtered, condemned, conflict, merged}
 use Rattle.rules.specs.Form.{stateReleased, stateDelivered, stateDropped}
-use Rattle.rules.specs.Shared.{newestPlace, placeRecord}
+use Rattle.rules.specs.Shared.{newestPlace, placeRecord, capped}
 use Rattle.rules.specs.Steps.{intervalAdded, intervalBegins, deliver, messageRefusals, stepDeliver}
 use Rattle.rules.specs.Step.{out, written}
 use Rattle.rules.specs.declared.Answer.{Answer}
 use Rattle.rules.specs.declared.Answer.the-variants.{Delivered, Dropped, Waits, Refused}
 use Rattle.laws.specs.Facts.{Near}
-use Rattle.laws.specs.Chain.{Chain, Taken}
+use Rattle.laws.specs.Chain.{Counts, counts-words, counts-added, Chain, Taken}
+use Rattle.laws.specs.Kept.{then-capped}
 use Rattle.message.specs.Ready.{message-refused, message-granted, taken-near}
 
--- a new interval of c: its place, the live count and the state of its cause were put
-pub writes-begun : (t u w y : List ℕ) (c m r i live x : ℕ) (v : Vector) → i ≡ state t (Incarnation c) → live ≡ state t (LiveCount c) → x ≡ numberOf (state t) c (live + 1) →
+-- an interval more at c: its place, the live count and the state of its cause were put
+pub writes-added : (t u w y : List ℕ) (c m r i live x : ℕ) (v : Vector) → i ≡ state t (Incarnation c) → live ≡ state t (LiveCount c) → x ≡ numberOf (state t) c (live + 1) →
     u ≡ words (putPart (state t) (OfPlace c live 0) 0 (placeRecord i x m 0 (set v c (pair i x)))) → w ≡ words (put (state u) (LiveCount c) (live + 1)) →
-    y ≡ words (put (state w) (MessageState r) stateDelivered) → out (Delivered m i x) y ≡ written (intervalBegins (state t) c m r v)
-unfolding intervalBegins intervalAdded
-writes-begun t u w y c m r i live x v ie le xe ue we ye =
-    rw (← le, ← xe, ← ie) (ap (out (Delivered m i x)) (then-put _ (MessageState r) stateDelivered (then-put _ (LiveCount c) (live + 1) ue we) ye))
+    y ≡ words (put (state w) (MessageState r) stateDelivered) → y ≡ words (intervalAdded (state t) c m r v)
+unfolding intervalAdded
+writes-added t u w y c m r i live x v ie le xe ue we ye =
+    rw (← le, ← xe, ← ie) (then-put _ (MessageState r) stateDelivered (then-put _ (LiveCount c) (live + 1) ue we) ye)
+
+-- u has it: it has its counts, and was then checkpointed, if that was due
+module _ (t u : List ℕ) (c m r : ℕ) (v : Vector) (k : Counts (state t) c) (room : state t (LiveCount c) < places) (e : u ≡ words (intervalAdded (state t) c m r v)) where
+  pub added-counts : Counts (state u) c
+  added-counts = counts-words _ c e (counts-added (state t) c m r v k room)
+
+  pub writes-begun : (w : List ℕ) (i live x : ℕ) → i ≡ state t (Incarnation c) → live ≡ state t (LiveCount c) → x ≡ numberOf (state t) c (live + 1) →
+      w ≡ words (capped (state u) c) → out (Delivered m i x) w ≡ written (intervalBegins (state t) c m r v)
+  unfolding intervalBegins
+  writes-begun w i live x ie le xe we =
+      let number = xe ∙ ap (λ n. numberOf (state t) c (n + 1)) le in
+      let left = then-capped _ c (counts-added (state t) c m r v k room) e we in
+      λ d. out (Delivered m (ie d) (number d)) (left d)
 
 -- the message in record r goes to c, and its vector v is not condemned to c
 pub record Spared (σ : State) (r c : ℕ) (v : Vector) : Type 0 where

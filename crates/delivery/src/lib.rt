@@ -4,20 +4,20 @@ ghost use Prim.Native.Nat.{_<_};
 ghost use lib.ListN.{length};
 ghost use Rattle.table.specs.Field.{LiveCount};
 ghost use Rattle.table.specs.Layout.{controllers, places, messages, tableWords};
-ghost use Rattle.table.specs.Words.{state};
+ghost use Rattle.table.specs.Words.{state, words};
 ghost use Rattle.rules.specs.Limits.{house};
-ghost use Rattle.rules.specs.Steps.{intervalBegins, deliver, stepDeliver};
+ghost use Rattle.rules.specs.Steps.{intervalAdded, intervalBegins, deliver, stepDeliver};
 ghost use Rattle.rules.specs.Step.{out, written};
 ghost use Rattle.laws.specs.Answering.{Lent};
-ghost use Rattle.laws.specs.Chain.{Taken};
+ghost use Rattle.laws.specs.Chain.{Counts, Taken};
 ghost use Rattle.delivery.specs.Delivers.{Spared};
 use rules::Answer;
 use rules::refusal;
 
-// A new interval of c begins with cause m, in record r, and the merged vector v.
-pub fn begin_interval(t: &mut [u32], c: usize, m: u32, r: usize, v: vector::Vector) -> Answer
+// The chain of c gets an interval with cause m, in record r, and the merged vector v.
+pub fn add_interval(t: &mut [u32], c: usize, m: u32, r: usize, v: vector::Vector)
     requires { ⌜ (length (now t) ≡ tableWords) × (c < controllers) × (state (now t) (LiveCount c) < places) × (r < messages) ⌝ }
-    ensures { λ a. ⌜ out a (now (t .exit)) ≡ written (intervalBegins (state (now (t .entry))) c m r v) ⌝ }
+    ensures { λ _. ⌜ now (t .exit) ≡ words (intervalAdded (state (now (t .entry))) c m r v) ⌝ }
 {
     let i = table::incarnation(t, c);
     let live = table::live_count(t, c);
@@ -28,6 +28,17 @@ pub fn begin_interval(t: &mut [u32], c: usize, m: u32, r: usize, v: vector::Vect
     interval::write_place(t, c, live as usize, i, x, m, 0, w);
     table::set_live_count(t, c, live + 1);
     table::set_message_state(t, r, table::DELIVERED);
+}
+
+// This new interval begins, and is checkpointed if the gap asks for it.
+pub fn begin_interval(t: &mut [u32], c: usize, m: u32, r: usize, v: vector::Vector) -> Answer
+    requires { ⌜ (length (now t) ≡ tableWords) × Counts (state (now t)) c × (state (now t) (LiveCount c) < places) × (r < messages) ⌝ }
+    ensures { λ a. ⌜ out a (now (t .exit)) ≡ written (intervalBegins (state (now (t .entry))) c m r v) ⌝ }
+{
+    let i = table::incarnation(t, c);
+    let x = table::number_of(t, c, table::live_count(t, c) + 1);
+    add_interval(t, c, m, r, v);
+    checkpoint::cap(t, c);
     Answer::Delivered(m, i, x)
 }
 

@@ -1,21 +1,26 @@
 -- The history and the table tell the same of each controller, after every step of a list: its degree, its incarnation, which
--- numbers are live and which of them are stable.
-use mathlib.Core.Path.{_≡_, _∙_, ap}
+-- numbers are live, which of them are stable and, where the table is in form, which are flagged; and of Q.
+use mathlib.Core.Path.{_≡_, sym, _∙_, ap}
 use mathlib.Core.Bool.{true}
 use mathlib.Core.List.{List, _++_}
 use mathlib.Core.Logic.{_↔_}
 use Prim.Native.Nat.{ℕ, _≤_, _<_}
 use native.Mathlib.Omega.{arith}
-use Rattle.table.specs.Field.{State, Degree, Incarnation, LiveCount, StableCount}
+use borrow.Author.Tests.{eqb-true, eq-eqb}
+use Rattle.base.specs.Choice.{_==_}
+use Rattle.table.specs.Field.{State, Gap, Degree, Incarnation, LiveCount, StableCount, Flag}
 use Rattle.table.specs.Words.{state}
-use Rattle.table.specs.Numbering.{numberOf}
+use Rattle.table.specs.Numbering.{numberOf, placeOf}
+use Rattle.rules.specs.Limits.{house}
+use Rattle.rules.specs.Form.{inForm}
 use Rattle.rules.specs.Step.{Call}
 use Rattle.history.specs.History.{Interval, interval, newest, member}
 use Rattle.history.specs.Demand.{Run, FromOpening, upTo}
-use Rattle.model.specs.Chain.{member-chain, chain-member, newest-chain}
-use Rattle.model.specs.Invariant.{some-live}
+use Rattle.model.specs.Chain.{OnChain, member-chain, chain-member}
+use Rattle.model.specs.Invariant.{newest-is}
 use Rattle.model.specs.Runs.{part}
-use Rattle.image.specs.Reads.{degree-is, incarnation-is, live-is, stable-is}
+use Rattle.laws.specs.Facts.{form, controllerForm}
+use Rattle.image.specs.Reads.{gap-is, degree-is, incarnation-is, live-is, stable-is, flag-is}
 use Rattle.image.specs.Stepped.{modelOf, opening-done}
 use Rattle.demand.specs.Demanded.{table-inv, follows}
 
@@ -26,7 +31,7 @@ lastLive σ c = numberOf σ c (σ (LiveCount c))
 abbrev pub lastStable : State → ℕ → ℕ
 lastStable σ c = numberOf σ c (σ (StableCount c))
 
--- controller c, in a run
+-- controller c, and Q, in a run
 pub record Agrees (r : Run) (c : ℕ) : Type 0 where
   pub degree : r .history .degree c ≡ state (r .table) (Degree c)
   pub incarnation : r .history .incarnation c ≡ state (r .table) (Incarnation c)
@@ -36,13 +41,20 @@ pub record Agrees (r : Run) (c : ℕ) : Type 0 where
   pub newest-live : newest (r .history .chain c) .number ≡ lastLive (state (r .table)) c
   -- those up to the number that the stable count says are stable, and no others
   pub stable : (y : Interval) → member y (r .history .chain c) ≡ true → (r .history .stable y ≡ true) ↔ (y .number ≤ lastStable (state (r .table)) c)
+  -- W4: those are flagged whose place has the flag 1; that each has a place is said by the form of the table
+  pub flagged : inForm house (state (r .table)) ≡ true → (y : Interval) → member y (r .history .chain c) ≡ true →
+      (r .history .flagged y ≡ true) ↔ (state (r .table) (Flag c (placeOf (state (r .table)) c (y .number))) ≡ 1)
+  -- and Q is that of the table
+  pub gap : r .history .gap ≡ state (r .table) Gap
 
 -- they agree after every first part of a list
 pub agrees : (t g : List ℕ) (n k : ℕ) (l : List Call) → FromOpening t g n k l → (before rest : List Call) → l ≡ before ++ rest →
     (c : ℕ) → c < n → Agrees (upTo t g n k before) c
 agrees t g n k l O before rest e c below =
-    let v = table-inv (part (follows n) t g k l O before rest e) in
+    let p = part (follows n) t g k l O before rest e in
+    let v = table-inv p in
     let fits = opening-done t g n k (O .done) .size-le in
+    let h = upTo t g n k before .history in
     let σ = state (upTo t g n k before .table) in
     let ok = v .controller-ok c below in
     let controller = modelOf (upTo t g n k before .table) .controller c in
@@ -50,17 +62,24 @@ agrees t g n k l O before rest e c below =
     let i = incarnation-is σ c (omega arith) in
     let n = live-is σ c (omega arith) in
     let s = stable-is σ c (omega arith) in
+    let on : (y : Interval) → member y (h .chain c) ≡ true → OnChain c (controller .begunIn) (controller .live) y =
+    λ y z. member-chain c (controller .begunIn) (controller .live) y (rw (ok .shape .chain-is) at z) in
     record {
       degree = ok .shape .degree-is ∙ d;
       incarnation = ok .shape .incarnation-is ∙ i;
-      live = λ y z. let o = member-chain c (controller .begunIn) (controller .live) y (rw (ok .shape .chain-is) at z) in
-          (ap (λ u. u .owner) (o .is), o .pos, omega (arith, o .top));
+      live = λ y z. let o = on y z in (ap (λ u. u .owner) (o .is), o .pos, omega (arith, o .top));
       all-live = λ x p q. (controller .begunIn x, rw (ok .shape .chain-is) (chain-member c (controller .begunIn) (controller .live) x p (omega arith)));
-      newest-live =
-          ap (λ z. newest z .number) (ok .shape .chain-is)
-          ∙ ap (λ y. y .number) (newest-chain c (controller .begunIn) (controller .live) (some-live (ok .shape))) ∙ n;
-      stable = λ y z. let o = member-chain c (controller .begunIn) (controller .live) y (rw (ok .shape .chain-is) at z) in (
+      newest-live = ap (λ y. y .number) (newest-is (ok .shape)) ∙ n;
+      stable = λ y z. let o = on y z in (
         λ u. omega (arith, ok .body .stable-only (y .number) (o .pos) (o .top) (rw (o .is) at u)),
         λ u. rw (o .is) (ok .body .stable-upto (y .number) (o .pos) (omega arith)),
       );
+      flagged = λ f y z.
+          let o = on y z in
+          let k = controllerForm (form σ f) c (omega (arith, p .reads .size-is)) in
+          let same : h .flagged y ≡ (σ (Flag c (placeOf σ c (y .number))) == 1) =
+          ap (h .flagged) (o .is) ∙ v .flags c below (y .number) (o .pos) (o .top)
+          ∙ flag-is σ c (omega arith) (y .number) (o .pos) (omega (arith, o .top)) (k .live-pos) (k .live-le) in
+          (λ u. eqb-true _ 1 (sym same ∙ u), λ u. same ∙ eq-eqb _ 1 u);
+      gap = v .gap-is ∙ gap-is σ;
     }

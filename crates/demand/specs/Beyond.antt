@@ -6,6 +6,7 @@ use mathlib.Core.Bool.{true, false}
 use mathlib.Core.List.{List, [], _∷_, _++_, append-nil}
 use Prim.Native.Nat.{ℕ, _<_}
 use native.Mathlib.Omega.{arith}
+use Rattle.base.specs.Choice.{cond-ind}
 use Rattle.table.specs.Field.{Known}
 use Rattle.table.specs.Words.{state}
 use Rattle.rules.specs.Report.{report}
@@ -13,7 +14,7 @@ use Rattle.rules.specs.Step.{step, Call, asks, stepCall}
 use Rattle.rules.specs.declared.Answer.{Answer}
 use Rattle.rules.specs.declared.Answer.the-variants.{Done, Released, Dropped, Crashed, Rolled}
 use Rattle.rules.specs.declared.Command.the-variants.{Open, Release, Deliver, Crash}
-use Rattle.history.specs.History.{Interval, History, member, joined, stabilized, degreeSet, sentFrom, delivering, logging, checkpointing, opening, answers, fedStep, fed}
+use Rattle.history.specs.History.{Interval, History, member, joined, stabilized, flagging, degreeSet, sentFrom, gapSet, delivering, logging, checkpointing, forcedAt, capping, beginning, opening, answers, fedStep, fed}
 use Rattle.history.specs.Demand.{Run, callIn, stepIn, next, justOpened, RestsOnLost, named, FromOpening, upTo, end, Cited}
 use Rattle.model.specs.Model.{Model}
 use Rattle.model.specs.Tests.{fails}
@@ -58,6 +59,11 @@ pub data CrashAccepted : Answer → Type 0 where
 abbrev Unheard : History → Type 0
 Unheard h = (hearer crashed i : ℕ) → h .heard hearer crashed i ≡ false
 
+-- a checkpoint, forced or not, marks none as heard
+capped-unheard : (h : History) (c : ℕ) → Unheard h → Unheard (capping h c)
+unfolding capping checkpointing flagging stabilized
+capped-unheard h c u = cond-ind Unheard (forcedAt h c) (λ e. u) (λ e. u)
+
 -- a delivery that drops message m has its reason
 dropping : {n : ℕ} {μ : Model} {h : History} {m j : ℕ} {μ′ : Model} → Inv n μ h → Outcome n μ (asks (Deliver m)) (Dropped m) j μ′ →
     RestsOnLost h h (h .receiver m) (h .sending m)
@@ -77,7 +83,7 @@ module _ {n : ℕ} {μ : Model} {h : History} (v : Inv n μ h) (u : Unheard h) w
   -- so a call that is neither a done opening nor an accepted crash leaves it so
   stays-unheard : {x : Call} {y : Answer} {j : ℕ} {μ′ : Model} → Outcome n μ x y j μ′ → NoDoneOpening x y →
       ((c : ℕ) → x ≡ asks (Crash c) → CrashAccepted y → ⊥) → Unheard (fed x y h)
-  unfolding fed fedStep answers report joined stabilized degreeSet sentFrom delivering logging checkpointing
+  unfolding fed fedStep answers report joined stabilized flagging degreeSet sentFrom gapSet delivering beginning logging checkpointing
   stays-unheard (O.refused x number) o c = subst Unheard (sym (fed-refused x number h)) u
   stays-unheard (O.opened j k p q r) o c = absurd (o j k refl refl)
   stays-unheard (O.degree-set d k p q) o c = u
@@ -86,13 +92,14 @@ module _ {n : ℕ} {μ : Model} {h : History} (v : Inv n μ h) (u : Unheard h) w
   stays-unheard (O.held m mask) o c = u
   stays-unheard (O.dropped m p l w z) o c = u
   stays-unheard (O.waits m) o c = u
-  stays-unheard (O.delivered m d e w) o c = u
+  stays-unheard (O.delivered m d e w) o c = capped-unheard _ _ u
   stays-unheard (O.logged d q below pos fits) o c = u
   stays-unheard (O.checkpointed d l) o c = u
   stays-unheard (O.told a b p q ne) o c = u
-  stays-unheard (O.crashed d lost replayed l) o c = absurd (c d refl (answersCrashed _ _ _ _ _))
+  stays-unheard (O.crashed d lost l) o c = absurd (c d refl (answersCrashed _ _ _ _ _))
   stays-unheard (O.heard b a i f w) o c = absurd (none-heard f)
-  stays-unheard (O.rolled b a i j undone replayed f w) o c = absurd (none-heard f)
+  stays-unheard (O.rolled b a i j undone f w) o c = absurd (none-heard f)
+  stays-unheard (O.gap-set q l) o c = u
 
   -- nothing is dropped
   none-dropped : {x : Call} {m j : ℕ} {μ′ : Model} → Outcome n μ x (Dropped m) j μ′ → ⊥
@@ -100,7 +107,7 @@ module _ {n : ℕ} {μ : Model} {h : History} (v : Inv n μ h) (u : Unheard h) w
 
   -- and nothing is rolled back
   none-rolled : {x : Call} {b k undone replayed j : ℕ} {μ′ : Model} → Outcome n μ x (Rolled b k undone replayed) j μ′ → ⊥
-  none-rolled (O.rolled b a i j undone replayed f w) = none-heard f
+  none-rolled (O.rolled b a i j undone f w) = none-heard f
 
   -- so no call undoes
   none-undone : {x : Call} {y : Answer} {j : ℕ} {μ′ : Model} → Outcome n μ x y j μ′ → Undoes y → ⊥

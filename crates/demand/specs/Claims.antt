@@ -20,25 +20,32 @@ use Rattle.rules.specs.Steps.{openHouse}
 use Rattle.rules.specs.Step.{OutBoth, stepOn, lent, step, Call, asks, stepCall}
 use Rattle.rules.specs.declared.Answer.the-variants.{Done, Released, Held, Refused}
 use Rattle.rules.specs.declared.Command.{Command}
-use Rattle.rules.specs.declared.Command.the-variants.{Open, Checkpoint, Release}
+use Rattle.rules.specs.declared.Command.the-variants.{Open, Checkpoint, Release, SetGap}
+use Rattle.lines.specs.Lines.{stepOf, parse}
+use Rattle.lines.specs.Letters.{no-letter, no-line}
 use Rattle.lines.specs.Program.{houseWrites}
+use Rattle.lines.specs.declared.Parsed.the-variants.{Asks}
 use Rattle.history.specs.History.{interval, member}
 use Rattle.history.specs.Citations.{ledgerOf}
 use Rattle.history.specs.Demand.{Run, stepIn, next, runs, justOpened, Accepted, answersHeard, answersRolled, RestsOnLost, named, FromOpening, upTo, end, Cited, Demand3}
+use Rattle.history.specs.Ceiling.{largestGap, NeverOff, Ceiling}
+use Rattle.history.specs.Examples.{ListingLine}
 use Rattle.image.specs.Mask.{count}
 use Rattle.image.specs.Stepped.{opening-done}
 use Rattle.laws.specs.Beside.{looksAtLedger}
 use Rattle.demand.specs.Demanded.{demand-3}
 use Rattle.demand.specs.Beyond.{ledger-cites}
+use Rattle.demand.specs.Ceiled.{ceiling}
 use Rattle.testers.specs.StepSame.{same-written, step-words}
 use Rattle.testers.specs.Refused.{keeps-refused}
 use Rattle.testers.specs.NoneLost.{none-lost}
 use Rattle.testers.specs.Checkpoint.{checkpoint-twice}
 use Rattle.testers.specs.Counted.{counted-step}
 use Rattle.testers.specs.Desk.{publishes, Writes, ledger-stays, whatever-ledger}
-use Rattle.testers.specs.Sample.{sample, answered, answersFrom, sample-from-opening, sample-answers}
+use Rattle.testers.specs.Sample.{sample, asked, answered, calls, answersFrom, sample-from-opening, sample-answers}
 use Rattle.testers.specs.Written.{leftColumn, rightColumn, listing-written}
 use Rattle.testers.specs.Judged.{list, publications, sampleAt, sample-answer, published-is, live-before, gone-after, live-first, still-live, sending-rests, not-yet-stable, lost-later, sent-to-desk, sent-from}
+use Rattle.testers.specs.Gapped.{crashing, rolling, GapRun, crashes, rolls, gap-from-opening, gap-never-off, gap-answer, gap-largest, gap-newest}
 
 -- 1. "A step that can't be done answers one refusal number from document 01 and changes no word of the table", nor of the ledger.
 pub refused-keeps-every-word : (t g : List ℕ) (x : Command) (number : ℕ) → step t g x .answer ≡ Refused number → (step t g x .table ≡ t) × (step t g x .ledger ≡ g)
@@ -182,3 +189,41 @@ no-look-at-the-ledger = whatever-ledger
 -- messages for the desk that the list's releases let out, with the payloads of their sends.
 pub cited-is-what-was-sent : (t g : List ℕ) (n k : ℕ) (l : List Call) → FromOpening t g n k l → Cited t g n k l
 cited-is-what-was-sent = ledger-cites
+
+-- 11. W4: "In a house where the first step after opening set Q to at least 1 and it was never 0 again, replayed is at most the largest Q set
+-- so far, less 1."
+pub replay-has-a-ceiling : (t g : List ℕ) (n k : ℕ) (l : List Call) → FromOpening t g n k l → NeverOff t g n k l → Ceiling t g n k l
+replay-has-a-ceiling = ceiling
+
+-- From every table of 15,152 words and every ledger of 257 there are such lists, one with a crash and one with a rollback that replay as
+-- much as the ceiling allows: one interval, after a gap of 2. By then the gap is 1, so the newest gap would be no ceiling (Gapped.antt).
+module _ (t g : List ℕ) (long : length t ≡ tableWords) (wide : length g ≡ ledgerWords house) where
+  -- the calls of a list of lines, and the run before one of them
+  abbrev first : ℕ → List ListingLine → List Call
+  first j l = calls (asked (take j l))
+
+  -- the largest gap and the newest one, before step j
+  abbrev Gaps : List ListingLine → ℕ → Type 0
+  Gaps l j = (largestGap (justOpened t g 3 1) (first j l) ≡ 2) × (upTo t g 3 1 (first j l) .history .gap ≡ 1)
+
+  ceiling-of : {l : List ListingLine} {j : ℕ} → GapRun l j → Ceiling t g 3 1 (calls (asked l))
+  ceiling-of {l} r = ceiling t g 3 1 (calls (asked l)) (gap-from-opening t g long wide r) (gap-never-off t g long wide r)
+
+  pub crash-replays-one : 1 < largestGap (justOpened t g 3 1) (first 6 crashing)
+  crash-replays-one = ceiling-of crashes .crashes (first 6 crashing) [] 1 1 0 2 0 1 refl (gap-answer t g long wide crashes)
+
+  pub gaps-at-the-crash : Gaps crashing 6
+  gaps-at-the-crash = (gap-largest t g long wide crashes, gap-newest t g long wide crashes)
+
+  pub rollback-replays-one : 1 < largestGap (justOpened t g 3 1) (first 12 rolling)
+  rollback-replays-one = ceiling-of rolls .rollbacks (first 12 rolling) [] 2 1 0 2 2 1 1 refl (gap-answer t g long wide rolls)
+
+  pub gaps-at-the-rollback : Gaps rolling 12
+  gaps-at-the-rollback = (gap-largest t g long wide rolls, gap-newest t g long wide rolls)
+
+-- 12. W4: "New steps get a line in `house` only where a request names the letter": no letter and no line sets the gap.
+pub no-letter-sets-the-gap : (letter a b c q : ℕ) → stepOf letter a b c ≢ Asks (SetGap q)
+no-letter-sets-the-gap = no-letter
+
+pub no-line-sets-the-gap : (line : List ℕ) (q : ℕ) → parse line ≢ Asks (SetGap q)
+no-line-sets-the-gap = no-line

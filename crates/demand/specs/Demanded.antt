@@ -8,16 +8,17 @@ use Rattle.rules.specs.Report.{report}
 use Rattle.rules.specs.Step.{Call, asks, stepCall}
 use Rattle.rules.specs.declared.Answer.{Answer}
 use Rattle.rules.specs.declared.Answer.the-variants.{Released, Refused}
-use Rattle.rules.specs.declared.Command.the-variants.{Open, SetDegree, Send, Release, Deliver, Log, Checkpoint, Tell, Crash, Hear}
+use Rattle.rules.specs.declared.Command.the-variants.{Open, SetDegree, Send, Release, Deliver, Log, Checkpoint, Tell, Crash, Hear, SetGap}
 use Rattle.history.specs.History.{History, delivering, answers, valueAt, fedStep, fed}
 use Rattle.history.specs.Demand.{Run, callIn, next, justOpened, Accepted, FromOpening, Demand3}
-use Rattle.model.specs.Model.{Model, putController, beginController}
+use Rattle.model.specs.Model.{Model, putController, capModel, beginController}
 use Rattle.model.specs.Invariant.{Inv}
 use Rattle.model.specs.Keeping.{Keeps, keeps-refl}
-use Rattle.model.specs.Steps.{LetsOut, keeps-degree, keeps-send, keeps-release, keeps-deliver, keeps-log, keeps-checkpoint, keeps-tell}
+use Rattle.model.specs.Capping.{keeps-log, keeps-checkpoint}
+use Rattle.model.specs.Steps.{LetsOut, keeps-degree, keeps-send, keeps-release, keeps-deliver, keeps-tell, keeps-gap}
 use Rattle.model.specs.Recovery.{keeps-crash, keeps-heard, keeps-rolled}
 use Rattle.model.specs.Runs.{NoDoneOpening, Holds, Follows, demand3}
-use Rattle.image.specs.Outcome.{Outcome, refused, opened, degree-set, sent, released, held, dropped, waits, delivered, logged, checkpointed, told, crashed, heard, rolled, kept-size}
+use Rattle.image.specs.Outcome.{Outcome, refused, opened, degree-set, sent, released, held, dropped, waits, delivered, logged, checkpointed, told, crashed, heard, rolled, gap-set, kept-size}
 use Rattle.image.specs.Stepped.{modelOf, sizeOf, stepped, opening-done}
 
 -- a refused call changes nothing in the history
@@ -33,6 +34,7 @@ fed-refused (asks (Checkpoint c)) number h = refl
 fed-refused (asks (Tell a b)) number h = refl
 fed-refused (asks (Crash c)) number h = refl
 fed-refused (asks (Hear b a i)) number h = refl
+fed-refused (asks (SetGap q)) number h = refl
 
 -- every call but a done opening keeps the invariant
 outcome-keeps : {n : ℕ} {μ : Model} {x : Call} {a : Answer} {j : ℕ} {μ′ : Model} {h : History} → Outcome n μ x a j μ′ →
@@ -47,19 +49,20 @@ outcome-keeps (held m mask) o v = keeps-refl v
 outcome-keeps (dropped m p l w z) o v = keeps-refl v
 outcome-keeps (waits m) o v = keeps-refl v
 outcome-keeps {n} {μ} {h = h} (delivered m c e d) o v =
-    subst (λ b. Keeps n μ h (putController μ b (beginController b (μ .controller b) (μ .message m .vec))) (delivering h m)) (sym e) (keeps-deliver v m d)
+    subst (λ b. Keeps n μ h (capModel (putController μ b (beginController b (μ .controller b) (μ .message m .vec))) b) (delivering h m)) (sym e) (keeps-deliver v m d)
 outcome-keeps (logged c q below pos fits) o v = keeps-log v c q below pos fits
 outcome-keeps (checkpointed c l) o v = keeps-checkpoint v c l
 outcome-keeps (told a b p q ne) o v = keeps-tell v a b p q
-outcome-keeps (crashed c lost replayed l) o v = keeps-crash v c l
+outcome-keeps (crashed c lost l) o v = keeps-crash v c l
 outcome-keeps (heard b a i f w) o v = keeps-heard v f w
-outcome-keeps (rolled b a i j undone replayed f w) o v = keeps-rolled v f w
+outcome-keeps (rolled b a i j undone f w) o v = keeps-rolled v f w
+outcome-keeps (gap-set q l) o v = keeps-gap v q
 
 -- the controller of an accepted hearing is one of the house
 hearer-below : {n : ℕ} {μ : Model} {b a i : ℕ} {y : Answer} {j : ℕ} {μ′ : Model} → Outcome n μ (asks (Hear b a i)) y j μ′ → Accepted y → b < n
 hearer-below (refused x number) z = elim z [ ]
 hearer-below (heard b a i f w) z = f .hearer-below
-hearer-below (rolled b a i j undone replayed f w) z = f .hearer-below
+hearer-below (rolled b a i j undone f w) z = f .hearer-below
 
 -- what a release that lets message m out with this mask has found
 pub record Found (n : ℕ) (μ : Model) (m mask : ℕ) : Type 0 where
@@ -90,6 +93,11 @@ outcome {n} {r} {μ} x e =
 -- the invariant of such a run is one of the model of its table
 pub table-inv : {n : ℕ} {r : Run} → Holds n (ReadOff n) r → Inv n (modelOf (r .table)) (r .history)
 table-inv {n} {r} s = subst (λ μ. Inv n μ (r .history)) (sym (s .reads .model-is)) (s .inv)
+
+-- and so is the outcome of a call
+pub table-outcome : {n : ℕ} {r : Run} → Holds n (ReadOff n) r → (x : Call) →
+    Outcome n (modelOf (r .table)) x (callIn r x .answer) (sizeOf (callIn r x .table)) (modelOf (callIn r x .table))
+table-outcome {n} {r} s x = outcome {r = r} x (record { size-is = s .reads .size-is; model-is = refl })
 
 -- so the runs of a house of n controllers follow the model
 pub follows : (n : ℕ) → Follows n (ReadOff n)

@@ -1,4 +1,5 @@
 pub mod Demanded
 pub mod Beyond
 pub mod Agreement
+pub mod Ceiled
 pub mod Claims

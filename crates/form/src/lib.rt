@@ -109,10 +109,7 @@ pub fn in_form(t: &[u32]) -> bool
     ensures { λ x. ⌜ x ≡ inForm house (state (now (t .entry))) ⌝ }
 {
     let n = table::size(t);
-    (1 <= n)
-        & (n <= table::CONTROLLERS as u32)
-        & (table::records_used(t) <= table::MESSAGES as u32)
-        & records::all_zero(t, table::SPARE, table::HEAD_WORDS - table::SPARE)
+    records::head_ok(t)
         & controllers_ok(t, n)
         & all_rows_ok(t, n)
         & all_places_ok(t, n)

@@ -15,6 +15,7 @@ use Rattle.rules.specs.Report.{report}
 use Rattle.rules.specs.Step.{OutBoth, outBoth, step}
 use Rattle.rules.specs.declared.Answer.{Answer}
 use Rattle.rules.specs.declared.Command.{Command}
+use Rattle.rules.specs.declared.Command.the-variants.{SetGap}
 use Rattle.lines.specs.Lines.{stepOf}
 use Rattle.lines.specs.declared.Parsed.{Parsed}
 use Rattle.lines.specs.declared.Parsed.the-variants.{Asks, Bad}
@@ -48,9 +49,17 @@ unfoldable pub taken : List ℕ → List ℕ → List ℕ → Parsed → Returne
 taken t g v (Asks x) = let o = step t g x in returned (report (o .answer) .number) (o .table) (o .ledger) (valueWords (o .answer))
 taken t g v Bad = returned unknownLetter t g v
 
--- neither does a value buffer of another length, which is looked at first; no step has a fourth number d
+-- neither does a value buffer of another length, which is looked at first
+unfoldable pub handled : List ℕ → List ℕ → List ℕ → Parsed → Returned
+handled t g v p = cond (length v == valueRoom) (taken t g v p) (returned wrongValues t g v)
+
+-- a step by its letter; none has a fourth number d
 unfoldable pub call : List ℕ → List ℕ → List ℕ → ℕ → ℕ → ℕ → ℕ → ℕ → Returned
-call t g v letter a b c d = cond (length v == valueRoom) (taken t g v (stepOf letter a b c)) (returned wrongValues t g v)
+call t g v letter a b c d = handled t g v (stepOf letter a b c)
+
+-- W4: the step that sets the gap, which has no letter, beside the ledger g
+unfoldable pub gapCall : List ℕ → List ℕ → List ℕ → ℕ → Returned
+gapCall t g v q = handled t g v (Asks (SetGap q))
 
 -- whether a table is in form, as a number
 abbrev pub formed : ℕ
@@ -74,12 +83,17 @@ unfolding taken
 step-taken t g v x {u} {h} {w} {y} {r} s n m =
     (λ d. returned (n d) u h (m d)) ∙ ap (λ (o : OutBoth). returned (report (o .answer) .number) (o .table) (o .ledger) (valueWords (o .answer))) s
 
--- what a call has to show: the buffer has another length, or what the letter asks for was done
-module _ (t g v : List ℕ) (l a b c d : ℕ) where
-  pub wrong-values : (length v ≡ valueRoom → ⊥) → returned wrongValues t g v ≡ call t g v l a b c d
-  unfolding call
+-- what a call has to show: the buffer has another length, or what it asks for was done
+module _ (t g v : List ℕ) (p : Parsed) where
+  pub wrong-values : (length v ≡ valueRoom → ⊥) → returned wrongValues t g v ≡ handled t g v p
+  unfolding handled
   wrong-values ne = rw (ne-eqb (length v) valueRoom ne)
 
-  pub letter-taken : {p : Parsed} {r : Returned} → length v ≡ valueRoom → stepOf l a b c ≡ p → r ≡ taken t g v p → r ≡ call t g v l a b c d
-  unfolding call
-  letter-taken e q h = h ∙ sym (rw (eq-eqb (length v) valueRoom e, q))
+  pub right-values : {r : Returned} → length v ≡ valueRoom → r ≡ taken t g v p → r ≡ handled t g v p
+  unfolding handled
+  right-values e h = h ∙ sym (rw (eq-eqb (length v) valueRoom e))
+
+-- the letter asks for p
+pub letter-taken : (t g v : List ℕ) (l a b c d : ℕ) {p : Parsed} {r : Returned} → length v ≡ valueRoom → stepOf l a b c ≡ p → r ≡ taken t g v p → r ≡ call t g v l a b c d
+unfolding call
+letter-taken t g v l a b c d e q h = right-values t g v _ e h ∙ sym (ap (handled t g v) q)

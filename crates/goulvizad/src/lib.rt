@@ -1,7 +1,10 @@
-// The C interface: one step and the form check, on buffers that the caller lends. include/goulvizad.h documents it.
+// The C interface: one step, the step that sets the gap, and the form check, on buffers that the caller lends. include/goulvizad.h
+// documents it.
 ghost use mathlib.Core.Path.{_≡_};
+ghost use mathlib.Core.List.{List};
+ghost use Prim.Native.Nat.{ℕ};
 ghost use lib.ListN.{length};
-ghost use Rattle.goulvizad.specs.Call.{valueRoom, valueWords, returned, taken, call, formNumber};
+ghost use Rattle.goulvizad.specs.Call.{valueRoom, valueWords, returned, taken, call, gapCall, formNumber};
 ghost use Rattle.lines.specs.declared.Parsed.the-variants.{Asks};
 ghost use Rattle.rules.specs.Report.{report};
 use lines::Parsed;
@@ -42,16 +45,23 @@ fn report(a: Answer) -> Reported
     }
 }
 
-// A step that is asked for, and its answer for a value buffer of the right length.
+// An answer's values go to a value buffer of the right length, and its number is returned.
+fn give_answer(a: Answer, values: &mut [u32]) -> u32
+    requires { ⌜ length (now values) ≡ valueRoom ⌝ }
+    ensures { λ r. ⌜ (r ≡ report a .number) × (now (values .exit) ≡ valueWords a) ⌝ }
+{
+    let r = report(a);
+    let v = r.1;
+    table::copy_words(values, &v);
+    r.0
+}
+
+// A step that is asked for, and its answer.
 fn take_step(t: &mut [u32], g: &mut [u32], x: Command, values: &mut [u32]) -> u32
     requires { ⌜ length (now values) ≡ valueRoom ⌝ }
     ensures { λ r. ⌜ returned r (now (t .exit)) (now (g .exit)) (now (values .exit)) ≡ taken (now (t .entry)) (now (g .entry)) (now (values .entry)) (Asks x) ⌝ }
 {
-    let answer = machine::step(t, g, x);
-    let r = report(answer);
-    let v = r.1;
-    table::copy_words(values, &v);
-    r.0
+    give_answer(machine::step(t, g, x), values)
 }
 
 // One step, by its letter. The value buffer is looked at first, then the letter; d is a number that no step has yet.
@@ -75,6 +85,18 @@ pub extern "C" fn goulvizad_step(
         return UNKNOWN_LETTER;
     };
     take_step(t, g, x, values)
+}
+
+// The step that sets the gap, which has no letter. It doesn't look at the ledger: whatever it is, it stays.
+#[no_mangle]
+pub extern "C" fn goulvizad_set_gap(t: &mut [u32], gap: u32, values: &mut [u32]) -> u32
+    ensures { λ r. ⌜ ((g : List ℕ) → returned r (now (t .exit)) g (now (values .exit)) ≡ gapCall (now (t .entry)) g (now (values .entry)) gap) ⌝ }
+{
+    if values.len() != VALUES {
+        return WRONG_VALUES;
+    }
+    let answer = machine::set_gap(t, gap);
+    give_answer(answer, values)
 }
 
 // Whether the table has its length and is in form.

@@ -13,7 +13,7 @@ use Rattle.rules.specs.Step.{Call, asks}
 use Rattle.rules.specs.declared.Answer.{Answer}
 use Rattle.rules.specs.declared.Answer.the-variants.{Done, Sent, Released}
 use Rattle.rules.specs.declared.Command.{Command}
-use Rattle.rules.specs.declared.Command.the-variants.{Open, SetDegree, Send, Release, Deliver, Log, Checkpoint, Tell, Crash, Hear}
+use Rattle.rules.specs.declared.Command.the-variants.{Open, SetDegree, Send, Release, Deliver, Log, Checkpoint, Tell, Crash, Hear, SetGap}
 use Rattle.history.specs.History.{changedAt, answers, valueAt}
 
 -- "message number and payload"
@@ -54,6 +54,7 @@ citedStep (Checkpoint c) a q = q
 citedStep (Tell teller told) a q = q
 citedStep (Crash c) a q = q
 citedStep (Hear b crashed i) a q = q
+citedStep (SetGap gap) a q = q
 
 unfoldable pub cited : Call → Answer → Citations → Citations
 cited (asks x) a q = citedStep x a q

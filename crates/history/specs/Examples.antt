@@ -12,8 +12,8 @@ use Rattle.rules.specs.Step.{asks}
 use Rattle.rules.specs.declared.Answer.{Answer}
 use Rattle.rules.specs.declared.Answer.the-variants.{Done, Sent, Released, Held, Delivered, Crashed, Heard, Rolled, Refused}
 use Rattle.rules.specs.declared.Command.{Command}
-use Rattle.rules.specs.declared.Command.the-variants.{Open, SetDegree, Send, Release, Deliver, Log, Checkpoint, Crash, Hear}
-use Rattle.history.specs.History.{interval, History, sameInterval, changedAt, changedAtInterval, newest, member, those, oldest, degreeSet, sentFrom, joined, leaving, stabilized, hearing, losing, opening, delivering, logging, checkpointing, restarting, crashing, rollingBack, answers, valueAt, fedStep, fed}
+use Rattle.rules.specs.declared.Command.the-variants.{Open, SetDegree, Send, Release, Deliver, Log, Checkpoint, Crash, Hear, SetGap}
+use Rattle.history.specs.History.{interval, History, sameInterval, changedAt, changedAtInterval, newest, member, those, oldest, degreeSet, sentFrom, joined, leaving, stabilized, hearing, losing, gapSet, flagging, opening, logging, checkpointing, latestOn, forcedAt, capping, beginning, delivering, restarting, crashing, rollingBack, answers, valueAt, fedStep, fed}
 use Rattle.history.specs.Citations.{Citations, noCitations, sentWith, letOutTo, citedStep, cited, ledgerOf}
 use Rattle.history.specs.Demand.{RestsOnLost, named}
 
@@ -105,7 +105,7 @@ pub record ListingA : Type 0 where
 
 -- all of it, by computing
 pub listing-a : ListingA
-unfolding all fed fedStep answers report valueAt sameInterval changedAt changedAtInterval newest member those oldest degreeSet sentFrom joined leaving stabilized hearing losing opening delivering logging checkpointing restarting crashing rollingBack
+unfolding all fed fedStep answers report valueAt sameInterval changedAt changedAtInterval newest member those oldest degreeSet sentFrom joined leaving stabilized hearing losing opening delivering logging flagging checkpointing latestOn forcedAt capping beginning restarting crashing rollingBack gapSet
 listing-a =
     record {
       opened-chain = refl;
@@ -160,7 +160,7 @@ pub record ListingAJudged : Type 0 where
 
 -- all of it, by computing
 pub listing-a-judged : ListingAJudged
-unfolding all fed fedStep answers report valueAt sameInterval changedAt changedAtInterval newest member those oldest degreeSet sentFrom joined leaving stabilized hearing losing opening delivering logging checkpointing restarting crashing rollingBack
+unfolding all fed fedStep answers report valueAt sameInterval changedAt changedAtInterval newest member those oldest degreeSet sentFrom joined leaving stabilized hearing losing opening delivering logging flagging checkpointing latestOn forcedAt capping beginning restarting crashing rollingBack gapSet
 listing-a-judged =
     record {
       orphan-heard = record { on = interval 1 0 2; crash = 0; rests = refl; lost = refl; heard = refl };
@@ -218,7 +218,7 @@ pub record Deliveries : Type 0 where
 
 -- all of it, by computing
 pub deliveries-hold : Deliveries
-unfolding all fed fedStep answers report valueAt sameInterval changedAt changedAtInterval newest member those oldest degreeSet sentFrom joined leaving stabilized hearing losing opening delivering logging checkpointing restarting crashing rollingBack
+unfolding all fed fedStep answers report valueAt sameInterval changedAt changedAtInterval newest member those oldest degreeSet sentFrom joined leaving stabilized hearing losing opening delivering logging flagging checkpointing latestOn forcedAt capping beginning restarting crashing rollingBack gapSet
 deliveries-hold =
     record {
       logged-first = refl;
@@ -237,6 +237,75 @@ deliveries-hold =
       rolled-gone = refl;
       rolled-chain = refl;
       opened-anew = refl;
+    }
+
+-- W4: a list with a gap of 2. Controller 0 gets messages 1 to 3 from controller 1: its third interval stands 2 above its first, and is
+-- checkpointed as it begins; the fourth is not.
+abbrev pub gapped : List ListingLine
+gapped =
+    line (SetGap 2) Done
+    ∷ line (Send 1 0 0) (Sent 1) ∷ line (Release 1) (Released 1 0) ∷ line (Deliver 1) (Delivered 1 0 2)
+    ∷ line (Send 1 0 0) (Sent 2) ∷ line (Release 2) (Released 2 0) ∷ line (Deliver 2) (Delivered 2 0 3)
+    ∷ line (Send 1 0 0) (Sent 3) ∷ line (Release 3) (Released 3 0) ∷ line (Deliver 3) (Delivered 3 0 4)
+    ∷ []
+
+-- the history after its first k lines, and these more
+abbrev pub afterGap : ℕ → List ListingLine → History
+afterGap k l = all l (all (take k gapped) (opening 2 2))
+
+pub record Gapped : Type 0 where
+  -- an opening: Q is 0, and each first interval is flagged
+  pub opened-off : afterGap 0 [] .gap ≡ 0
+  pub opened-flagged : afterGap 0 [] .flagged (interval 0 0 1) ≡ true
+  -- Q is what was set; a refused step leaves it
+  pub set : afterGap 1 [] .gap ≡ 2
+  pub set-refused : afterGap 1 (line (SetGap 65) (Refused 5) ∷ []) .gap ≡ 2
+  -- one number above the checkpoint: nothing is forced
+  pub below : afterGap 4 [] .flagged (interval 0 0 2) ≡ false
+  pub below-unstable : afterGap 4 [] .stable (interval 0 0 2) ≡ false
+  -- two above it: the new one is flagged, and stable with all before it
+  pub forced : afterGap 7 [] .flagged (interval 0 0 3) ≡ true
+  pub forced-alone : afterGap 7 [] .flagged (interval 0 0 2) ≡ false
+  pub forced-stable : afterGap 7 [] .stable (interval 0 0 3) ≡ true
+  pub forced-before : afterGap 7 [] .stable (interval 0 0 2) ≡ true
+  -- and the next is counted from there
+  pub after : afterGap 10 [] .flagged (interval 0 0 4) ≡ false
+  pub after-unstable : afterGap 10 [] .stable (interval 0 0 4) ≡ false
+  -- a checkpoint of C counts as well, and flags the newest
+  pub asked : afterGap 4 (line (Checkpoint 0) Done ∷ []) .flagged (interval 0 0 2) ≡ true
+  -- the start after a crash is counted: number 4 is 1 above the checkpoint, which Q as 1 forces, and as 2 doesn't
+  pub started : afterGap 10 (line (SetGap 1) Done ∷ line (Crash 0) (Crashed 0 0 3 1 0) ∷ []) .flagged (interval 0 1 4) ≡ true
+  pub not-started : afterGap 10 (line (Crash 0) (Crashed 0 0 3 1 0) ∷ []) .flagged (interval 0 1 4) ≡ false
+  -- so is the start after a rollback: number 3 is 2 above the first, since what was flagged above it is undone
+  pub restarted : afterGap 10 (line (Crash 1) (Crashed 1 0 1 0 0) ∷ line (Hear 0 1 0) (Rolled 0 2 2 1) ∷ []) .flagged (interval 0 1 3) ≡ true
+  -- 0 is off
+  pub off : afterGap 4 (line (SetGap 0) Done ∷ line (Send 1 0 0) (Sent 2) ∷ line (Deliver 2) (Delivered 2 0 3) ∷ []) .flagged (interval 0 0 3) ≡ false
+  -- an opening that is done begins anew
+  pub opened-again : afterGap 10 (line (Open 2 0) Done ∷ []) .gap ≡ 0
+
+-- all of it, by computing
+pub gapped-hold : Gapped
+unfolding all fed fedStep answers report valueAt sameInterval changedAt changedAtInterval newest member those oldest degreeSet sentFrom joined leaving stabilized hearing losing opening delivering logging flagging checkpointing latestOn forcedAt capping beginning restarting crashing rollingBack gapSet
+gapped-hold =
+    record {
+      opened-off = refl;
+      opened-flagged = refl;
+      set = refl;
+      set-refused = refl;
+      below = refl;
+      below-unstable = refl;
+      forced = refl;
+      forced-alone = refl;
+      forced-stable = refl;
+      forced-before = refl;
+      after = refl;
+      after-unstable = refl;
+      asked = refl;
+      started = refl;
+      not-started = refl;
+      restarted = refl;
+      off = refl;
+      opened-again = refl;
     }
 
 -- W2: what goes out is what was sent. Message 1, for the desk, is held and then let out; message 2, for controller 1, is let out;

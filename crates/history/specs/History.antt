@@ -10,7 +10,7 @@ use Rattle.rules.specs.Step.{Call, asks}
 use Rattle.rules.specs.declared.Answer.{Answer}
 use Rattle.rules.specs.declared.Answer.the-variants.{Done, Sent, Delivered, Crashed, Heard, Rolled}
 use Rattle.rules.specs.declared.Command.{Command}
-use Rattle.rules.specs.declared.Command.the-variants.{Open, SetDegree, Send, Release, Deliver, Log, Checkpoint, Tell, Crash, Hear}
+use Rattle.rules.specs.declared.Command.the-variants.{Open, SetDegree, Send, Release, Deliver, Log, Checkpoint, Tell, Crash, Hear, SetGap}
 
 -- "An interval has an incarnation t and a number x", and its controller.
 pub record Interval : Type 0 where
@@ -25,7 +25,8 @@ unfoldable pub sameInterval : Interval → Interval → Bool
 sameInterval y z = (y .owner == z .owner) && ((y .incarnation == z .incarnation) && (y .number == z .number))
 
 -- "It keeps each controller's degree, incarnation, chain and crashes heard; each message's receiver and sending interval; and
--- for each interval ever begun what it rests on, whether it is stable, and the crash it was lost in, if any."
+-- for each interval ever begun what it rests on, whether it is stable, and the crash it was lost in, if any." W4: "The history now
+-- also keeps Q and what is flagged, both read off the steps."
 pub record History : Type 0 where
   -- controller
   pub degree : ℕ → ℕ
@@ -43,6 +44,9 @@ pub record History : Type 0 where
   pub stable : Interval → Bool
   -- lost in the crash that ended that incarnation of its controller
   pub lost : Interval → ℕ → Bool
+  -- Q, 0 where it is off
+  pub gap : ℕ
+  pub flagged : Interval → Bool
 
 -- a function changed at one number, or at one interval
 unfoldable pub changedAt : {A : Type 0} → (ℕ → A) → ℕ → A → ℕ → A
@@ -82,6 +86,8 @@ degreeSet h c k =
       rests = h .rests;
       stable = h .stable;
       lost = h .lost;
+      gap = h .gap;
+      flagged = h .flagged;
     }
 
 -- "message m for r was sent from the newest live interval of s"
@@ -98,9 +104,11 @@ sentFrom h m s r =
       rests = h .rests;
       stable = h .stable;
       lost = h .lost;
+      gap = h .gap;
+      flagged = h .flagged;
     }
 
--- interval y of c joins the chain: it rests on itself and on what `on` tells, and is stable or not
+-- interval y of c joins the chain: it rests on itself and on what `on` tells, is stable or not, and is not flagged
 unfoldable pub joined : History → ℕ → Interval → (Interval → Bool) → Bool → History
 joined h c y on isStable =
     record {
@@ -114,6 +122,8 @@ joined h c y on isStable =
       rests = changedAtInterval (h .rests) y (λ (z : Interval). sameInterval z y || on z);
       stable = changedAtInterval (h .stable) y isStable;
       lost = h .lost;
+      gap = h .gap;
+      flagged = changedAtInterval (h .flagged) y false;
     }
 
 -- the intervals of c that do not pass p leave the chain
@@ -130,6 +140,8 @@ leaving h c p =
       rests = h .rests;
       stable = h .stable;
       lost = h .lost;
+      gap = h .gap;
+      flagged = h .flagged;
     }
 
 -- the intervals of a list become stable
@@ -146,6 +158,8 @@ stabilized h l =
       rests = h .rests;
       stable = λ (y : Interval). h .stable y || member y l;
       lost = h .lost;
+      gap = h .gap;
+      flagged = h .flagged;
     }
 
 -- H: "b has heard the crash that ended a's incarnation t": the hearer b, the crashed a and its incarnation
@@ -162,6 +176,8 @@ hearing h hearer crashed i =
       rests = h .rests;
       stable = h .stable;
       lost = h .lost;
+      gap = h .gap;
+      flagged = h .flagged;
     }
 
 -- "the live ones of c that are not stable are lost in this crash"
@@ -178,9 +194,47 @@ losing h c =
       rests = h .rests;
       stable = h .stable;
       lost = λ (y : Interval) (i : ℕ). h .lost y i || ((i == h .incarnation c) && (member y (h .chain c) && not (h .stable y)));
+      gap = h .gap;
+      flagged = h .flagged;
     }
 
--- O: "each chain is (0,1), stable, resting on itself; all degrees are k."
+-- Q is q
+unfoldable pub gapSet : History → ℕ → History
+gapSet h q =
+    record {
+      degree = h .degree;
+      incarnation = h .incarnation;
+      chain = h .chain;
+      heard = h .heard;
+      receiver = h .receiver;
+      sending = h .sending;
+      begun = h .begun;
+      rests = h .rests;
+      stable = h .stable;
+      lost = h .lost;
+      gap = q;
+      flagged = h .flagged;
+    }
+
+-- interval y is flagged
+unfoldable pub flagging : History → Interval → History
+flagging h y =
+    record {
+      degree = h .degree;
+      incarnation = h .incarnation;
+      chain = h .chain;
+      heard = h .heard;
+      receiver = h .receiver;
+      sending = h .sending;
+      begun = h .begun;
+      rests = h .rests;
+      stable = h .stable;
+      lost = h .lost;
+      gap = h .gap;
+      flagged = changedAtInterval (h .flagged) y true;
+    }
+
+-- O: "each chain is (0,1), stable, resting on itself; all degrees are k." The step says that it is flagged, and W4 that Q is 0.
 -- The controllers are those below n; what is said here of others is not looked at.
 unfoldable pub opening : ℕ → ℕ → History
 opening n k =
@@ -195,7 +249,35 @@ opening n k =
       rests = λ (y z : Interval). sameInterval z y;
       stable = λ (y : Interval). (y .owner <? n) && ((y .incarnation == 0) && (y .number == 1));
       lost = λ (y : Interval) (i : ℕ). false;
+      gap = 0;
+      flagged = λ (y : Interval). (y .owner <? n) && ((y .incarnation == 0) && (y .number == 1));
     }
+
+-- L: "the q oldest live ones of c not yet stable become stable." C: "all of them do", and its newest is flagged.
+unfoldable pub logging : History → ℕ → ℕ → History
+logging h c q = let unstable = those (λ (y : Interval). not (h .stable y)) (h .chain c) in stabilized h (oldest q unstable)
+
+unfoldable pub checkpointing : History → ℕ → History
+checkpointing h c = flagging (stabilized h (h .chain c)) (newest (h .chain c))
+
+-- the number of the latest flagged interval of a chain, or 0
+unfoldable pub latestOn : History → List Interval → ℕ
+latestOn h [] = 0
+latestOn h (y ∷ l) = cond (h .flagged y) (y .number) (latestOn h l)
+
+-- W4: "When a new interval of any cause would stand Q or more numbers above the latest flagged one on its chain": whether that
+-- which has just joined the chain of c does ..
+unfoldable pub forcedAt : History → ℕ → Bool
+forcedAt h c = not (h .gap == 0) && (h .gap ≤? newest (h .chain c) .number - latestOn h (h .chain c))
+
+-- .. "it is checkpointed as it begins, which logs all before it"; "forced checkpoints, with all that they log, count as stable for
+-- all rules, the history's too"
+unfoldable pub capping : History → ℕ → History
+capping h c = cond (forcedAt h c) (checkpointing h c) h
+
+-- an interval begins: it joins the chain, and may be checkpointed then
+unfoldable pub beginning : History → ℕ → Interval → (Interval → Bool) → Bool → History
+beginning h c y on isStable = capping (joined h c y on isStable) c
 
 -- `delivered`: "the receiver's next interval, not stable, joins its chain." It rests on what "the live interval just before it
 -- rests on" and "on what the sending interval rests on".
@@ -204,20 +286,13 @@ delivering h m =
     let c = h .receiver m in
     let last = newest (h .chain c) in
     let on : Interval → Bool = λ (z : Interval). h .rests last z || h .rests (h .sending m) z in
-    joined h c (interval c (h .incarnation c) (last .number + 1)) on false
-
--- L: "the q oldest live ones of c not yet stable become stable." C: "all of them do."
-unfoldable pub logging : History → ℕ → ℕ → History
-logging h c q = let unstable = those (λ (y : Interval). not (h .stable y)) (h .chain c) in stabilized h (oldest q unstable)
-
-unfoldable pub checkpointing : History → ℕ → History
-checkpointing h c = stabilized h (h .chain c)
+    beginning h c (interval c (h .incarnation c) (last .number + 1)) on false
 
 -- "After X and `rolled` a stable interval joins: incarnation plus 1, number one above the highest left."
 unfoldable pub restarting : History → ℕ → History
 restarting h c =
     let last = newest (h .chain c) in
-    joined h c (interval c (h .incarnation c + 1) (last .number + 1)) (h .rests last) true
+    beginning h c (interval c (h .incarnation c + 1) (last .number + 1)) (h .rests last) true
 
 -- X: "the live ones of c that are not stable are lost in this crash and leave the chain; c has heard it."
 unfoldable pub crashing : History → ℕ → History
@@ -255,6 +330,7 @@ fedStep (Hear b crashed i) a h =
     let informed = hearing h b crashed i in
     cond (answers a (Heard 0)) informed
     (cond (answers a (Rolled 0 0 0 0)) (rollingBack informed b (valueAt a 1)) h)
+fedStep (SetGap q) a h = cond (answers a Done) (gapSet h q) h
 
 -- asking for a step feeds that step
 unfoldable pub fed : Call → Answer → History → History

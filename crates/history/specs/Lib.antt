@@ -2,3 +2,4 @@ pub mod History
 pub mod Citations
 pub mod Demand
 pub mod Examples
+pub mod Ceiling

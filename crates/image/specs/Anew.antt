@@ -1,36 +1,51 @@
 -- Starting anew, a crash and a rollback, as changes of the model.
 use mathlib.Core.Path.{_≡_, refl, ap, ap₂, _∙_, fun-ext}
-use mathlib.Core.Bool.{cond}
-use mathlib.Core.List.{List}
+use mathlib.Core.Bool.{false, cond}
 use Prim.Native.Nat.{ℕ, _+_, _≤_, _<_}
 use native.Mathlib.Omega.{arith}
 use lib.ListN.{length, length-set}
 use borrow.Author.Tests.{eq-eqb, lt-leb}
-use Rattle.base.specs.Choice.{_==_, _<?_, cond-ind}
-use Rattle.table.specs.Field.{State, Known, End, OfPlace, Incarnation, LiveCount, StableCount, PlaceIncarnation, PairIncarnation, PairNumber, word, same}
+use Rattle.base.specs.Choice.{_==_}
+use Rattle.table.specs.Field.{State, Known, End, OfPlace, Incarnation, LiveCount, StableCount, PlaceIncarnation, Flag, PairIncarnation, PairNumber, word, same}
 use Rattle.table.specs.Change.{put, put-same, clearPlaces, putPart}
 use Rattle.table.specs.Layout.{controllers, incarnations, places}
-use Rattle.table.specs.Numbering.{numberOf, placeOf, number-from, number-next, place-lt, place-next, Numbered, numbers-kept, numbers-put, numbers-states, numbers-trans}
+use Rattle.table.specs.Numbering.{numberOf, placeOf, number-from, number-next, place-lt, place-next, Numbered, numbers-put, numbers-states, numbers-trans}
 use Rattle.rules.specs.Limits.{lastIncarnation}
 use Rattle.rules.specs.Vector.{pair as pairList}
-use Rattle.rules.specs.Shared.{placeRecord, logged, loggedTo, causesIn, causes, newVector, placed, entered, restarted, dropHeld, startAnew, removed}
+use Rattle.rules.specs.Shared.{loggedTo, capped, causesIn, causes, newVector, placed, entered, restarted, dropHeld, startAnew, removed}
 use Rattle.rules.specs.Steps.{crashed, noted, rolledBack}
-use Rattle.model.specs.Model.{pair, changedAt₂, Controller, Model, putController, loggedController, endController, noteController, newVec, anewController}
+use Rattle.model.specs.Model.{pair, changedAt₂, Model, putController, capModel, loggedController, endController, noteController, newVec, anewController}
 use Rattle.laws.specs.Agree.{agree-restarted}
-use Rattle.laws.specs.Chain.{Starts, starts-put, starts-causes, starts-loggedTo}
+use Rattle.laws.specs.Chain.{Starts, counts-restarted, starts-put, starts-causes, starts-loggedTo}
 use Rattle.image.specs.View.{view, view-tight, Tight, tight-put, tight-clear}
 use Rattle.image.specs.Functions.{within, within-renewed}
-use Rattle.image.specs.Image.{noVec, placeVec, controllerBy, modelController, decode, image, image-rule, agree-view, controller-path, one-controller, putController-twice, putController-own}
+use Rattle.image.specs.Image.{noVec, placeVec, controllerBy, modelController, decode, image, image-rule, agree-view, Elsewhere, numbers-elsewhere, controller-path, one-controller, then-controller}
 use Rattle.image.specs.Changes.{nothing-else, away-put, away-part, away-clear, known-put, image-states}
 use Rattle.image.specs.Vectors.{vecOf, length-filtered, set-vec}
 use Rattle.image.specs.Reads.{number-seen, incarnation-seen, live-seen}
-use Rattle.image.specs.Begin.{written, written-incarnation, written-vec, written-other, tight-written, countVector, filtered-count}
-use Rattle.image.specs.Controllers.{image-loggedTo, image-end, image-noted}
+use Rattle.image.specs.Begin.{written, written-incarnation, written-flag, written-vec, written-other, tight-written, countVector, filtered-count}
+use Rattle.image.specs.Controllers.{image-loggedTo, numbers-loggedTo, image-end, image-noted}
+use Rattle.image.specs.Tests.{Fresh, fresh-kept}
+use Rattle.image.specs.Capped.{image-capped}
 
 -- places below the freed ones stay
 clear-kept : (σ : State) (c p q x k : ℕ) → x < p → clearPlaces σ c p q (OfPlace c x k) ≡ σ (OfPlace c x k)
 unfolding clearPlaces
 clear-kept σ c p q x k l = simp (eq-eqb c c refl, lt-leb p x l)
+
+-- a start changes words of c alone
+restarted-elsewhere : (σ : State) (c k : ℕ) → Elsewhere c σ (restarted σ c k)
+unfolding restarted placed entered
+restarted-elsewhere σ c k =
+    away-put c σ _ (Known c c _) _ (λ a. a refl)
+    (away-put c σ _ (StableCount c) (k + 1) (λ a. a refl)
+    (away-put c σ _ (LiveCount c) (k + 1) (λ a. a refl)
+    (away-put c σ _ (Incarnation c) _ (λ a. a refl)
+    (away-part c σ _ (OfPlace c k 0) 0 _ (λ j a. a refl) (away-clear c σ σ k (σ (LiveCount c)) (nothing-else c σ))))))
+
+-- so all numbers stay
+numbers-restarted : (σ : State) (c k : ℕ) → Numbered (restarted σ c k) σ
+numbers-restarted σ c k = numbers-elsewhere c σ _ (restarted-elsewhere σ c k)
 
 -- "the kept vector filtered for c with c's own pair set to the new interval"
 new-vec : (σ : State) → Tight σ → (c k : ℕ) → c < controllers → 1 ≤ k → k ≤ σ (LiveCount c) → vecOf (newVector σ c k) ≡ newVec c (modelController σ c) (numberOf σ c k)
@@ -59,9 +74,6 @@ module _ (σ : State) (z : Tight σ) (c k : ℕ) (cl : c < controllers) (k1 : 1 
 
   abbrev freed : State
   freed = clearPlaces σ c k (σ (LiveCount c))
-
-  abbrev words : List ℕ
-  words = placeRecord i x 0 0 (newVector σ c k)
 
   abbrev τ : State
   τ = written freed c k i x 0 0 (newVector σ c k)
@@ -95,12 +107,12 @@ module _ (σ : State) (z : Tight σ) (c k : ℕ) (cl : c < controllers) (k1 : 1 
       (ap (λ n. within n noVec (λ y. placeVec τ c (placeOf σ c y))) count
       ∙ within-renewed kept live noVec (λ y. placeVec σ c (placeOf σ c y)) (λ y. placeVec τ c (placeOf σ c y)) (newVec c (modelController σ c) kept) below
       (ap (placeVec τ c) (place-next σ c k) ∙ written-vec freed c k i x 0 0 (newVector σ c k) tight-τ long ∙ new-vec σ z c k cl k1 kl)
-      (λ y p q. fun-ext (λ owner. ap₂ pair (kept-word y (word (PairIncarnation c k owner)) q) (kept-word y (word (PairNumber c k owner)) q)))))
-      (away-put c σ (put (put (put τ (Incarnation c) i) (LiveCount c) (k + 1)) (StableCount c) (k + 1)) (Known c c i) x (λ a. a refl)
-      (away-put c σ (put (put τ (Incarnation c) i) (LiveCount c) (k + 1)) (StableCount c) (k + 1) (λ a. a refl)
-      (away-put c σ (put τ (Incarnation c) i) (LiveCount c) (k + 1) (λ a. a refl)
-      (away-put c σ τ (Incarnation c) i (λ a. a refl)
-      (away-part c σ freed (OfPlace c k 0) 0 words (λ j a. a refl) (away-clear c σ σ k (σ (LiveCount c)) (nothing-else c σ)))))))
+      (λ y p q. fun-ext (λ owner. ap₂ pair (kept-word y (word (PairIncarnation c k owner)) q) (kept-word y (word (PairNumber c k owner)) q))))
+      (ap (λ n. within n false (λ y. τ (Flag c (placeOf σ c y)) == 1)) count
+      ∙ within-renewed kept live false (λ y. σ (Flag c (placeOf σ c y)) == 1) (λ y. τ (Flag c (placeOf σ c y)) == 1) false below
+      (ap (λ p. τ (Flag c p) == 1) (place-next σ c k) ∙ ap (λ z. z == 1) (written-flag freed c k i x 0 0 (newVector σ c k)))
+      (λ y p q. ap (λ z. z == 1) (kept-word y (word (Flag c k)) q))))
+      (restarted-elsewhere σ c k)
     where
       count : numberOf σ c (put τ (LiveCount c) (k + 1) (LiveCount c)) ≡ kept + 1
       count = ap (numberOf σ c) (put-same τ (LiveCount c) (k + 1)) ∙ number-next σ c k
@@ -115,32 +127,34 @@ module _ (σ : State) (z : Tight σ) (c k : ℕ) (cl : c < controllers) (k1 : 1 
       tight-put _ (Known c c i) x (cl, cl, omega arith) (tight-put _ (StableCount c) (k + 1) (cl, omega arith)
       (tight-put _ (LiveCount c) (k + 1) (cl, omega arith) (tight-put τ (Incarnation c) i (cl, omega arith) tight-τ)))
 
--- "Starting anew at c after kept number k"
-image-startAnew : (σ : State) (c k : ℕ) → Starts σ c k → image (startAnew σ c k) ≡ putController (image σ) c (anewController c (image σ .controller c) (numberOf σ c k))
-unfolding startAnew dropHeld image
-image-startAnew σ c k s =
+-- the start itself, on the words of a state
+image-restarted : (σ : State) (c k : ℕ) → Starts σ c k → image (restarted σ c k) ≡ putController (image σ) c (anewController c (image σ .controller c) (numberOf σ c k))
+unfolding image
+image-restarted σ c k s =
     let ω = view σ in
     let cl = s .chain .named in
     let l = live-seen σ c cl in
     let i = incarnation-seen σ c cl in
-    image-states (restarted σ c k) _
-    ∙ image-rule (λ τ. restarted τ c k) σ (agree-restarted σ ω (agree-view σ) c k cl (omega arith) (s .kept) (s .chain .near _ (omega arith)))
+    image-rule (λ τ. restarted τ c k) σ (agree-restarted σ ω (agree-view σ) c k cl (omega arith) (s .kept) (s .chain .near _ (omega arith)))
     (tight-restarted ω (view-tight σ) c k cl (s .kept) (omega arith) (s .room) (omega arith))
     ∙ decode-restarted ω (view-tight σ) c k cl (s .kept) (omega arith) (s .room)
     ∙ ap (λ x. putController (decode ω) c (anewController c (decode ω .controller c) x)) (number-seen σ c cl k)
 
--- a second change of a controller whose first change is known
-then-controller : (μ μ′ : Model) (c : ℕ) (k : Controller) (F : Controller → Controller) → μ′ ≡ putController μ c k → putController μ′ c (F (μ′ .controller c)) ≡ putController μ c (F k)
-then-controller μ μ′ c k F e =
-    ap (λ (μ : Model). putController μ c (F (μ .controller c))) e ∙ ap (λ (l : Controller). putController (putController μ c k) c (F l)) (putController-own μ c k)
-    ∙ putController-twice μ c k (F k)
+-- "Starting anew at c after kept number k", with W4's checkpoint
+image-startAnew : (σ : State) (c k : ℕ) → Starts σ c k → Fresh σ →
+    image (startAnew σ c k) ≡ capModel (putController (image σ) c (anewController c (image σ .controller c) (numberOf σ c k))) c
+unfolding startAnew dropHeld
+image-startAnew σ c k s z =
+    image-states (capped (restarted σ c k) c) _ ∙ image-capped (restarted σ c k) c (counts-restarted σ c k s) (fresh-kept σ _ (numbers-restarted σ c k) z)
+    ∙ ap (λ (μ : Model). capModel μ c) (image-restarted σ c k s)
 
 -- intervals removed: their causes get their states, which are not in the image, then a start
-image-removed : (σ : State) (c k : ℕ) → Starts σ c k → image (removed σ c k) ≡ putController (image σ) c (anewController c (image σ .controller c) (numberOf σ c k))
+image-removed : (σ : State) (c k : ℕ) → Starts σ c k → Fresh σ →
+    image (removed σ c k) ≡ capModel (putController (image σ) c (anewController c (image σ .controller c) (numberOf σ c k))) c
 unfolding removed causes causesIn
-image-removed σ c k s =
-    image-startAnew _ c k (starts-causes σ c k k s)
-    ∙ ap₂ (λ (μ : Model) x. putController μ c (anewController c (μ .controller c) x)) (image-states σ _) (numbers-states σ _ .number c k)
+image-removed σ c k s z =
+    image-startAnew _ c k (starts-causes σ c k k s) (fresh-kept σ _ (numbers-states σ _) z)
+    ∙ ap₂ (λ (μ : Model) x. capModel (putController μ c (anewController c (μ .controller c) x)) c) (image-states σ _) (numbers-states σ _ .number c k)
 
 -- a crash noted
 pub numbers-noted : (σ : State) (hearer owner i : ℕ) → Numbered (noted σ hearer owner i) σ
@@ -151,46 +165,45 @@ starts-noted : (σ : State) (c k hearer owner i : ℕ) → Starts σ c k → Sta
 unfolding noted
 starts-noted σ c k hearer owner i s = starts-put _ c k (Known hearer owner i) _ refl (starts-put σ c k (End hearer owner i) _ refl s)
 
--- kept intervals logged, if any
-numbers-loggedTo : (σ : State) (c k : ℕ) → Numbered (loggedTo σ c k) σ
-unfolding loggedTo logged
-numbers-loggedTo σ c k =
-    cond-ind (λ τ. Numbered τ σ) (σ (StableCount c) <? k)
-    (λ e. numbers-trans _ _ σ (numbers-put _ (Known c c (σ (Incarnation c))) _ refl) (numbers-put σ (StableCount c) k refl)) (λ e. numbers-kept σ σ (λ f _. refl))
-
 -- X: "c's own end word for its incarnation becomes k. Then start anew."
-pub image-crashed : (σ : State) (c : ℕ) → Starts σ c (σ (StableCount c)) →
-    image (crashed σ c) ≡ putController (image σ) c (anewController c (endController c (image σ .controller c)) (numberOf σ c (σ (StableCount c))))
+pub image-crashed : (σ : State) (c : ℕ) → Starts σ c (σ (StableCount c)) → Fresh σ →
+    image (crashed σ c) ≡ capModel (putController (image σ) c (anewController c (endController c (image σ .controller c)) (numberOf σ c (σ (StableCount c))))) c
 unfolding crashed
-image-crashed σ c s =
+image-crashed σ c s z =
     let k = σ (StableCount c) in
     let f = End c c (σ (Incarnation c)) in
     let τ = put σ f (numberOf σ c k) in
-    image-removed τ c k (starts-put σ c k f _ refl s)
-    ∙ then-controller (image σ) (image τ) c (endController c (image σ .controller c)) (λ n. anewController c n (numberOf τ c k)) (image-end σ c (s .chain .named) (omega (arith, s .left)))
-    ∙ ap (λ x. putController (image σ) c (anewController c (endController c (image σ .controller c)) x)) (numbers-put σ f _ refl .number c k)
+    let n = numbers-put σ f (numberOf σ c k) refl in
+    image-removed τ c k (starts-put σ c k f _ refl s) (fresh-kept σ τ n z)
+    ∙ ap (λ (μ : Model). capModel μ c)
+    (then-controller (image σ) (image τ) c (endController c (image σ .controller c)) (λ n. anewController c n (numberOf τ c k)) (image-end σ c (s .chain .named) (omega (arith, s .left)))
+    ∙ ap (λ x. putController (image σ) c (anewController c (endController c (image σ .controller c)) x)) (n .number c k))
 
 -- H: "kept intervals not yet stable, if any, are logged as by L; .. then start anew."
-image-rolled : (σ : State) (hearer k : ℕ) → Starts σ hearer k →
+image-rolled : (σ : State) (hearer k : ℕ) → Starts σ hearer k → Fresh σ →
     image (rolledBack σ hearer k)
-    ≡ putController (image σ) hearer (anewController hearer (loggedController hearer (image σ .controller hearer) (numberOf σ hearer k)) (numberOf σ hearer k))
+    ≡ capModel (putController (image σ) hearer (anewController hearer (loggedController hearer (image σ .controller hearer) (numberOf σ hearer k)) (numberOf σ hearer k))) hearer
 unfolding rolledBack
-image-rolled σ hearer k s =
+image-rolled σ hearer k s z =
     let τ = loggedTo σ hearer k in
     let logs = loggedController hearer (image σ .controller hearer) (numberOf σ hearer k) in
-    image-removed τ hearer k (starts-loggedTo σ hearer k k s)
-    ∙ then-controller (image σ) (image τ) hearer logs (λ n. anewController hearer n (numberOf τ hearer k)) (image-loggedTo σ hearer k (s .chain .named) (omega (arith, s .left)))
-    ∙ ap (λ x. putController (image σ) hearer (anewController hearer logs x)) (numbers-loggedTo σ hearer k .number hearer k)
+    let n = numbers-loggedTo σ hearer k in
+    image-removed τ hearer k (starts-loggedTo σ hearer k k s) (fresh-kept σ τ n z)
+    ∙ ap (λ (μ : Model). capModel μ hearer)
+    (then-controller (image σ) (image τ) hearer logs (λ n. anewController hearer n (numberOf τ hearer k)) (image-loggedTo σ hearer k (s .chain .named) (omega (arith, s .left)))
+    ∙ ap (λ x. putController (image σ) hearer (anewController hearer logs x)) (n .number hearer k))
 
 -- a hearing that must undo, whole
-pub image-heard-rolled : (σ : State) (hearer owner i k : ℕ) → Starts σ hearer k → owner < controllers → i < incarnations →
+pub image-heard-rolled : (σ : State) (hearer owner i k : ℕ) → Starts σ hearer k → Fresh σ → owner < controllers → i < incarnations →
     let n = noteController (image σ .controller hearer) owner i (image σ .controller owner .ends owner i) in
     let x = numberOf σ hearer k in
-    image (rolledBack (noted σ hearer owner i) hearer k) ≡ putController (image σ) hearer (anewController hearer (loggedController hearer n x) x)
-image-heard-rolled σ hearer owner i k s ol il =
+    image (rolledBack (noted σ hearer owner i) hearer k) ≡ capModel (putController (image σ) hearer (anewController hearer (loggedController hearer n x) x)) hearer
+image-heard-rolled σ hearer owner i k s z ol il =
     let τ = noted σ hearer owner i in
     let n = noteController (image σ .controller hearer) owner i (image σ .controller owner .ends owner i) in
-    image-rolled τ hearer k (starts-noted σ hearer k hearer owner i s)
-    ∙ then-controller (image σ) (image τ) hearer n (λ n. anewController hearer (loggedController hearer n (numberOf τ hearer k)) (numberOf τ hearer k))
+    let same = numbers-noted σ hearer owner i in
+    image-rolled τ hearer k (starts-noted σ hearer k hearer owner i s) (fresh-kept σ τ same z)
+    ∙ ap (λ (μ : Model). capModel μ hearer)
+    (then-controller (image σ) (image τ) hearer n (λ n. anewController hearer (loggedController hearer n (numberOf τ hearer k)) (numberOf τ hearer k))
     (image-noted σ hearer owner i (s .chain .named) ol il)
-    ∙ ap (λ x. putController (image σ) hearer (anewController hearer (loggedController hearer n x) x)) (numbers-noted σ hearer owner i .number hearer k)
+    ∙ ap (λ x. putController (image σ) hearer (anewController hearer (loggedController hearer n x) x)) (same .number hearer k))

@@ -1,17 +1,17 @@
 -- An interval written to a place, and a delivery that begins one, as a change of the model.
 use mathlib.Core.Path.{_≡_, refl, sym, ap, ap₂, _∙_, subst, fun-ext}
-use mathlib.Core.Bool.{cond}
+use mathlib.Core.Bool.{false, cond}
 use mathlib.Core.List.{[], _∷_}
 use mathlib.Core.Logic.{_≢_}
 use Prim.Native.Nat.{ℕ, _+_, _-_, _≤_, _<_}
 use native.Mathlib.Omega.{arith}
 use lib.ListN.{length, set, length-set}
 use Rattle.base.specs.Choice.{_==_}
-use Rattle.table.specs.Field.{State, OfPlace, Size, Incarnation, LiveCount, PlaceIncarnation, PairIncarnation, PairNumber, MessageState, word, placeHead, same}
+use Rattle.table.specs.Field.{State, OfPlace, Size, Incarnation, LiveCount, PlaceIncarnation, Flag, PairIncarnation, PairNumber, MessageState, word, placeHead, same}
 use Rattle.table.specs.Change.{put, put-same, putPart}
 use Rattle.table.specs.Layout.{controllers, places, messages}
 use Rattle.table.specs.Words.{Agree}
-use Rattle.table.specs.Numbering.{numberOf, placeOf, used, recordOf, number-from, number-next, place-lt, place-next, place-of-count}
+use Rattle.table.specs.Numbering.{numberOf, placeOf, used, recordOf, number-from, number-next, place-lt, place-next, place-of-count, Numbered}
 use Rattle.rules.specs.Vector.{Vector, pair as pairList, placeVector, messageVector, filtered, merged}
 use Rattle.rules.specs.Form.{stateDelivered}
 use Rattle.rules.specs.Shared.{newestPlace, placeRecord}
@@ -22,7 +22,7 @@ use Rattle.laws.specs.Records.{length-place-record}
 use Rattle.laws.specs.Agree.{placeVector-same, messageVector-same, filtered-same, agree-begun}
 use Rattle.image.specs.View.{view, view-tight, Tight, tight-put, tight-part}
 use Rattle.image.specs.Functions.{within, within-more}
-use Rattle.image.specs.Image.{noVec, placeVec, controllerBy, modelController, modelMessage, decode, image, image-rule, agree-view, vec-at, image-message, controller-path, one-controller}
+use Rattle.image.specs.Image.{noVec, placeVec, controllerBy, modelController, modelMessage, decode, image, image-rule, agree-view, vec-at, image-message, Elsewhere, numbers-elsewhere, controller-path, one-controller}
 use Rattle.image.specs.Changes.{nothing-else, away-put, away-part, part-at, part-other}
 use Rattle.image.specs.Vectors.{vecOf, place-vec, message-vec, place-pairs, length-place, length-message, length-filtered, length-merged, filter-vec, merge-vec, set-vec, whole-pair}
 use Rattle.image.specs.Reads.{live-seen, newest-seen}
@@ -40,6 +40,13 @@ module _ (σ : State) (c p i x cause flag : ℕ) (v : Vector) where
       let k = word (PlaceIncarnation c p) in
       part-at σ (OfPlace c p 0) 0 (placeRecord i x cause flag v) k k (omega (arith, length-place-record i x cause flag v)) refl
 
+  -- its flag
+  pub written-flag : written (Flag c p) ≡ flag
+  unfolding placeRecord
+  written-flag =
+      let k = word (Flag c p) in
+      part-at σ (OfPlace c p 0) 0 (placeRecord i x cause flag v) k k (omega (arith, length-place-record i x cause flag v)) refl
+
   -- its vector
   pub written-vec : Tight written → length v ≡ controllers → placeVec written c p ≡ vecOf v
   unfolding placeRecord
@@ -54,7 +61,17 @@ module _ (σ : State) (c p i x cause flag : ℕ) (v : Vector) where
   tight-written z cl pl =
       tight-part σ (OfPlace c p 0) 0 (placeRecord i x cause flag v) (λ j h. (cl, pl, omega (arith, length-place-record i x cause flag v))) z
 
--- D: "a new interval begins"
+-- D: "a new interval begins", which changes words of c alone, and a message's state
+added-elsewhere : (σ : State) (c m r : ℕ) (v : Vector) → Elsewhere c σ (intervalAdded σ c m r v)
+unfolding intervalAdded
+added-elsewhere σ c m r v =
+    away-put c σ _ (MessageState r) stateDelivered (λ a. a refl)
+    (away-put c σ _ (LiveCount c) _ (λ a. a refl) (away-part c σ σ (OfPlace c (σ (LiveCount c)) 0) 0 _ (λ j a. a refl) (nothing-else c σ)))
+
+-- so all numbers stay
+pub numbers-added : (σ : State) (c m r : ℕ) (v : Vector) → Numbered (intervalAdded σ c m r v) σ
+numbers-added σ c m r v = numbers-elsewhere c σ _ (added-elsewhere σ c m r v)
+
 module _ (σ : State) (z : Tight σ) (c m r : ℕ) (v : Vector) (w : Vec) (cl : c < controllers) (l1 : 1 ≤ σ (LiveCount c)) (ll : σ (LiveCount c) < places)
     (long : length v ≡ controllers) where
   abbrev live : ℕ
@@ -93,9 +110,12 @@ module _ (σ : State) (z : Tight σ) (c m r : ℕ) (v : Vector) (w : Vec) (cl : 
       (ap (placeVec τ c) (place-next σ c live)
       ∙ written-vec σ c live i x m 0 own (tight-written σ c live i x m 0 own z cl ll) (length-set v c _ ∙ long) ∙ e
       ∙ ap (λ n. mergedFor c (pair i n) (filteredFor (modelController σ c) (modelController σ c .vec (numberOf σ c live))) (filteredFor (modelController σ c) w)) (number-next σ c live))
-      (λ y p q. fun-ext (λ owner. ap₂ pair (other y (word (PairIncarnation c live owner)) q) (other y (word (PairNumber c live owner)) q)))))
-      (away-put c σ (put τ (LiveCount c) (live + 1)) (MessageState r) stateDelivered (λ a. a refl)
-      (away-put c σ τ (LiveCount c) (live + 1) (λ a. a refl) (away-part c σ σ (OfPlace c live 0) 0 (placeRecord i x m 0 own) (λ j a. a refl) (nothing-else c σ))))
+      (λ y p q. fun-ext (λ owner. ap₂ pair (other y (word (PairIncarnation c live owner)) q) (other y (word (PairNumber c live owner)) q))))
+      (ap (λ n. within n false (λ y. τ (Flag c (placeOf σ c y)) == 1)) more
+      ∙ within-more (numberOf σ c live) false (λ y. σ (Flag c (placeOf σ c y)) == 1) (λ y. τ (Flag c (placeOf σ c y)) == 1) false
+      (ap (λ p. τ (Flag c p) == 1) (place-next σ c live) ∙ ap (λ z. z == 1) (written-flag σ c live i x m 0 own))
+      (λ y p q. ap (λ z. z == 1) (other y (word (Flag c live)) q))))
+      (added-elsewhere σ c m r v)
     where
       more : numberOf σ c (put τ (LiveCount c) (live + 1) (LiveCount c)) ≡ numberOf σ c live + 1
       more = ap (numberOf σ c) (put-same τ (LiveCount c) (live + 1)) ∙ number-next σ c live

@@ -7,15 +7,13 @@ use mathlib.Core.Logic.{_≢_}
 use Prim.Native.Nat.{ℕ, _+_, _<_}
 use native.Mathlib.Omega.{arith}
 use lib.ListN.{length, getD}
-use Rattle.table.specs.Field.{Field, State, Known, End, OfPlace, LiveCount, Flag, PairIncarnation, PairNumber, MessageState, same, word, wordOf, word-of}
+use Rattle.table.specs.Field.{Field, State, Known, End, MessageState, same, word, wordOf, word-of}
 use Rattle.table.specs.Change.{put, put-ind, put-same, put-other, putPart, part-ind, clearPlaces, clear-ind, putStates, states-ind}
 use Rattle.table.specs.Layout.{valid}
-use Rattle.table.specs.Numbering.{numberOf, placeOf}
-use Rattle.model.specs.Model.{pair, changedAt₂}
+use Rattle.model.specs.Model.{changedAt₂}
 use Rattle.model.specs.Tests.{changedAt₂-ind}
 use Rattle.image.specs.View.{view}
-use Rattle.image.specs.Functions.{within}
-use Rattle.image.specs.Image.{noVec, controllerBy, image, Away, Elsewhere, controller-path, same-controller}
+use Rattle.image.specs.Image.{controllerBy, image, Away, Elsewhere, same-controller}
 
 -- a part: its own words, and any other field
 pub part-at : (σ : State) (f : Field) (k : ℕ) (r : List ℕ) (i j : ℕ) → i < length r → j ≡ k + i → putPart σ f k r (wordOf f j) ≡ getD r i 0
@@ -60,7 +58,7 @@ end-put σ holder owner i v =
     changedAt₂-ind (λ b j y. put σ (End holder owner i) v (End holder b j) ≡ y) (λ b j. σ (End holder b j)) owner i v (put-same σ (End holder owner i) v)
     (λ b j ne. put-other σ (End holder owner i) (End holder b j) v (λ e. ne (cc) (cc)))
 
--- states of messages, and flags, are not in the model
+-- states of messages are not in the model
 view-away : (c : ℕ) (σ τ : State) → Elsewhere c σ τ → Elsewhere c (view σ) (view τ)
 unfolding view
 view-away c σ τ h g a = ap (λ x. cond (valid g) x 0) (h g a)
@@ -74,17 +72,3 @@ image-states σ s = same-controller (view σ) (view (putStates σ s)) 0 refl (vi
 pub image-state : (σ : State) (r x : ℕ) → image (put σ (MessageState r) x) ≡ image σ
 unfolding image view controllerBy put same
 image-state σ r x = same-controller (view σ) (view (put σ (MessageState r) x)) 0 refl (view-away 0 σ _ (away-put 0 σ σ (MessageState r) x (λ a. a refl) (nothing-else 0 σ)))
-
--- a flag put
-pub image-flag : (σ : State) (c p x : ℕ) → image (put σ (Flag c p) x) ≡ image σ
-unfolding image view controllerBy put same
-image-flag σ c p x =
-    same-controller (view σ) (view (put σ (Flag c p) x)) c
-    (controller-path refl refl refl refl refl refl refl
-    (λ d. within (numberOf (view σ) c (view σ (LiveCount c))) noVec
-    (λ x owner. let q = placeOf (view σ) c x in
-    pair (stays q (word (PairIncarnation c q owner)) (omega arith) d) (stays q (word (PairNumber c q owner)) (omega arith) d))))
-    (view-away c σ _ (away-put c σ σ (Flag c p) x (λ a. a refl) (nothing-else c σ)))
-  where
-    stays : (q k : ℕ) → k ≢ word (Flag c p) → view (put σ (Flag c p) x) (OfPlace c q k) ≡ view σ (OfPlace c q k)
-    stays q k ne = ap (λ y. cond (valid (OfPlace c q k)) y 0) (put-other σ (Flag c p) (OfPlace c q k) x (λ e. ne (ap word e)))

@@ -3,30 +3,30 @@ use mathlib.Core.Path.{_≡_, refl, sym, ap, ap₂, _∙_, subst, fun-ext}
 use mathlib.Core.Bool.{Bool, true, false, cond}
 use Prim.Native.Nat.{ℕ, _+_, _≤_, _<_, max}
 use native.Mathlib.Omega.{arith}
-use Rattle.base.specs.Choice.{_<?_, le?}
+use Rattle.base.specs.Choice.{_<?_, cond-ind, le?}
 use Rattle.base.specs.Lists.{tab, length-tab, getD-tab}
-use Rattle.table.specs.Field.{State, Known, End, Degree, Incarnation, LiveCount, StableCount, same}
+use Rattle.table.specs.Field.{State, Known, End, Gap, Degree, Incarnation, StableCount, same}
 use Rattle.table.specs.Change.{put, put-same, putPart}
 use Rattle.table.specs.Layout.{controllers, incarnations}
 use Rattle.table.specs.Words.{Agree, agree-put}
-use Rattle.table.specs.Numbering.{numberOf, number-ltb}
-use Rattle.rules.specs.Shared.{newestPlace, logged, loggedTo}
-use Rattle.rules.specs.Steps.{checkpointed, toldRow, told, noted}
+use Rattle.table.specs.Numbering.{numberOf, number-ltb, Numbered, numbers-kept, numbers-put, numbers-trans}
+use Rattle.rules.specs.Shared.{logged, loggedTo}
+use Rattle.rules.specs.Steps.{toldRow, told, noted}
 use Rattle.history.specs.History.{changedAt}
-use Rattle.model.specs.Model.{putController, degreeController, logController, loggedController, tellController, endController, noteController}
+use Rattle.model.specs.Model.{putController, gapModel, degreeController, logController, loggedController, tellController, endController, noteController}
 use Rattle.model.specs.Tests.{changedAt-ind}
 use Rattle.model.specs.Keeping.{putController-id}
 use Rattle.laws.specs.Agree.{agree-logged, agree-told, agree-noted}
 use Rattle.image.specs.View.{view, view-tight, Tight, tight-put, tight-part}
-use Rattle.image.specs.Image.{controllerBy, decode, image, image-rule, agree-view, controller-path, one-controller}
-use Rattle.image.specs.Changes.{nothing-else, away-put, away-part, part-at, part-other, known-put, end-put, image-flag}
+use Rattle.image.specs.Image.{unsentMessage, controllerBy, modelMessage, decode, image, image-rule, agree-view, controller-path, model-path, renumbered, one-controller}
+use Rattle.image.specs.Changes.{nothing-else, away-put, away-part, part-at, part-other, known-put, end-put}
 use Rattle.image.specs.Reads.{number-seen, incarnation-seen, stable-seen, stable-is}
 
 -- K: "set the degree"
 decode-degree : (σ : State) (c k : ℕ) → decode (put σ (Degree c) k) ≡ putController (decode σ) c (degreeController (decode σ .controller c) k)
 unfolding decode controllerBy degreeController put same
 decode-degree σ c k =
-    one-controller σ (put σ (Degree c) k) c _ (controller-path (put-same σ (Degree c) k) refl refl refl refl refl refl refl)
+    one-controller σ (put σ (Degree c) k) c _ (controller-path (put-same σ (Degree c) k) refl refl refl refl refl refl refl refl)
     (away-put c σ σ (Degree c) k (λ a. a refl) (nothing-else c σ))
 
 -- K, on the words of a state
@@ -36,6 +36,19 @@ image-degree σ c k cl =
     image-rule (λ τ. put τ (Degree c) k) σ (agree-put _ _ (Degree c) k (agree-view σ)) (tight-put _ (Degree c) k (cl, omega arith) (view-tight σ))
     ∙ decode-degree (view σ) c k
 
+-- W4: the gap is set
+decode-gap : (σ : State) (q : ℕ) → decode (put σ Gap q) ≡ gapModel (decode σ) q
+unfolding decode gapModel controllerBy modelMessage put same
+decode-gap σ q =
+    let n = numbers-put σ Gap q refl in
+    model-path (fun-ext (λ c. renumbered σ (put σ Gap q) c (n .number c))) (n .last)
+    (λ d m. cond (n .record-same m d <? n .used-same d) (modelMessage σ (n .record-same m d)) unsentMessage) (put-same σ Gap q)
+
+-- W4, on the words of a state
+pub image-gap : (σ : State) (q : ℕ) → image (put σ Gap q) ≡ gapModel (image σ) q
+unfolding image
+image-gap σ q = image-rule (λ τ. put τ Gap q) σ (agree-put _ _ Gap q (agree-view σ)) (tight-put _ Gap q (omega arith) (view-tight σ)) ∙ decode-gap (view σ) q
+
 -- L, C and the kept ones of H: "c's known word for itself and its incarnation becomes the new stable count"
 decode-logged : (σ : State) (c k : ℕ) → decode (logged σ c k) ≡ putController (decode σ) c (logController c (decode σ .controller c) (numberOf σ c k))
 unfolding decode controllerBy logController logged put same
@@ -43,7 +56,7 @@ decode-logged σ c k =
     let τ = put σ (StableCount c) k in
     let i = σ (Incarnation c) in
     one-controller σ (logged σ c k) c _
-    (controller-path refl refl refl (ap (numberOf σ c) (put-same σ (StableCount c) k)) (fun-ext (λ owner. fun-ext (known-put τ c c i (numberOf σ c k) owner))) refl refl refl)
+    (controller-path refl refl refl (ap (numberOf σ c) (put-same σ (StableCount c) k)) (fun-ext (λ owner. fun-ext (known-put τ c c i (numberOf σ c k) owner))) refl refl refl refl)
     (away-put c σ τ (Known c c i) (numberOf σ c k) (λ a. a refl) (away-put c σ σ (StableCount c) k (λ a. a refl) (nothing-else c σ)))
 
 -- logging, on the words of a state
@@ -72,11 +85,12 @@ image-loggedTo σ c k cl il =
     split true = image-logged σ c k cl il
     split false = sym (putController-id (image σ) c)
 
--- C: "log all not yet stable, if any, as by L; flag the newest place"
-pub image-checkpointed : (σ : State) (c : ℕ) → c < controllers → σ (Incarnation c) < incarnations →
-    image (checkpointed σ c) ≡ putController (image σ) c (loggedController c (image σ .controller c) (numberOf σ c (σ (LiveCount c))))
-unfolding checkpointed
-image-checkpointed σ c cl il = image-flag (loggedTo σ c (σ (LiveCount c))) c (newestPlace σ c) 1 ∙ image-loggedTo σ c (σ (LiveCount c)) cl il
+-- it leaves all numbers
+pub numbers-loggedTo : (σ : State) (c k : ℕ) → Numbered (loggedTo σ c k) σ
+unfolding loggedTo logged
+numbers-loggedTo σ c k =
+    cond-ind (λ τ. Numbered τ σ) (σ (StableCount c) <? k)
+    (λ e. numbers-trans _ _ σ (numbers-put _ (Known c c (σ (Incarnation c))) _ refl) (numbers-put σ (StableCount c) k refl)) (λ e. numbers-kept σ σ (λ f _. refl))
 
 -- X, first part: "c's own end word for its incarnation becomes k"
 abbrev pub ended : State → ℕ → State
@@ -89,7 +103,7 @@ decode-end σ c =
     let i = σ (Incarnation c) in
     let x = numberOf σ c (σ (StableCount c)) in
     one-controller σ (ended σ c) c _
-    (controller-path refl refl refl refl refl (fun-ext (λ owner. fun-ext (end-put σ c c i x owner))) refl refl)
+    (controller-path refl refl refl refl refl (fun-ext (λ owner. fun-ext (end-put σ c c i x owner))) refl refl refl)
     (away-put c σ σ (End c c i) x (λ a. a refl) (nothing-else c σ))
 
 -- the end word of a crash, on the words of a state
@@ -112,7 +126,7 @@ decode-noted σ hearer owner i =
     let k = max (σ (Known hearer owner i)) e in
     let τ = put σ (End hearer owner i) e in
     one-controller σ (noted σ hearer owner i) hearer _
-    (controller-path refl refl refl refl (fun-ext (λ a. fun-ext (known-put τ hearer owner i k a))) (fun-ext (λ a. fun-ext (end-put σ hearer owner i e a))) refl refl)
+    (controller-path refl refl refl refl (fun-ext (λ a. fun-ext (known-put τ hearer owner i k a))) (fun-ext (λ a. fun-ext (end-put σ hearer owner i e a))) refl refl refl)
     (away-put hearer σ τ (Known hearer owner i) k (λ a. a refl) (away-put hearer σ σ (End hearer owner i) e (λ a. a refl) (nothing-else hearer σ)))
 
 -- the mark of a hearing, on the words of a state
@@ -150,7 +164,7 @@ module _ (σ : State) (z : Tight σ) (owner holder : ℕ) where
   decode-told : decode (told σ owner holder) ≡ putController (decode σ) holder (tellController owner (decode σ .controller holder) (decode σ .controller owner .known owner))
   unfolding decode controllerBy tellController told toldRow putPart
   decode-told =
-      one-controller σ (told σ owner holder) holder _ (controller-path refl refl refl refl (fun-ext (λ a. fun-ext (told-known a))) refl refl refl)
+      one-controller σ (told σ owner holder) holder _ (controller-path refl refl refl refl (fun-ext (λ a. fun-ext (told-known a))) refl refl refl refl)
       (away-part holder σ σ (Known holder owner 0) 0 (tab incarnations larger) (λ j a. a refl) (nothing-else holder σ))
 
 -- T, on the words of a state

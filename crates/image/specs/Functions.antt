@@ -1,4 +1,4 @@
--- Functions changed at one number, and functions on the numbers from 1 to a bound.
+-- Functions on the numbers from 1 to a bound.
 use mathlib.Core.Path.{_≡_, refl, sym, ap, _∙_, fun-ext}
 use mathlib.Core.Bool.{Bool, true, false, true≢false, cond, _&&_}
 use mathlib.Core.Logic.{_≢_}
@@ -8,12 +8,7 @@ use borrow.Author.Tests.{eqb-true, eqb-false, leb-true, leb-false, le-leb}
 use Rattle.base.specs.Choice.{_==_, _≤?_, and-left, and-right, cond-ind, le?}
 use Rattle.history.specs.History.{changedAt}
 use Rattle.model.specs.Model.{renewed}
-use Rattle.model.specs.Tests.{changedAt-ind, changedAt-same, changedAt-other}
-
--- a function changed twice at one number
-pub changedAt-twice : {A : Type 0} (f : ℕ → A) (i : ℕ) (a b : A) → changedAt (changedAt f i a) i b ≡ changedAt f i b
-changedAt-twice f i a b =
-    fun-ext (changedAt-ind (λ j y. changedAt (changedAt f i a) i b j ≡ y) f i b (changedAt-same (changedAt f i a) i b) (λ j ne. changedAt-other (changedAt f i a) i j b ne ∙ changedAt-other f i j a ne))
+use Rattle.model.specs.Tests.{changedAt-ind}
 
 -- the second of two tests failed if the first passed
 and-no : (a b : Bool) → (a && b) ≡ false → a ≡ true → b ≡ false
@@ -50,6 +45,14 @@ module _ {A : Type 0} where
       fun-ext (changedAt-ind (λ x y. within (n + 1) empty g x ≡ y) (within n empty f) (n + 1) new (within-in (n + 1) empty g (n + 1) (omega arith) (omega arith) ∙ e)
       (within-ind (λ x y. x ≢ n + 1 → within (n + 1) empty g x ≡ y) n empty f (λ x p q ne. within-in (n + 1) empty g x p (omega arith) ∙ h x p q)
       (λ x o ne. within-out (n + 1) empty g x (λ p. let l = o p in omega arith))))
+
+  -- another value for the last number
+  pub within-last : (n : ℕ) (empty : A) (f g : ℕ → A) (new : A) → 1 ≤ n → g n ≡ new → ((x : ℕ) → 1 ≤ x → x < n → g x ≡ f x) →
+      within n empty g ≡ changedAt (within n empty f) n new
+  within-last n empty f g new l e h =
+      fun-ext (changedAt-ind (λ x y. within n empty g x ≡ y) (within n empty f) n new (within-in n empty g n l (omega arith) ∙ e)
+      (within-ind (λ x y. x ≢ n → within n empty g x ≡ y) n empty f (λ x p q ne. within-in n empty g x p q ∙ h x p (omega arith))
+      (λ x o ne. within-out n empty g x o)))
 
   -- a new number j + 1 after the first j of n
   pub within-renewed : (j n : ℕ) (empty : A) (f g : ℕ → A) (new : A) → j ≤ n → g (j + 1) ≡ new → ((x : ℕ) → 1 ≤ x → x ≤ j → g x ≡ f x) →

@@ -1,21 +1,21 @@
 -- The model of a state: what the words of the table say of each controller and of each message.
 use mathlib.Core.Path.{_≡_, refl, sym, ap, _∙_, fun-ext}
-use mathlib.Core.Bool.{true, cond, true≢false}
+use mathlib.Core.Bool.{true, false, cond, true≢false}
 use mathlib.Core.Logic.{_≢_}
 use Prim.Native.Nat.{ℕ, _+_, _≤_, _<_}
 use native.Mathlib.Omega.{arith}
 use borrow.Author.Tests.{lt-ltb, le-ltb}
-use Rattle.base.specs.Choice.{_<?_, le?}
-use Rattle.table.specs.Field.{Field, State, OfHead, OfController, Known, End, OfPlace, OfMessage, Degree, Incarnation, LiveCount, StableCount, PlaceIncarnation, PairIncarnation, PairNumber, MessageState, Sender, Receiver, SendingIncarnation, SendingNumber, MessagePairIncarnation, MessagePairNumber, word}
+use Rattle.base.specs.Choice.{_==_, _<?_, le?}
+use Rattle.table.specs.Field.{Field, State, OfHead, OfController, Known, End, OfPlace, OfMessage, Gap, Degree, Incarnation, LiveCount, StableCount, PlaceIncarnation, Flag, PairIncarnation, PairNumber, MessageState, Sender, Receiver, SendingIncarnation, SendingNumber, MessagePairIncarnation, MessagePairNumber, word}
 use Rattle.table.specs.Layout.{messages}
 use Rattle.table.specs.Words.{Agree}
 use Rattle.table.specs.Numbering.{numberOf, placeOf, used, lastGiven, recordOf, present, place-from, numbering, Numbered, numbers-kept, used-agree, record-agree}
 use Rattle.history.specs.History.{interval}
 use Rattle.model.specs.Model.{pair, Vec, Controller, Message, Model, putController}
 use Rattle.model.specs.Tests.{changedAt-ind, changedAt-same}
-use Rattle.model.specs.Keeping.{putController-id}
+use Rattle.model.specs.Keeping.{putController-id, putController-twice}
 use Rattle.image.specs.View.{view, view-at, view-same, Tight, tight-view}
-use Rattle.image.specs.Functions.{changedAt-twice, within, within-in}
+use Rattle.image.specs.Functions.{within, within-in}
 
 -- the vector with no pair
 abbrev pub noVec : Vec
@@ -42,6 +42,7 @@ controllerBy ν σ c =
       ends = λ owner i. σ (End c owner i);
       begunIn = within (numberOf ν c (σ (LiveCount c))) 0 (λ x. σ (PlaceIncarnation c (placeOf ν c x)));
       vec = within (numberOf ν c (σ (LiveCount c))) noVec (λ x. placeVec σ c (placeOf ν c x));
+      flagged = within (numberOf ν c (σ (LiveCount c))) false (λ x. σ (Flag c (placeOf ν c x)) == 1);
     }
 
 -- controller c, by its own numbering
@@ -64,6 +65,7 @@ decode σ =
       controller = modelController σ;
       sent = lastGiven σ;
       message = λ m. cond (present σ m) (modelMessage σ (recordOf σ m)) unsentMessage;
+      gap = σ Gap;
     }
 
 -- the model of the words of a state
@@ -129,13 +131,13 @@ module _ (σ : State) (m : ℕ) (l : recordOf σ m < used σ) (room : used σ �
 
 -- two controllers with equal parts
 pub controller-path : {k l : Controller} → k .degree ≡ l .degree → k .incarnation ≡ l .incarnation → k .live ≡ l .live → k .stable ≡ l .stable →
-    k .known ≡ l .known → k .ends ≡ l .ends → k .begunIn ≡ l .begunIn → k .vec ≡ l .vec → k ≡ l
-controller-path a b c d e f g h =
-    λ i. record { degree = a i; incarnation = b i; live = c i; stable = d i; known = e i; ends = f i; begunIn = g i; vec = h i }
+    k .known ≡ l .known → k .ends ≡ l .ends → k .begunIn ≡ l .begunIn → k .vec ≡ l .vec → k .flagged ≡ l .flagged → k ≡ l
+controller-path a b c d e f g h j =
+    λ i. record { degree = a i; incarnation = b i; live = c i; stable = d i; known = e i; ends = f i; begunIn = g i; vec = h i; flagged = j i }
 
 -- two models with equal parts
-pub model-path : {μ μ′ : Model} → μ .controller ≡ μ′ .controller → μ .sent ≡ μ′ .sent → μ .message ≡ μ′ .message → μ ≡ μ′
-model-path a b c = λ i. record { controller = a i; sent = b i; message = c i }
+pub model-path : {μ μ′ : Model} → μ .controller ≡ μ′ .controller → μ .sent ≡ μ′ .sent → μ .message ≡ μ′ .message → μ .gap ≡ μ′ .gap → μ ≡ μ′
+model-path a b c d = λ i. record { controller = a i; sent = b i; message = c i; gap = d i }
 
 -- a change that leaves the numbers may be read by the numbering of before
 pub renumbered : (σ τ : State) (c : ℕ) → ((k : ℕ) → numberOf τ c k ≡ numberOf σ c k) → modelController τ c ≡ controllerBy σ τ c
@@ -144,7 +146,7 @@ renumbered σ τ c n =
     let live = n (τ (LiveCount c)) in
     let place : (x : ℕ) → placeOf τ c x ≡ placeOf σ c x = λ x. place-from τ σ c x (n 1) in
     controller-path refl refl live (n (τ (StableCount c))) refl refl (λ d. within (live d) 0 (λ x. τ (PlaceIncarnation c (place x d))))
-    (λ d. within (live d) noVec (λ x. placeVec τ c (place x d)))
+    (λ d. within (live d) noVec (λ x. placeVec τ c (place x d))) (λ d. within (live d) false (λ x. τ (Flag c (place x d)) == 1))
 
 -- a controller whose words are the same
 pub controller-frame : (σ τ : State) (c : ℕ) → ((k : ℕ) → τ (OfController c k) ≡ σ (OfController c k)) → ((owner i : ℕ) → τ (Known c owner i) ≡ σ (Known c owner i)) →
@@ -156,6 +158,7 @@ controller-frame σ τ c own known ends places =
     (λ d. within (live d) 0 (λ x. let p = placeOf σ c x in places p (word (PlaceIncarnation c p)) d))
     (λ d. within (live d) noVec
     (λ x owner. let p = placeOf σ c x in pair (places p (word (PairIncarnation c p owner)) d) (places p (word (PairNumber c p owner)) d)))
+    (λ d. within (live d) false (λ x. let p = placeOf σ c x in places p (word (Flag c p)) d == 1))
 
 -- a message whose words but the state are the same
 pub message-frame : (σ τ : State) (r : ℕ) → ((k : ℕ) → k ≢ word (MessageState r) → τ (OfMessage r k) ≡ σ (OfMessage r k)) → modelMessage τ r ≡ modelMessage σ r
@@ -190,7 +193,7 @@ numbering-away c (OfPlace b p k) e = absurd (true≢false (sym e))
 numbering-away c (OfMessage r k) e = λ z. true≢false (sym e ∙ ap (λ k. numbering (OfMessage r k)) z)
 
 -- so the change leaves all numbers
-numbers-elsewhere : (c : ℕ) (σ τ : State) → Elsewhere c σ τ → Numbered τ σ
+pub numbers-elsewhere : (c : ℕ) (σ τ : State) → Elsewhere c σ τ → Numbered τ σ
 numbers-elsewhere c σ τ h = numbers-kept τ σ (λ g e. h g (numbering-away c g e))
 
 -- a change of one controller's words is a change of its controller
@@ -201,7 +204,7 @@ one-controller σ τ c k e h =
     (fun-ext (changedAt-ind (λ b l. modelController τ b ≡ l) (modelController σ) c k (renumbered σ τ c (numbers .number c) ∙ e)
     (λ b ne. renumbered σ τ b (numbers .number b)
     ∙ controller-frame σ τ b (λ k. h (OfController b k) ne) (λ owner i. h (Known b owner i) ne) (λ owner i. h (End b owner i) ne) (λ p k. h (OfPlace b p k) ne))))
-    (numbers .last) (λ d m. cond (numbers .record-same m d <? numbers .used-same d) (same-message m d) unsentMessage)
+    (numbers .last) (λ d m. cond (numbers .record-same m d <? numbers .used-same d) (same-message m d) unsentMessage) (h Gap tt)
   where
     numbers : Numbered τ σ
     numbers = numbers-elsewhere c σ τ h
@@ -209,15 +212,14 @@ one-controller σ τ c k e h =
     same-message : (m : ℕ) → modelMessage τ (recordOf τ m) ≡ modelMessage σ (recordOf σ m)
     same-message m = message-frame σ τ (recordOf τ m) (λ k. h (OfMessage (recordOf τ m) k)) ∙ ap (modelMessage σ) (numbers .record-same m)
 
--- of two controllers put one after the other the second stays
-pub putController-twice : (μ : Model) (c : ℕ) (k l : Controller) → putController (putController μ c k) c l ≡ putController μ c l
-unfolding putController
-putController-twice μ c k l = model-path (changedAt-twice (μ .controller) c k l) refl refl
-
 -- the controller that was put
 pub putController-own : (μ : Model) (c : ℕ) (k : Controller) → putController μ c k .controller c ≡ k
 unfolding putController
 putController-own μ c k = changedAt-same (μ .controller) c k
+
+-- a second change of a controller whose first change is known
+pub then-controller : (μ μ′ : Model) (c : ℕ) (k : Controller) (F : Controller → Controller) → μ′ ≡ putController μ c k → putController μ′ c (F (μ′ .controller c)) ≡ putController μ c (F k)
+then-controller μ μ′ c k F e = ap (λ (μ : Model). putController μ c (F (μ .controller c))) e ∙ putController-twice μ c k F
 
 -- the same where the controller stays
 pub same-controller : (σ τ : State) (c : ℕ) → controllerBy σ τ c ≡ modelController σ c → Elsewhere c σ τ → decode τ ≡ decode σ

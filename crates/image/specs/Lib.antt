@@ -6,6 +6,7 @@ pub mod Vectors
 pub mod Reads
 pub mod Controllers
 pub mod Begin
+pub mod Capped
 pub mod Anew
 pub mod Messages
 pub mod Open

@@ -10,7 +10,7 @@ use Rattle.table.specs.Field.{State, OfController, Known, End, OfPlace, OfMessa
 use Rattle.table.specs.Change.{putPart}
 use Rattle.table.specs.Layout.{controllers, messages, messageWords}
 use Rattle.table.specs.Words.{Agree, agree-part}
-use Rattle.table.specs.Numbering.{numberOf, used, nextMessage, recordOf, number-from, place-of-count, record-one, posted, posted-used, posted-last, posted-new, posted-record, posted-number, posted-at, posted-kept, posted-missing, numbering-vector, Numbered, numbers-part, used-agree, last-agree}
+use Rattle.table.specs.Numbering.{numberOf, used, nextMessage, recordOf, number-from, place-of-count, record-one, posted, posted-used, posted-last, posted-gap, posted-new, posted-record, posted-number, posted-at, posted-kept, posted-missing, numbering-vector, Numbered, numbers-part, used-agree, last-agree}
 use Rattle.rules.specs.Vector.{Vector, placeVector, messageVector, flat, filtered}
 use Rattle.rules.specs.Form.{stateHeld}
 use Rattle.rules.specs.Shared.{newestPlace}
@@ -98,7 +98,7 @@ module _ (σ : State) (z : Tight σ) (sender receiver payload : ℕ) (l1 : 1 ≤
       (λ m ne. message-kept σ (posted σ w) m
       (λ l. let same = posted-record σ w m l in
       (omega (arith, posted-used σ w), ap (modelMessage (posted σ w)) same ∙ posted-message σ w (recordOf σ m) (omega arith)))
-      (posted-missing σ w m ne))))
+      (posted-missing σ w m ne)))) (posted-gap σ w)
     where
       live : ℕ
       live = numberOf σ sender (σ (LiveCount sender))
@@ -173,7 +173,7 @@ module _ (σ : State) (z : Tight σ) (r : ℕ) (v : Vector) (room : r < messages
         omega (arith, same n, let-numbers .used-same),
         ap (modelMessage ρ) (same n) ∙ other (recordOf σ n) (λ e. ne (record-one σ n m u there (e ∙ sym is))),
       ))
-      (λ u. omega (arith, same n, let-numbers .used-same)))))
+      (λ u. omega (arith, same n, let-numbers .used-same))))) refl
     where
       same : (n : ℕ) → recordOf ρ n ≡ recordOf σ n
       same = let-numbers .record-same

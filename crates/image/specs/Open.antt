@@ -1,6 +1,6 @@
 -- The model of a house just opened.
 use mathlib.Core.Path.{_≡_, refl, sym, ap, ap₂, _∙_, fun-ext}
-use mathlib.Core.Bool.{Bool, cond, _&&_}
+use mathlib.Core.Bool.{Bool, true, false, cond, _&&_}
 use mathlib.Core.List.{List, [], _∷_}
 use Prim.Native.Nat.{ℕ, _+_, _≤_, _<_}
 use native.Mathlib.Omega.{arith}
@@ -8,7 +8,7 @@ use lib.ListN.{length, getD, List·getD-eq-default}
 use borrow.Author.Tests.{eqb-true, eq-eqb, ne-eqb, ltb-true, ltb-false, lt-ltb, le-ltb}
 use Rattle.base.specs.Choice.{_==_, _<?_, and-left, and-right, cond-ind, le?}
 use Rattle.base.specs.Lists.{getD-tab}
-use Rattle.table.specs.Field.{State, OfHead, OfController, Known, End, OfPlace, OfMessage, Degree, Incarnation, LiveCount, StableCount, PlaceIncarnation, PairIncarnation, PairNumber, placeHead, word}
+use Rattle.table.specs.Field.{State, OfHead, OfController, Known, End, OfPlace, OfMessage, Degree, Incarnation, LiveCount, StableCount, PlaceIncarnation, Flag, PairIncarnation, PairNumber, placeHead, word}
 use Rattle.table.specs.Layout.{controllers, controllerWords, placeWords}
 use Rattle.table.specs.Numbering.{numberOf, placeOf, place-of-number, number-fresh, none-given, none-used}
 use Rattle.rules.specs.Vector.{pair as pairList, noPair}
@@ -63,7 +63,7 @@ tight-opened n k nl (OfMessage r w) o = refl
 opened-number : (n k c j : ℕ) → numberOf (openHouse n k) c j ≡ j
 unfolding openHouse
 opened-number n k c j =
-    number-fresh (openHouse n k) c j (λ w l. cond-ind (λ x. x ≡ 0) (w == 0) (λ e. absurd (let z = eqb-true w 0 e in omega arith)) (λ e. refl))
+    number-fresh (openHouse n k) c j (λ w l _. cond-ind (λ x. x ≡ 0) (w == 0) (λ e. absurd (let z = eqb-true w 0 e in omega arith)) (λ e. refl))
 
 -- and number 1 stands in place 0
 first-place : (n k c : ℕ) → placeOf (openHouse n k) c 1 ≡ 0
@@ -127,6 +127,11 @@ module _ (n k c : ℕ) (cl : c < controllers) (l : c < n) where
       ∙ fun-ext (changedAt-ind (λ x y. within 1 noVec (λ x. placeVec σ c (placeOf σ c x)) x ≡ y) (λ x. noVec) 1 (changedAt noVec c (pair 0 1))
       (within-in 1 noVec (λ x. placeVec σ c (placeOf σ c x)) 1 (omega arith) (omega arith) ∙ ap (placeVec σ c) (first-place n k c) ∙ own-vec)
       (λ x ne. within-out 1 noVec (λ x. placeVec σ c (placeOf σ c x)) x (λ p. omega arith))))
+      (ap (λ m. within m false (λ x. σ (Flag c (placeOf σ c x)) == 1)) one-live
+      ∙ fun-ext (changedAt-ind (λ x y. within 1 false (λ x. σ (Flag c (placeOf σ c x)) == 1) x ≡ y) (λ x. false) 1 true
+      (within-in 1 false (λ x. σ (Flag c (placeOf σ c x)) == 1) 1 (omega arith) (omega arith) ∙ ap (λ p. σ (Flag c p) == 1) (first-place n k c)
+      ∙ ap (λ z. z == 1) (own-place (word (Flag c 0))))
+      (λ x ne. within-out 1 false (λ x. σ (Flag c (placeOf σ c x)) == 1) x (λ p. omega arith))))
 
 -- controllers from n on
 open-none : (n k c : ℕ) → n ≤ c → modelController (openHouse n k) c ≡ absentController
@@ -138,6 +143,7 @@ open-none n k c h =
     controller-path (none (word (Degree c))) (none (word (Incarnation c))) live (opened-number n k c _ ∙ none (word (StableCount c))) (fun-ext (λ owner. fun-ext (λ i. rw e))) refl
     (ap (λ m. within m 0 (λ x. openHouse n k (PlaceIncarnation c (placeOf (openHouse n k) c x)))) live ∙ fun-ext (λ x. within-out 0 0 _ x (λ p. p)))
     (ap (λ m. within m noVec (λ x. placeVec (openHouse n k) c (placeOf (openHouse n k) c x))) live ∙ fun-ext (λ x. within-out 0 noVec _ x (λ p. p)))
+    (ap (λ m. within m false (λ x. openHouse n k (Flag c (placeOf (openHouse n k) c x)) == 1)) live ∙ fun-ext (λ x. within-out 0 false _ x (λ p. p)))
 
 -- O: "n controllers, all with K = k; .. all else 0"
 pub image-opened : (n k : ℕ) → n ≤ controllers → image (openHouse n k) ≡ openModel n k
@@ -147,4 +153,4 @@ image-opened n k nl =
     ∙ model-path
     (fun-ext (λ c. cond-ind (λ x. modelController (openHouse n k) c ≡ x) (c <? n)
     (λ e. let l = ltb-true c n e in open-controller n k c (omega arith) l) (λ e. open-none n k c (ltb-false c n e))))
-    (none-given (openHouse n k) refl) (fun-ext (λ m. message-none (openHouse n k) m (omega (arith, none-used (openHouse n k) refl))))
+    (none-given (openHouse n k) refl) (fun-ext (λ m. message-none (openHouse n k) m (omega (arith, none-used (openHouse n k) refl)))) refl

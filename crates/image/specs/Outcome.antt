@@ -4,11 +4,12 @@ use mathlib.Core.Logic.{_≢_, _⊎_}
 use Prim.Native.Nat.{ℕ, _+_, _≤_, _<_}
 use Rattle.table.specs.Field.{desk}
 use Rattle.table.specs.Layout.{controllers, incarnations}
+use Rattle.rules.specs.Limits.{lastGap}
 use Rattle.rules.specs.Step.{Call, asks}
 use Rattle.rules.specs.declared.Answer.{Answer}
 use Rattle.rules.specs.declared.Answer.the-variants.{Done, Sent, Released, Held, Delivered, Dropped, Waits, Crashed, Heard, Rolled, Refused}
-use Rattle.rules.specs.declared.Command.the-variants.{Open, SetDegree, Send, Release, Deliver, Log, Checkpoint, Tell, Crash, Hear}
-use Rattle.model.specs.Model.{Model, putController, degreeController, logController, loggedController, tellController, endController, beginController, anewController, sendMessage, releaseMessage, openModel}
+use Rattle.rules.specs.declared.Command.the-variants.{Open, SetDegree, Send, Release, Deliver, Log, Checkpoint, Tell, Crash, Hear, SetGap}
+use Rattle.model.specs.Model.{Model, putController, degreeController, logController, loggedController, checkpointController, aboveLatest, capModel, gapModel, tellController, endController, beginController, anewController, sendMessage, releaseMessage, openModel}
 use Rattle.model.specs.Vectors.{Condemned}
 use Rattle.model.specs.Steps.{Delivers, LetsOut}
 use Rattle.model.specs.Recovery.{HearsOf, notedController, NoneCondemned, LowestCondemned}
@@ -32,19 +33,22 @@ module _ (n : ℕ) (μ : Model) where
         Outcome (asks (Deliver m)) (Dropped m) n μ
     waits : (m : ℕ) → Outcome (asks (Deliver m)) (Waits m) n μ
     delivered : (m c : ℕ) → c ≡ μ .message m .to → Delivers n μ m →
-        Outcome (asks (Deliver m)) (Delivered m (μ .controller c .incarnation) (μ .controller c .live + 1)) n (putController μ c (beginController c (μ .controller c) (μ .message m .vec)))
+        Outcome (asks (Deliver m)) (Delivered m (μ .controller c .incarnation) (μ .controller c .live + 1)) n
+        (capModel (putController μ c (beginController c (μ .controller c) (μ .message m .vec))) c)
     logged : (c q : ℕ) → c < n → 1 ≤ q → μ .controller c .stable + q ≤ μ .controller c .live →
         Outcome (asks (Log c q)) Done n (putController μ c (logController c (μ .controller c) (μ .controller c .stable + q)))
-    checkpointed : (c : ℕ) → c < n → Outcome (asks (Checkpoint c)) Done n (putController μ c (loggedController c (μ .controller c) (μ .controller c .live)))
+    checkpointed : (c : ℕ) → c < n → Outcome (asks (Checkpoint c)) Done n (putController μ c (checkpointController c (μ .controller c)))
     told : (owner holder : ℕ) → owner < n → holder < n → owner ≢ holder →
         Outcome (asks (Tell owner holder)) Done n (putController μ holder (tellController owner (μ .controller holder) (μ .controller owner .known owner)))
-    crashed : (c lost replayed : ℕ) → c < n →
-        Outcome (asks (Crash c)) (Crashed c (μ .controller c .incarnation) (μ .controller c .stable) lost replayed) n
-        (putController μ c (anewController c (endController c (μ .controller c)) (μ .controller c .stable)))
+    crashed : (c lost : ℕ) → c < n →
+        Outcome (asks (Crash c)) (Crashed c (μ .controller c .incarnation) (μ .controller c .stable) lost (aboveLatest (μ .controller c) (μ .controller c .stable))) n
+        (capModel (putController μ c (anewController c (endController c (μ .controller c)) (μ .controller c .stable))) c)
     heard : (hearer owner i : ℕ) → HearsOf n μ hearer owner i → NoneCondemned n (notedController μ hearer owner i) →
         Outcome (asks (Hear hearer owner i)) (Heard hearer) n (putController μ hearer (notedController μ hearer owner i))
-    rolled : (hearer owner i x undone replayed : ℕ) → HearsOf n μ hearer owner i → LowestCondemned n (notedController μ hearer owner i) x →
-        Outcome (asks (Hear hearer owner i)) (Rolled hearer x undone replayed) n (putController μ hearer (anewController hearer (loggedController hearer (notedController μ hearer owner i) x) x))
+    rolled : (hearer owner i x undone : ℕ) → HearsOf n μ hearer owner i → LowestCondemned n (notedController μ hearer owner i) x →
+        Outcome (asks (Hear hearer owner i)) (Rolled hearer x undone (aboveLatest (μ .controller hearer) x)) n
+        (capModel (putController μ hearer (anewController hearer (loggedController hearer (notedController μ hearer owner i) x) x)) hearer)
+    gap-set : (q : ℕ) → q ≤ lastGap → Outcome (asks (SetGap q)) Done n (gapModel μ q)
 
 -- only a done opening changes the number of controllers
 pub kept-size : {n : ℕ} {μ : Model} {x : Call} {a : Answer} {j : ℕ} {μ′ : Model} → Outcome n μ x a j μ′ → ((i k : ℕ) → x ≡ asks (Open i k) → a ≢ Done) → j ≡ n
@@ -60,6 +64,7 @@ kept-size (delivered m c e h) o = refl
 kept-size (logged c q h i l) o = refl
 kept-size (checkpointed c h) o = refl
 kept-size (told owner holder p q ne) o = refl
-kept-size (crashed c lost replayed h) o = refl
+kept-size (crashed c lost h) o = refl
 kept-size (heard hearer owner i h s) o = refl
-kept-size (rolled hearer owner i x undone replayed h l) o = refl
+kept-size (rolled hearer owner i x undone h l) o = refl
+kept-size (gap-set q h) o = refl

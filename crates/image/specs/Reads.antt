@@ -1,8 +1,10 @@
 -- What the model of a state says, word by word.
 use mathlib.Core.Path.{_≡_, sym, ap, _∙_}
+use mathlib.Core.Bool.{false}
 use Prim.Native.Nat.{ℕ, _-_, _≤_, _<_}
 use native.Mathlib.Omega.{arith}
-use Rattle.table.specs.Field.{State, Known, End, Degree, Incarnation, LiveCount, StableCount, Sender, Receiver, SendingIncarnation, SendingNumber}
+use Rattle.base.specs.Choice.{_==_}
+use Rattle.table.specs.Field.{State, Known, End, Gap, Degree, Incarnation, LiveCount, StableCount, Flag, Sender, Receiver, SendingIncarnation, SendingNumber}
 use Rattle.table.specs.Layout.{controllers, incarnations, places, messages}
 use Rattle.table.specs.Numbering.{numberOf, placeOf, used, lastGiven, recordOf, place-lt, place-from, number-same, last-agree}
 use Rattle.rules.specs.Vector.{placeVector, messageVector}
@@ -11,6 +13,7 @@ use Rattle.history.specs.History.{interval}
 use Rattle.model.specs.Model.{Message}
 use Rattle.laws.specs.Agree.{placeVector-same, messageVector-same}
 use Rattle.image.specs.View.{view, view-at, view-tight}
+use Rattle.image.specs.Functions.{within-in}
 use Rattle.image.specs.Image.{controllerBy, modelMessage, decode, image, agree-view, vec-at, image-message}
 use Rattle.image.specs.Vectors.{vecOf, place-vec, message-vec}
 
@@ -18,6 +21,11 @@ use Rattle.image.specs.Vectors.{vecOf, place-vec, message-vec}
 pub sent-is : (σ : State) → image σ .sent ≡ lastGiven σ
 unfolding image decode
 sent-is σ = sym (last-agree σ (view σ) (agree-view σ))
+
+-- the gap
+pub gap-is : (σ : State) → image σ .gap ≡ σ Gap
+unfolding image decode
+gap-is σ = view-at σ Gap (omega arith)
 
 module _ (σ : State) (c : ℕ) (cl : c < controllers) where
   -- what is seen numbers alike
@@ -78,6 +86,15 @@ module _ (σ : State) (c : ℕ) (cl : c < controllers) where
       let below = place-lt σ c (σ (LiveCount c)) x l1 q in
       vec-at (view σ) c x p (omega (arith, live-is)) ∙ sym (place-vec (view σ) (view-tight σ) c (placeOf (view σ) c x)) ∙ ap (λ p. vecOf (placeVector (view σ) c p)) (place-seen x)
       ∙ ap vecOf (sym (placeVector-same σ (view σ) (agree-view σ) c (placeOf σ c x) cl (omega arith)))
+
+  -- whether number x, live, is flagged
+  pub flag-is : (x : ℕ) → 1 ≤ x → x ≤ numberOf σ c (σ (LiveCount c)) → 1 ≤ σ (LiveCount c) → σ (LiveCount c) ≤ places →
+      image σ .controller c .flagged x ≡ (σ (Flag c (placeOf σ c x)) == 1)
+  unfolding image decode controllerBy
+  flag-is x p q l1 ll =
+      let below = place-lt σ c (σ (LiveCount c)) x l1 q in
+      within-in _ false (λ x. view σ (Flag c (placeOf (view σ) c x)) == 1) x p (omega (arith, live-is))
+      ∙ ap (λ p. view σ (Flag c p) == 1) (place-seen x) ∙ ap (λ y. y == 1) (view-at σ (Flag c (placeOf σ c x)) (cl, omega arith, omega arith))
 
 module _ (σ : State) (m : ℕ) (l : recordOf σ m < used σ) (room : used σ ≤ messages) where
   abbrev r : ℕ

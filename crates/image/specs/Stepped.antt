@@ -17,16 +17,16 @@ use Rattle.table.specs.Numbering.{numberOf, used, recordOf, number-from, number
 use Rattle.table.specs.Words.{state, words, word-at}
 use Rattle.rules.specs.Limits.{house, lastIncarnation}
 use Rattle.rules.specs.Refusal.{LENGTH, FORM, PLACES-USED-UP, INCARNATIONS-USED-UP, LEDGER-USED-UP}
-use Rattle.rules.specs.Vector.{Vector, placeVector, messageVector, filtered, condemned, mask, conflict}
+use Rattle.rules.specs.Vector.{Vector, placeVector, messageVector, filtered, condemned, mask, conflict, merged}
 use Rattle.rules.specs.Form.{inForm, stateReleased, stateDropped, statePublished, forDesk}
 use Rattle.rules.specs.Ledger.{countOf, blankLedger}
-use Rattle.rules.specs.Shared.{newestPlace, logged, loggedTo, causesIn, causes, placed, entered, restarted, dropHeld, startAnew, removed, replayed}
-use Rattle.rules.specs.Steps.{After, after, refusing, AfterBoth, refusingBoth, openHouse, openRefusals, stepOpen, degreeRefusals, stepDegree, sent, noReceiver, sendRefusals, stepSend, messageRefusals, letOut, mayGo, release, releaseRefusals, stepRelease, intervalAdded, intervalBegins, deliver, stepDeliver, logRefusals, stepLog, checkpointed, checkpointRefusals, stepCheckpoint, told, tellRefusals, stepTell, crashed, crashRefusals, stepCrash, noted, lowestCondemned, rolledBack, hear, hearRefusals, stepHear}
+use Rattle.rules.specs.Shared.{newestPlace, logged, loggedTo, checkpointed, forced, capped, causesIn, causes, placed, entered, restarted, dropHeld, startAnew, removed}
+use Rattle.rules.specs.Steps.{After, after, refusing, AfterBoth, refusingBoth, openHouse, openRefusals, stepOpen, degreeRefusals, stepDegree, sent, noReceiver, sendRefusals, stepSend, messageRefusals, letOut, mayGo, release, releaseRefusals, stepRelease, intervalAdded, intervalBegins, deliver, stepDeliver, logRefusals, stepLog, checkpointRefusals, stepCheckpoint, told, tellRefusals, stepTell, crashed, crashRefusals, stepCrash, noted, lowestCondemned, rolledBack, hear, hearRefusals, stepHear, gapRefusals, stepGap}
 use Rattle.rules.specs.Step.{perform, looksAtForm, stepOn, OutBoth, writtenBoth, lent, step, Call, asks, stepCall}
 use Rattle.rules.specs.declared.Answer.{Answer}
-use Rattle.rules.specs.declared.Answer.the-variants.{Done, Sent, Delivered, Crashed, Refused}
+use Rattle.rules.specs.declared.Answer.the-variants.{Done, Sent, Delivered, Crashed, Rolled, Refused}
 use Rattle.rules.specs.declared.Command.{Command}
-use Rattle.rules.specs.declared.Command.the-variants.{Open, SetDegree, Send, Release, Deliver, Log, Checkpoint, Tell, Crash, Hear}
+use Rattle.rules.specs.declared.Command.the-variants.{Open, SetDegree, Send, Release, Deliver, Log, Checkpoint, Tell, Crash, Hear, SetGap}
 use Rattle.history.specs.History.{Interval}
 use Rattle.model.specs.Model as M
 use Rattle.model.specs.Vectors.{Condemned}
@@ -34,15 +34,16 @@ use Rattle.model.specs.Beginning.{Compatible}
 use Rattle.model.specs.Steps.{Delivers, LetsOut}
 use Rattle.model.specs.Recovery.{HearsOf, notedController, NoneCondemned, LowestCondemned}
 use Rattle.laws.specs.Facts.{Form, form, controllerForm, messageForm, released-lt}
-use Rattle.laws.specs.Allowed.{openAllowed, degreeAllowed, sendAllowed, messageAllowed, releaseAllowed, logAllowed, checkpointAllowed, tellAllowed, crashAllowed, hearAllowed}
-use Rattle.laws.specs.Chain.{Starts, chain-form}
+use Rattle.laws.specs.Allowed.{openAllowed, degreeAllowed, sendAllowed, messageAllowed, releaseAllowed, logAllowed, checkpointAllowed, tellAllowed, crashAllowed, hearAllowed, gapAllowed}
+use Rattle.laws.specs.Chain.{Starts, chain-form, chain-counts, counts-added}
 use Rattle.laws.specs.Found.{lowest}
 use Rattle.image.specs.Image.{image, image-same, putController-own}
 use Rattle.image.specs.Changes.{image-state}
-use Rattle.image.specs.Controllers.{image-degree, image-logged, image-checkpointed, image-told, image-noted}
+use Rattle.image.specs.Controllers.{image-degree, image-gap, image-logged, image-told, image-noted}
 use Rattle.image.specs.Open.{image-opened}
 use Rattle.image.specs.Messages.{image-sent, image-letOut}
-use Rattle.image.specs.Begin.{image-begun}
+use Rattle.image.specs.Begin.{numbers-added, image-begun}
+use Rattle.image.specs.Capped.{replayed-is, image-checkpointed, image-capped}
 use Rattle.image.specs.Anew.{numbers-noted, image-crashed, image-heard-rolled}
 use Rattle.image.specs.Vectors.{vecOf, length-message, length-filtered}
 use Rattle.image.specs.Mask.{named-is}
@@ -87,6 +88,10 @@ stepped-open σ g n k =
 loggedTo-size : (σ : State) (c k : ℕ) → loggedTo σ c k Size ≡ σ Size
 unfolding loggedTo logged put same
 loggedTo-size σ c k = cond-ind (λ (τ : State). τ Size ≡ σ Size) (σ (StableCount c) <? k) (λ e. refl) (λ e. refl)
+
+capped-size : (σ : State) (c : ℕ) → capped σ c Size ≡ σ Size
+unfolding capped checkpointed put same
+capped-size σ c = cond-ind (λ (τ : State). τ Size ≡ σ Size) (forced σ c) (λ e. loggedTo-size σ c (σ (LiveCount c))) (λ e. refl)
 
 -- a message that may go names no more than its sender's degree
 go-few : (σ : State) (r names : ℕ) → mayGo σ r names ≡ true → ones names ≤ σ (Degree (σ (Sender r)))
@@ -225,9 +230,9 @@ module _ (σ : State) (f : Form σ) where
       (λ _. outcome-as _ _ (asks (Release m)) refl refl (image-letOut σ f m statePublished l) out))))
 
   -- D
-  stepped-deliver : (m : ℕ) → Stepped σ (Deliver m) (stepDeliver house σ m)
+  stepped-deliver : Fresh σ → (m : ℕ) → Stepped σ (Deliver m) (stepDeliver house σ m)
   unfolding stepDeliver deliver intervalBegins intervalAdded put same putPart
-  stepped-deliver m =
+  stepped-deliver z m =
       stepped-refusing σ (Deliver m) (messageRefusals σ (recordOf σ m) stateReleased) _
       (λ e. let r = recordOf σ m in
       let a = messageAllowed σ r stateReleased e in
@@ -243,8 +248,11 @@ module _ (σ : State) (f : Form σ) where
       (O.dropped m (present-pos σ m l) (was-sent σ f m l) (subst (λ c. c < σ Size) (receiver-is σ f m l) h) (drop-found σ f m l h q)))
       (λ q. cond-ind (Stepped σ (Deliver m)) (conflict c ours theirs) (λ q′. O.waits m)
       (λ q′. cond-ind (Stepped σ (Deliver m)) (places ≤? σ (LiveCount c)) (λ _. O.refused (asks (Deliver m)) PLACES-USED-UP)
-      (λ w. outcome-as _ _ (asks (Deliver m)) (ap₂ (Delivered m) (sym (incarnation-is σ c cl)) x) refl
-      (image-begun σ f c m h (leb-false places (σ (LiveCount c)) w) l)
+      (λ w. let room = leb-false places (σ (LiveCount c)) w in
+      let v = merged ours theirs in
+      outcome-as _ _ (asks (Deliver m)) (ap₂ (Delivered m) (sym (incarnation-is σ c cl)) x) (capped-size (intervalAdded σ c m r v) c)
+      (image-capped (intervalAdded σ c m r v) c (counts-added σ c m r v (chain-counts (chain-form σ c f h)) room) (fresh-kept σ _ (numbers-added σ c m r v) z)
+      ∙ ap (λ (μ : M.Model). M.capModel μ c) (image-begun σ f c m h room l))
       (O.delivered m c (receiver-is σ f m l) (deliver-found σ f m l h q q′))))))
 
   -- L
@@ -263,16 +271,12 @@ module _ (σ : State) (f : Form σ) where
       (omega (arith, live-is σ c cl, number-from σ c (σ (LiveCount c)), number-from σ c (stable + q), d .number-le))))
 
   -- C
-  stepped-checkpoint : (c : ℕ) → Stepped σ (Checkpoint c) (stepCheckpoint σ c)
+  stepped-checkpoint : Fresh σ → (c : ℕ) → Stepped σ (Checkpoint c) (stepCheckpoint σ c)
   unfolding stepCheckpoint checkpointed put same
-  stepped-checkpoint c =
+  stepped-checkpoint z c =
       stepped-refusing σ (Checkpoint c) (checkpointRefusals σ c) _
       (λ e. let h = checkpointAllowed σ c e in
-      let k = controllerForm f c h in
-      let cl : c < controllers = omega arith in
-      outcome-as _ _ (asks (Checkpoint c)) refl (loggedTo-size σ c (σ (LiveCount c)))
-      (image-checkpointed σ c cl (omega arith) ∙ ap (λ x. M.putController (image σ) c (M.loggedController c (image σ .controller c) x)) (sym (live-is σ c cl)))
-      (O.checkpointed c h))
+      outcome-as _ _ (asks (Checkpoint c)) refl (loggedTo-size σ c (σ (LiveCount c))) (image-checkpointed σ c (chain-counts (chain-form σ c f h)) z) (O.checkpointed c h))
 
   -- T
   stepped-tell : (owner holder : ℕ) → Stepped σ (Tell owner holder) (stepTell σ owner holder)
@@ -283,19 +287,23 @@ module _ (σ : State) (f : Form σ) where
       outcome-as _ _ (asks (Tell owner holder)) refl refl (image-told σ owner holder (omega arith) (omega arith)) (O.told owner holder (d .owner-lt) (d .holder-lt) (d .differ)))
 
   -- X
-  stepped-crash : (c : ℕ) → Stepped σ (Crash c) (stepCrash house σ c)
+  stepped-crash : Fresh σ → (c : ℕ) → Stepped σ (Crash c) (stepCrash house σ c)
   unfolding stepCrash crashed removed startAnew dropHeld restarted placed entered causes causesIn put same putPart clearPlaces putStates
-  stepped-crash c =
+  stepped-crash z c =
       stepped-refusing σ (Crash c) (crashRefusals house σ c) _
       (λ e. let d = crashAllowed σ c e in
       let k = controllerForm f c (d .controller-lt) in
       let cl : c < controllers = omega arith in
       let j = σ (StableCount c) in
       let s = sym (stable-is σ c cl) in
-      outcome-as _ _ (asks (Crash c)) (ap₂ (λ i x. Crashed c i x (σ (LiveCount c) - j) (replayed σ c j)) (sym (incarnation-is σ c cl)) s) refl
-      (image-crashed σ c (starts σ f c j (d .controller-lt) (k .stable-pos) (k .stable-le) (d .room) (d .incarnation-lt))
-      ∙ ap (λ x. M.putController (image σ) c (M.anewController c (M.endController c (image σ .controller c)) x)) s)
-      (O.crashed c _ _ (d .controller-lt)))
+      let model = image σ .controller c in
+      outcome-as _ _ (asks (Crash c))
+      (ap (Crashed c (σ (Incarnation c)) (numberOf σ c j) (σ (LiveCount c) - j)) (replayed-is σ c (chain-counts (chain-form σ c f (d .controller-lt))) z j (k .stable-le))
+      ∙ ap₂ (λ i x. Crashed c i x (σ (LiveCount c) - j) (M.aboveLatest model x)) (sym (incarnation-is σ c cl)) s)
+      (capped-size _ c)
+      (image-crashed σ c (starts σ f c j (d .controller-lt) (k .stable-pos) (k .stable-le) (d .room) (d .incarnation-lt)) z
+      ∙ ap (λ x. M.capModel (M.putController (image σ) c (M.anewController c (M.endController c model) x)) c) s)
+      (O.crashed c _ (d .controller-lt)))
 
   -- what a hearing has found
   hear-found : (hearer owner i : ℕ) → 0 ≡ firstOf (hearRefusals σ hearer owner i) → HearsOf (σ Size) (image σ) hearer owner i
@@ -332,11 +340,18 @@ module _ (σ : State) (f : Form σ) where
       (λ l. let l′ = leb-false (σ (LiveCount hearer)) k l in
       cond-ind (Stepped σ (Hear hearer owner i)) (lastIncarnation ≤? σ (Incarnation hearer)) (λ w. O.refused (asks (Hear hearer owner i)) INCARNATIONS-USED-UP)
       (λ w. let w′ = leb-false lastIncarnation (σ (Incarnation hearer)) w in
-      outcome-as _ _ (asks (Hear hearer owner i)) refl (loggedTo-size τ hearer k)
-      (image-heard-rolled σ hearer owner i k (starts σ f hearer k (d .hearer-lt) (low .pos) (omega arith) (omega arith) w′) (omega arith) (omega arith))
-      (O.rolled hearer owner i (numberOf σ hearer k) _ _ h
+      outcome-as _ _ (asks (Hear hearer owner i))
+      (ap (Rolled hearer (numberOf σ hearer k) (σ (LiveCount hearer) - k)) (replayed-is σ hearer (chain-counts (chain-form σ hearer f (d .hearer-lt))) z k (omega arith)))
+      (capped-size _ hearer ∙ loggedTo-size τ hearer k)
+      (image-heard-rolled σ hearer owner i k (starts σ f hearer k (d .hearer-lt) (low .pos) (omega arith) (omega arith) w′) z (omega arith) (omega arith))
+      (O.rolled hearer owner i (numberOf σ hearer k) _ h
       (subst (LowestCondemned (σ Size) (notedController (image σ) hearer owner i)) (n .number hearer k)
       (subst (λ (q : M.Controller). LowestCondemned (σ Size) q (numberOf τ hearer k)) controller (lowest-condemned τ hearer s z′ l′)))))))
+
+  -- W4: the gap
+  stepped-gap : (q : ℕ) → Stepped σ (SetGap q) (stepGap σ q)
+  unfolding stepGap put same
+  stepped-gap q = stepped-refusing σ (SetGap q) (gapRefusals q) _ (λ e. outcome-as _ _ (asks (SetGap q)) refl refl (image-gap σ q) (O.gap-set q (gapAllowed q e)))
 
 -- after the host's look at the form
 looked : (σ : State) (g : List ℕ) (x : Command) → looksAtForm x ≡ true → (Form σ → Fresh σ → SteppedBoth σ x (perform house σ g x)) → SteppedBoth σ x (stepOn house σ g x)
@@ -352,12 +367,13 @@ stepped-state σ g (Open n k) = stepped-open σ g n k
 stepped-state σ g (SetDegree c k) = looked σ g (SetDegree c k) refl (λ f z. stepped-degree σ f c k)
 stepped-state σ g (Send sender receiver payload) = looked σ g (Send sender receiver payload) refl (λ f z. stepped-send σ f sender receiver payload)
 stepped-state σ g (Release m) = looked σ g (Release m) refl (λ f z. stepped-release σ f g m)
-stepped-state σ g (Deliver m) = looked σ g (Deliver m) refl (λ f z. stepped-deliver σ f m)
+stepped-state σ g (Deliver m) = looked σ g (Deliver m) refl (λ f z. stepped-deliver σ f z m)
 stepped-state σ g (Log c q) = looked σ g (Log c q) refl (λ f z. stepped-log σ f c q)
-stepped-state σ g (Checkpoint c) = looked σ g (Checkpoint c) refl (λ f z. stepped-checkpoint σ f c)
+stepped-state σ g (Checkpoint c) = looked σ g (Checkpoint c) refl (λ f z. stepped-checkpoint σ f z c)
 stepped-state σ g (Tell owner holder) = looked σ g (Tell owner holder) refl (λ f z. stepped-tell σ f owner holder)
-stepped-state σ g (Crash c) = looked σ g (Crash c) refl (λ f z. stepped-crash σ f c)
+stepped-state σ g (Crash c) = looked σ g (Crash c) refl (λ f z. stepped-crash σ f z c)
 stepped-state σ g (Hear hearer owner i) = looked σ g (Hear hearer owner i) refl (λ f z. stepped-hear σ f z hearer owner i)
+stepped-state σ g (SetGap q) = looked σ g (SetGap q) refl (λ f z. stepped-gap σ f q)
 
 -- the model of a table
 abbrev pub modelOf : List ℕ → M.Model

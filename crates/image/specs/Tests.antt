@@ -7,7 +7,7 @@ use lib.ListN.{length}
 use Rattle.base.specs.Choice.{le?}
 use Rattle.table.specs.Field.{State, OfHead, End, Size, LiveCount, Sender, same}
 use Rattle.table.specs.Change.{put}
-use Rattle.table.specs.Layout.{controllers, headWords}
+use Rattle.table.specs.Layout.{controllers}
 use Rattle.table.specs.Numbering.{numberOf, placeOf, used, recordOf, number-from, place-lt, place-next, place-ge, Numbered, number-fresh}
 use Rattle.rules.specs.Limits.{house}
 use Rattle.rules.specs.Form.{inForm}
@@ -22,7 +22,7 @@ use Rattle.laws.specs.Facts.{VectorForm, Form, placeForm, messageForm, spare-wo
 use Rattle.laws.specs.Agree.{filtered-same}
 use Rattle.laws.specs.Chain.{Chain, chain-form, chain-noted}
 use Rattle.laws.specs.Found.{condemned-some, condemned-none, conflict-none, Lowest, lowest}
-use Rattle.image.specs.View.{view, view-at, view-out}
+use Rattle.image.specs.View.{view, view-at}
 use Rattle.image.specs.Image.{decode, image, agree-view}
 use Rattle.image.specs.Vectors.{vecOf, past, length-place, length-message, filter-vec}
 use Rattle.image.specs.Reads.{number-seen, live-is, ends-is, vec-is, from-is, message-vec-is}
@@ -131,7 +131,7 @@ fresh σ e =
       count = λ c k cl.
           sym (number-seen σ c cl k)
           ∙ number-fresh (view σ) c k
-          (λ w l. le? (w + 1) headWords (λ h. view-at σ (OfHead w) (omega arith) ∙ spare-words σ e w l (omega arith)) (λ h. view-out σ (OfHead w) (λ v. omega arith)));
+          (λ w l u. view-at σ (OfHead w) (omega arith) ∙ spare-words σ e w l u);
     }
 
 -- and so is what a change leaves that numbers alike

@@ -1,5 +1,5 @@
 -- Rules look only at words of the table: on states with the same words they give the same, and leave the same words.
-use mathlib.Core.Path.{_≡_, refl, ap, ap₂, _∙_}
+use mathlib.Core.Path.{_≡_, refl, ap, ap₂, _∙_, subst}
 use mathlib.Core.Bool.{cond, not, _&&_}
 use Prim.Native.Nat.{ℕ, zero, suc, _+_, _-_, _≤_, _<_, max}
 use native.Mathlib.Omega.{arith}
@@ -7,13 +7,14 @@ use lib.ListN.{set}
 use Rattle.base.specs.Choice.{_==_, _≤?_, _<?_}
 use Rattle.base.specs.Ranges.{anyb, first, anyb-same, first-same}
 use Rattle.base.specs.Lists.{tab-same}
-use Rattle.table.specs.Field.{State, Known, End, OfPlace, Incarnation, LiveCount, StableCount, PlaceIncarnation, PlaceNumber, Cause, Flag, MessageState, Sender, Receiver, SendingNumber, desk}
+use Rattle.table.specs.Field.{State, Known, End, OfPlace, Gap, Incarnation, LiveCount, StableCount, PlaceIncarnation, PlaceNumber, Cause, Flag, MessageState, Sender, Receiver, SendingNumber, same, desk}
+use Rattle.table.specs.Change.{put, put-same}
 use Rattle.table.specs.Layout.{controllers, incarnations, places, messages, valid-pair, valid-message-pair}
 use Rattle.table.specs.Words.{Agree, agree-put, agree-put-to, agree-value, agree-part-to, agree-values, agree-clear-to, agree-cond, agree-states}
 use Rattle.table.specs.Numbering.{numberOf, messageOf, number-same, used-agree, message-agree, posted-agree}
 use Rattle.rules.specs.Vector.{Pair, Vector, pair, noPair, incarnation, number, empty, pairOf, placeVector, messageVector, knownStable, filterPair, filtered, condemnedPair, condemned}
 use Rattle.rules.specs.Form.{stateHeld, stateReleased, stateDelivered, stateDropped}
-use Rattle.rules.specs.Shared.{newestPlace, placeRecord, logged, loggedTo, causing, causedIn, causesIn, causes, offeredAgain, newVector, placed, entered, restarted, heldOrDropped, dropHeld, startAnew, latestFlagged, replayed}
+use Rattle.rules.specs.Shared.{newestPlace, placeRecord, logged, loggedTo, checkpointed, forced, capped, causing, causedIn, causesIn, causes, offeredAgain, newVector, placed, entered, restarted, heldOrDropped, dropHeld, startAnew, latestFlagged, replayed}
 use Rattle.rules.specs.Steps.{messageRecord, sent, intervalAdded, toldRow, told, noted, lowestCondemned}
 use Rattle.laws.specs.Facts.{Near}
 use Rattle.laws.specs.Records.{placeVector-of, messageVector-of}
@@ -118,6 +119,23 @@ module _ (σ τ : State) (e : Agree σ τ) where
   unfolding loggedTo
   agree-loggedTo c k cl = agree-cond _ _ _ _ (ap (λ n. n <? k) (stable-same c cl)) (agree-logged c k cl) e
 
+  -- a checkpoint
+  pub agree-checkpointed : (c : ℕ) → c < controllers → Agree (checkpointed σ c) (checkpointed τ c)
+  unfolding checkpointed
+  agree-checkpointed c cl =
+      let live = live-same c cl in
+      agree-put-to _ _ (ap (λ n. Flag c (n - 1)) live) refl (subst (λ n. Agree (loggedTo σ c (σ (LiveCount c))) (loggedTo τ c n)) live (agree-loggedTo c (σ (LiveCount c)) cl))
+
+  -- whether the newest interval is to be checkpointed as it begins, and where it was
+  forced-same : (c : ℕ) → c < controllers → σ (LiveCount c) ≤ places → forced σ c ≡ forced τ c
+  unfolding forced
+  forced-same c cl ll =
+      ap₂ (λ q x. not (q == 0) && (q ≤? x)) (e Gap (omega arith)) (replayed-same c (σ (LiveCount c)) cl ll ∙ ap (replayed τ c) (live-same c cl))
+
+  pub agree-capped : (c : ℕ) → c < controllers → σ (LiveCount c) ≤ places → Agree (capped σ c) (capped τ c)
+  unfolding capped
+  agree-capped c cl ll = agree-cond _ _ _ _ (forced-same c cl ll) (agree-checkpointed c cl) e
+
   -- states of causes
   pub agree-causes : (c k : ℕ) → c < controllers → k ≤ σ (LiveCount c) → σ (LiveCount c) ≤ places → ((r : ℕ) → r < messages → Near (messageVector σ r)) →
       Agree (causes σ c k) (causes τ c k)
@@ -204,8 +222,16 @@ agree-restarted σ τ e c k cl kl k1 near =
     let x = number-same σ τ e c (k + 1) cl in
     agree-entered _ _ (agree-placed σ τ e c k cl i x (newVector-same σ τ e c k cl kl k1 near)) c (k + 1) i x
 
--- starting anew, with the messages that it drops
-pub agree-startAnew : (σ τ : State) → Agree σ τ → (c k : ℕ) → c < controllers → k ≤ places → 1 ≤ k → Near (placeVector σ c (k - 1)) →
+-- the live count of a start
+pub live-restarted : (σ : State) (c k : ℕ) → restarted σ c k (LiveCount c) ≡ k + 1
+unfolding restarted entered put same
+live-restarted σ c k =
+    let i = σ (Incarnation c) + 1 in
+    put-same (put (placed σ c k i (numberOf σ c (k + 1)) (newVector σ c k)) (Incarnation c) i) (LiveCount c) (k + 1)
+
+-- starting anew, with its checkpoint, if one is due, and the messages that it drops
+pub agree-startAnew : (σ τ : State) → Agree σ τ → (c k : ℕ) → c < controllers → k < places → 1 ≤ k → Near (placeVector σ c (k - 1)) →
     Agree (startAnew σ c k) (startAnew τ c k)
 unfolding startAnew
-agree-startAnew σ τ e c k cl kl k1 near = agree-dropHeld _ _ (agree-restarted σ τ e c k cl kl k1 near) c k cl
+agree-startAnew σ τ e c k cl kl k1 near =
+    agree-dropHeld _ _ (agree-capped _ _ (agree-restarted σ τ e c k cl (omega arith) k1 near) c cl (omega (arith, live-restarted σ c k))) c k cl

@@ -11,10 +11,10 @@ use Rattle.base.specs.Cases.{firstOf, cleared}
 use Rattle.table.specs.Field.{State, End, Size, Incarnation, LiveCount, StableCount, MessageState}
 use Rattle.table.specs.Layout.{controllers, places, messages}
 use Rattle.table.specs.Numbering.{used}
-use Rattle.rules.specs.Limits.{house, lastIncarnation}
+use Rattle.rules.specs.Limits.{house, lastIncarnation, lastGap}
 use Rattle.rules.specs.Form.{stateHeld}
 use Rattle.rules.specs.Ledger.{ledgerOk}
-use Rattle.rules.specs.Steps.{noController, noReceiver, openRefusals, degreeRefusals, sendRefusals, messageRefusals, releaseRefusals, logRefusals, checkpointRefusals, tellRefusals, crashRefusals, hearRefusals}
+use Rattle.rules.specs.Steps.{noController, noReceiver, openRefusals, degreeRefusals, sendRefusals, messageRefusals, releaseRefusals, logRefusals, checkpointRefusals, tellRefusals, crashRefusals, hearRefusals, gapRefusals}
 
 -- O
 pub record OpenAllowed (n k : ℕ) : Type 0 where
@@ -146,3 +146,7 @@ module _ (σ : State) where
         own-end = eqb-false _ _ (or-right (lastIncarnation <? i) _ (cleared _ 1 refl e));
         unheard = eqb-true _ _ (not-false _ (cleared _ 2 refl e));
       }
+
+-- no refusal of the step that sets the gap applies
+pub gapAllowed : (q : ℕ) → 0 ≡ firstOf (gapRefusals q) → q ≤ lastGap
+gapAllowed q e = ltb-false _ _ (cleared _ 0 refl e)

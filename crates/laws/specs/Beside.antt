@@ -11,12 +11,12 @@ use Rattle.table.specs.Words.{state}
 use Rattle.rules.specs.Limits.{house}
 use Rattle.rules.specs.Refusal.{LENGTH, FORM}
 use Rattle.rules.specs.Form.{inForm}
-use Rattle.rules.specs.Steps.{After, refuse, beside, stepDegree, stepSend, stepDeliver, stepLog, stepCheckpoint, stepTell, stepCrash, stepHear}
+use Rattle.rules.specs.Steps.{After, refuse, beside, stepDegree, stepSend, stepDeliver, stepLog, stepCheckpoint, stepTell, stepCrash, stepHear, stepGap}
 use Rattle.rules.specs.Step.{OutBoth, outBoth, writtenBoth, perform, looksAtForm, stepOn, lent, step}
 use Rattle.rules.specs.declared.Answer.{Answer}
 use Rattle.rules.specs.declared.Answer.the-variants.{Refused}
 use Rattle.rules.specs.declared.Command.{Command}
-use Rattle.rules.specs.declared.Command.the-variants.{Open, SetDegree, Send, Release, Deliver, Log, Checkpoint, Tell, Crash, Hear}
+use Rattle.rules.specs.declared.Command.the-variants.{Open, SetDegree, Send, Release, Deliver, Log, Checkpoint, Tell, Crash, Hear, SetGap}
 
 -- all but the opening and the release
 abbrev pub looksAtLedger : Command → Bool
@@ -30,6 +30,7 @@ looksAtLedger (Checkpoint c) = false
 looksAtLedger (Tell owner holder) = false
 looksAtLedger (Crash c) = false
 looksAtLedger (Hear hearer owner i) = false
+looksAtLedger (SetGap q) = false
 
 -- what such a step does on a state, whatever ledger lies beside it
 record Alone (x : Command) : Type 0 where
@@ -48,6 +49,7 @@ alone (Checkpoint c) e = record { does = λ σ. stepCheckpoint σ c; performs = 
 alone (Tell owner holder) e = record { does = λ σ. stepTell σ owner holder; performs = λ σ g. refl }
 alone (Crash c) e = record { does = λ σ. stepCrash house σ c; performs = λ σ g. refl }
 alone (Hear hearer owner i) e = record { does = λ σ. stepHear σ hearer owner i; performs = λ σ g. refl }
+alone (SetGap q) e = record { does = λ σ. stepGap σ q; performs = λ σ g. refl }
 
 -- done beside one ledger, it is done beside any other
 pub beside-any : (t k l g : List ℕ) (x : Command) (a : Answer) (u : List ℕ) → looksAtLedger x ≡ false → outBoth a u l ≡ step t k x → outBoth a u g ≡ step t g x

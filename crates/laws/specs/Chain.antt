@@ -3,27 +3,36 @@
 use mathlib.Core.Path.{_≡_, refl, sym, ap, _∙_, subst}
 use mathlib.Core.Bool.{Bool, true, false, _||_, or-true, true≢false}
 use mathlib.Core.List.{List}
-use Prim.Native.Nat.{ℕ, _≤_, _<_}
+use Prim.Native.Nat.{ℕ, _+_, _≤_, _<_}
+use lib.ListN.{set}
 use native.Mathlib.Omega.{arith}
 use borrow.Author.Tests.{le-leb}
 use Rattle.base.specs.Choice.{_==_, _≤?_, _<?_, cond-ind}
 use Rattle.base.specs.Cases.{firstOf}
-use Rattle.table.specs.Field.{Field, State, OfHead, OfController, Known, End, OfPlace, OfMessage, Size, Incarnation, LiveCount, StableCount, Flag, Sender, Receiver, PairIncarnation, PairNumber, MessagePairIncarnation, MessagePairNumber, word, messageHead}
-use Rattle.table.specs.Change.{put, put-ind, putStates, states-ind}
+use Rattle.table.specs.Field.{Field, State, OfHead, OfController, Known, End, OfPlace, OfMessage, Size, Incarnation, LiveCount, StableCount, Flag, Sender, Receiver, PairIncarnation, PairNumber, MessagePairIncarnation, MessagePairNumber, same, word, messageHead}
+use Rattle.table.specs.Change.{put, put-ind, put-same, putPart, putStates, states-ind}
 use Rattle.table.specs.Layout.{controllers, places, messages}
 use Rattle.table.specs.Words.{state, words, agree-words}
-use Rattle.table.specs.Numbering.{used, numbering, numbers-kept, used-agree}
+use Rattle.table.specs.Numbering.{numberOf, used, numbering, numbers-kept, used-agree}
 use Rattle.rules.specs.Limits.{house, lastIncarnation}
-use Rattle.rules.specs.Vector.{placeVector, messageVector}
+use Rattle.rules.specs.Vector.{Vector, pair, placeVector, messageVector}
 use Rattle.rules.specs.Form.{stateReleased}
-use Rattle.rules.specs.Shared.{logged, loggedTo, causesIn, causes}
-use Rattle.rules.specs.Steps.{noted, messageRefusals, releaseRefusals}
+use Rattle.rules.specs.Shared.{placeRecord, logged, loggedTo, causesIn, causes, newVector, placed, entered, restarted}
+use Rattle.rules.specs.Steps.{intervalAdded, noted, messageRefusals, releaseRefusals}
 use Rattle.laws.specs.Facts.{Near, Form, form, below-8, controllerForm, placeForm, messageForm, released-lt, message-near}
 use Rattle.laws.specs.Records.{placeVector-of, messageVector-of}
 use Rattle.laws.specs.Allowed.{messageAllowed, releaseAllowed}
-use Rattle.laws.specs.Agree.{incarnation-same, live-same, placeVector-same, messageVector-same}
+use Rattle.laws.specs.Agree.{incarnation-same, live-same, placeVector-same, messageVector-same, live-restarted}
 use Rattle.laws.specs.Answering.{Lent}
 
+-- a controller of the house, its incarnation and its live count: what logging and a checkpoint count on
+pub record Counts (σ : State) (c : ℕ) : Type 0 where
+  pub named : c < controllers
+  pub incarnation-le : σ (Incarnation c) ≤ lastIncarnation
+  pub live-pos : 1 ≤ σ (LiveCount c)
+  pub live-le : σ (LiveCount c) ≤ places
+
+-- and its chain
 pub record Chain (σ : State) (c : ℕ) : Type 0 where
   pub named : c < controllers
   pub incarnation-le : σ (Incarnation c) ≤ lastIncarnation
@@ -48,6 +57,27 @@ chain-form σ c f h =
       used-le = f .used-le;
       message-near = message-near f;
     }
+
+pub chain-counts : {σ : State} {c : ℕ} → Chain σ c → Counts σ c
+chain-counts w = record { named = w .named; incarnation-le = w .incarnation-le; live-pos = w .live-pos; live-le = w .live-le }
+
+-- a table with the words of σ has the counts of σ
+pub counts-words : (σ : State) (c : ℕ) {t : List ℕ} → t ≡ words σ → Counts σ c → Counts (state t) c
+counts-words σ c {t} q w =
+    let e = agree-words σ q in
+    let live = live-same (state t) σ e c (w .named) in
+    let own = incarnation-same (state t) σ e c (w .named) in
+    record { named = w .named; incarnation-le = omega (arith, w .incarnation-le); live-pos = omega (arith, w .live-pos); live-le = omega (arith, w .live-le) }
+
+-- an interval more, where there is a place for it
+pub counts-added : (σ : State) (c m r : ℕ) (v : Vector) → Counts σ c → σ (LiveCount c) < places → Counts (intervalAdded σ c m r v) c
+unfolding intervalAdded put same putPart
+counts-added σ c m r v w room =
+    let i = σ (Incarnation c) in
+    let live = σ (LiveCount c) in
+    let x = numberOf σ c (live + 1) in
+    let n : intervalAdded σ c m r v (LiveCount c) ≡ live + 1 = put-same (putPart σ (OfPlace c live 0) 0 (placeRecord i x m 0 (set v c (pair i x)))) (LiveCount c) (live + 1) in
+    record { named = w .named; incarnation-le = w .incarnation-le; live-pos = omega arith; live-le = omega arith }
 
 pub chain-of : (t : List ℕ) (c : ℕ) → Lent t → c < state t Size → Chain (state t) c
 chain-of t c l h = chain-form (state t) c (form (state t) (l .good)) h
@@ -137,6 +167,15 @@ pub record Starts (σ : State) (c k : ℕ) : Type 0 where
   pub room : k < places
   pub below : k ≤ σ (LiveCount c)
   pub left : σ (Incarnation c) < lastIncarnation
+
+-- then the start itself has its counts
+pub counts-restarted : (σ : State) (c k : ℕ) → Starts σ c k → Counts (restarted σ c k) c
+unfolding restarted entered put same
+counts-restarted σ c k s =
+    let i = σ (Incarnation c) + 1 in
+    let own : restarted σ c k (Incarnation c) ≡ i = put-same (placed σ c k i (numberOf σ c (k + 1)) (newVector σ c k)) (Incarnation c) i in
+    let live = live-restarted σ c k in
+    record { named = s .chain .named; incarnation-le = omega (arith, s .left); live-pos = omega arith; live-le = omega (arith, s .room) }
 
 -- a change of words that it does not look at keeps what starting anew counts on
 pub starts-kept : (σ τ : State) (c k : ℕ) → ((f : Field) → onChain f ≡ true → τ f ≡ σ f) → Starts σ c k → Starts τ c k

@@ -9,12 +9,12 @@ use Rattle.base.specs.Choice.{_==_, _≤?_, _<?_, and-left, and-right, cond-ind
 use Rattle.base.specs.Ranges.{allb, allb-get}
 use Rattle.base.specs.Lists.{getD-tab}
 use Rattle.base.specs.Cases.{passed}
-use Rattle.table.specs.Field.{State, OfHead, Known, End, OfMessage, Size, Degree, Incarnation, LiveCount, StableCount, PlaceIncarnation, PlaceNumber, Cause, Flag, MessageState, Sender, Receiver, SendingIncarnation, SendingNumber, MessagePairIncarnation, word, spareFrom}
-use Rattle.table.specs.Layout.{controllers, incarnations, places, messages, headWords, messageWords}
+use Rattle.table.specs.Field.{State, OfHead, Known, End, OfMessage, Size, Degree, Incarnation, LiveCount, StableCount, PlaceIncarnation, PlaceNumber, Cause, Flag, MessageState, Sender, Receiver, SendingIncarnation, SendingNumber, MessagePairIncarnation, Gap, word, spareFrom}
+use Rattle.table.specs.Layout.{controllers, incarnations, places, messages, messageWords}
 use Rattle.table.specs.Numbering.{numberOf, used, lastGiven}
 use Rattle.rules.specs.Limits.{house, lastIncarnation, lastNumber}
 use Rattle.rules.specs.Vector.{Pair, Vector, incarnation, number, pairOf, placeVector, messageVector}
-use Rattle.rules.specs.Form.{stateReleased, forDesk, stateOk, zeros, pairOk, vectorOk, controllerOk, highest, rowOk, placeOk, messageOk, inForm}
+use Rattle.rules.specs.Form.{stateReleased, forDesk, stateOk, zeros, pairOk, vectorOk, controllerOk, highest, rowOk, placeOk, messageOk, headZeros, headOk, inForm}
 
 -- every incarnation of a vector has a word in the rows of known and end words
 abbrev pub Near : Vector → Type 0
@@ -32,16 +32,17 @@ pub record Form (σ : State) : Type 0 where
 
 -- what the whole test says
 pub form : (σ : State) → inForm house σ ≡ true → Form σ
-unfolding inForm
+unfolding inForm headOk
 form σ e =
+    let head = passed _ 0 e in
     record {
-      size-pos = leb-true _ _ (passed _ 0 e);
-      size-le = leb-true _ _ (passed _ 1 e);
-      used-le = leb-true _ _ (passed _ 2 e);
-      controllers-ok = passed _ 4 e;
-      rows-ok = passed _ 5 e;
-      places-ok = passed _ 6 e;
-      messages-ok = passed _ 7 e;
+      size-pos = leb-true _ _ (passed _ 0 head);
+      size-le = leb-true _ _ (passed _ 1 head);
+      used-le = leb-true _ _ (passed _ 2 head);
+      controllers-ok = passed _ 1 e;
+      rows-ok = passed _ 2 e;
+      places-ok = passed _ 3 e;
+      messages-ok = passed _ 4 e;
     }
 
 -- words in a row that are 0
@@ -241,9 +242,9 @@ module _ {σ : State} (f : Form σ) where
   pub no-end : (holder owner i : ℕ) → holder < controllers → owner < controllers → i < incarnations → (holder < σ Size → owner < σ Size → ⊥) → σ (End holder owner i) ≡ 0
   no-end holder owner i hl ol il out = omega (arith, top-none holder owner out, end-top holder owner i hl ol il)
 
--- the words of the head that have no meaning yet
-pub spare-words : (σ : State) → inForm house σ ≡ true → (k : ℕ) → spareFrom ≤ k → k < headWords → σ (OfHead k) ≡ 0
-unfolding inForm
+-- the words of the head before the gap that have no meaning yet
+pub spare-words : (σ : State) → inForm house σ ≡ true → (k : ℕ) → spareFrom ≤ k → k < word Gap → σ (OfHead k) ≡ 0
+unfolding inForm headOk headZeros
 spare-words σ e k l u =
     let q : spareFrom + (k - spareFrom) ≡ k = omega arith in
-    rw q at (zeros-get (headWords - spareFrom) (λ (k : ℕ). σ (OfHead (spareFrom + k))) (k - spareFrom) (passed _ 3 e) (omega arith))
+    rw q at (zeros-get (word Gap - spareFrom) (λ (k : ℕ). σ (OfHead (spareFrom + k))) (k - spareFrom) (passed _ 3 (passed _ 0 e)) (omega arith))

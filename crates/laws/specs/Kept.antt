@@ -5,15 +5,20 @@ use Prim.Native.Nat.{ℕ, _-_}
 use native.Mathlib.Omega.{arith}
 use Rattle.table.specs.Field.{State}
 use Rattle.table.specs.Words.{state, words, Agree, agree-words, called}
-use Rattle.rules.specs.Shared.{startAnew, removed}
+use Rattle.rules.specs.Shared.{capped, startAnew, removed}
 use Rattle.rules.specs.Steps.{rolledBack}
-use Rattle.laws.specs.Agree.{agree-causes, agree-loggedTo, agree-startAnew}
-use Rattle.laws.specs.Chain.{Starts, starts-words, starts-causes, starts-loggedTo}
+use Rattle.laws.specs.Agree.{agree-capped, agree-causes, agree-loggedTo, agree-startAnew}
+use Rattle.laws.specs.Chain.{Counts, counts-words, Starts, starts-words, starts-causes, starts-loggedTo}
+
+-- the newest interval was checkpointed, if that was due, on a table with the words of σ
+pub then-capped : (σ : State) (c : ℕ) {t u : List ℕ} → Counts σ c → t ≡ words σ → u ≡ words (capped (state t) c) → u ≡ words (capped σ c)
+then-capped σ c w e q =
+    let v = counts-words σ c e w in called (λ τ. capped τ c) σ e q (agree-capped _ σ (agree-words σ e) c (v .named) (v .live-le))
 
 -- a start
 agree-start : (σ τ : State) (c k : ℕ) → Starts σ c k → Agree σ τ → Agree (startAnew σ c k) (startAnew τ c k)
 agree-start σ τ c k s e =
-    agree-startAnew σ τ e c k (s .chain .named) (omega (arith, s .room)) (s .kept) (s .chain .near (k - 1) (omega (arith, s .kept, s .below)))
+    agree-startAnew σ τ e c k (s .chain .named) (s .room) (s .kept) (s .chain .near (k - 1) (omega (arith, s .kept, s .below)))
 
 -- a start was made on a table with the words of σ
 pub then-start : (σ : State) (c k : ℕ) {t u : List ℕ} → Starts σ c k → t ≡ words σ → u ≡ words (startAnew (state t) c k) → u ≡ words (startAnew σ c k)

@@ -8,7 +8,7 @@ use native.Mathlib.Omega.{arith}
 use lib.ListN.{getD}
 use Rattle.base.specs.Choice.{_==_, _≤?_, _<?_, cond-ind}
 use Rattle.base.specs.Cases.{Case, firstOf}
-use Rattle.table.specs.Field.{Field, State, OfController, OfPlace, OfMessage, Known, End, Degree, Incarnation, LiveCount, StableCount, Flag, MessageState, wordOf, messageHead}
+use Rattle.table.specs.Field.{Field, State, OfController, OfPlace, OfMessage, Known, End, Gap, Degree, Incarnation, LiveCount, StableCount, Flag, MessageState, wordOf, messageHead}
 use Rattle.table.specs.Change.{put, putPart, clearPlaces, putStates, put-ind, part-ind, clear-ind, states-ind}
 use Rattle.table.specs.Layout.{places}
 use Rattle.table.specs.Numbering.{numberOf}
@@ -16,15 +16,16 @@ use Rattle.rules.specs.Limits.{house, lastIncarnation}
 use Rattle.rules.specs.Vector.{Vector, messageVector, flat, condemned, conflict}
 use Rattle.rules.specs.Form.{inForm, forDesk, stateReleased, stateDelivered, stateDropped, statePublished}
 use Rattle.rules.specs.Ledger.{countOf}
-use Rattle.rules.specs.Shared.{logged, loggedTo, causedIn, offeredAgain, causesIn, causes, placed, entered, restarted, orphaned, heldOrDropped, dropHeld, startAnew, removed}
-use Rattle.rules.specs.Steps.{After, AfterBoth, refusing, refusingBoth, openHouse, stepOpen, stepDegree, sent, stepSend, letOut, mayGo, release, stepRelease, intervalAdded, intervalBegins, deliver, stepDeliver, stepLog, checkpointed, stepCheckpoint, told, stepTell, crashed, stepCrash, noted, rolledBack, hear, stepHear}
+use Rattle.rules.specs.Shared.{logged, loggedTo, checkpointed, forced, capped, causedIn, offeredAgain, causesIn, causes, placed, entered, restarted, orphaned, heldOrDropped, dropHeld, startAnew, removed}
+use Rattle.rules.specs.Steps.{After, AfterBoth, refusing, refusingBoth, openHouse, stepOpen, stepDegree, sent, stepSend, letOut, mayGo, release, stepRelease, intervalAdded, intervalBegins, deliver, stepDeliver, stepLog, stepCheckpoint, told, stepTell, crashed, stepCrash, noted, rolledBack, hear, stepHear, stepGap}
 use Rattle.rules.specs.Step.{perform, looksAtForm, stepOn}
 use Rattle.rules.specs.declared.Command.{Command}
-use Rattle.rules.specs.declared.Command.the-variants.{Open, SetDegree, Send, Release, Deliver, Log, Checkpoint, Tell, Crash, Hear}
+use Rattle.rules.specs.declared.Command.the-variants.{Open, SetDegree, Send, Release, Deliver, Log, Checkpoint, Tell, Crash, Hear, SetGap}
 
--- what rules other than those of O and S may put: any number into a controller's words, known and end words, the words of places
+-- what rules other than those of O and S may put: any number into the gap, a controller's words, known and end words, the words of places
 -- and a message's vector, and one of four states into a message's record
 pub record Writable (P : Field → ℕ → Type 0) : Type 0 where
+  pub gap : (x : ℕ) → P Gap x
   pub controller : (c k x : ℕ) → P (OfController c k) x
   pub known : (holder owner i x : ℕ) → P (Known holder owner i) x
   pub end : (holder owner i x : ℕ) → P (End holder owner i) x
@@ -62,6 +63,14 @@ module _ (P : Field → ℕ → Type 0) (w : Writable P) where
   unfolding loggedTo
   every-loggedTo {σ} c k h = cond-ind Every (σ (StableCount c) <? k) (λ _. every-logged c k h) (λ _. h)
 
+  every-checkpointed : {σ : State} (c : ℕ) → Every σ → Every (checkpointed σ c)
+  unfolding checkpointed
+  every-checkpointed c h = every-put (Flag c _) 1 (w .place c _ _ 1) (every-loggedTo c _ h)
+
+  every-capped : {σ : State} (c : ℕ) → Every σ → Every (capped σ c)
+  unfolding capped
+  every-capped {σ} c h = cond-ind Every (forced σ c) (λ _. every-checkpointed c h) (λ _. h)
+
   -- a cause is offered again or dropped
   every-causes : {σ : State} (c k : ℕ) → Every σ → Every (causes σ c k)
   unfolding causes causesIn offeredAgain
@@ -86,7 +95,7 @@ module _ (P : Field → ℕ → Type 0) (w : Writable P) where
 
   every-removed : {σ : State} (c k : ℕ) → Every σ → Every (removed σ c k)
   unfolding removed startAnew
-  every-removed c k h = every-dropHeld c k (every-restarted c k (every-causes c k h))
+  every-removed c k h = every-dropHeld c k (every-capped c (every-restarted c k (every-causes c k h)))
 
   pub every-letOut : {σ : State} (r st : ℕ) (v : Vector) → P (MessageState r) st → Every σ → Every (letOut σ r v st)
   unfolding letOut
@@ -131,8 +140,8 @@ module _ (P : Field → ℕ → Type 0) (w : Writable P) where
         cond-ind kept (condemned σ _ _) (λ _. every-put (MessageState _) stateDropped (w .dropped _) h)
         (λ _. cond-ind kept (conflict _ _ _) (λ _. h)
         (λ _. cond-ind kept (places ≤? σ (LiveCount _)) (λ _. h)
-        (λ _. every-put (MessageState _) stateDelivered (w .delivered _)
-        (every-put (LiveCount _) _ (w .controller _ _ _) (every-part (OfPlace _ _ 0) 0 _ (λ i. w .place _ _ _ _) h))))))
+        (λ _. every-capped _ (every-put (MessageState _) stateDelivered (w .delivered _)
+        (every-put (LiveCount _) _ (w .controller _ _ _) (every-part (OfPlace _ _ 0) 0 _ (λ i. w .place _ _ _ _) h)))))))
 
     -- L
     every-log : (c q : ℕ) → Every (stepLog σ c q .left)
@@ -141,8 +150,8 @@ module _ (P : Field → ℕ → Type 0) (w : Writable P) where
 
     -- C
     every-checkpoint : (c : ℕ) → Every (stepCheckpoint σ c .left)
-    unfolding stepCheckpoint checkpointed
-    every-checkpoint c = every-refusing _ _ (every-put (Flag c _) 1 (w .place c _ _ 1) (every-loggedTo c _ h))
+    unfolding stepCheckpoint
+    every-checkpoint c = every-refusing _ _ (every-checkpointed c h)
 
     -- T
     every-tell : (owner holder : ℕ) → Every (stepTell σ owner holder .left)
@@ -163,6 +172,11 @@ module _ (P : Field → ℕ → Type 0) (w : Writable P) where
         cond-ind kept (σ (LiveCount hearer) ≤? _) (λ _. every-noted hearer owner i h)
         (λ _. cond-ind kept (lastIncarnation ≤? σ (Incarnation hearer)) (λ _. h)
         (λ _. every-removed hearer _ (every-loggedTo hearer _ (every-noted hearer owner i h)))))
+
+    -- the gap
+    every-gap : (q : ℕ) → Every (stepGap σ q .left)
+    unfolding stepGap
+    every-gap q = every-refusing _ _ (every-put Gap q (w .gap q) h)
 
     -- O, where it is done, and S need a word of their own
     every-open : (g : List ℕ) (n k : ℕ) → Every (openHouse n k) → Every (stepOpen house σ g n k .left)
@@ -192,3 +206,4 @@ module _ (P : Field → ℕ → Type 0) (w : Writable P) where
         go (Tell owner holder) opened posted = every-tell owner holder
         go (Crash c) opened posted = every-crash c
         go (Hear hearer owner i) opened posted = every-hear hearer owner i
+        go (SetGap q) opened posted = every-gap q

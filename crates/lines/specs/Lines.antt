@@ -10,7 +10,7 @@ use Rattle.rules.specs.Bytes.{bytes}
 use Rattle.rules.specs.Report.{report}
 use Rattle.rules.specs.declared.Answer.{Answer}
 use Rattle.rules.specs.declared.Command.{Command}
-use Rattle.rules.specs.declared.Command.the-variants.{Open, SetDegree, Send, Release, Deliver, Log, Checkpoint, Tell, Crash, Hear}
+use Rattle.rules.specs.declared.Command.the-variants.{Open, SetDegree, Send, Release, Deliver, Log, Checkpoint, Tell, Crash, Hear, SetGap}
 use Rattle.lines.specs.declared.Parsed.{Parsed}
 use Rattle.lines.specs.declared.Parsed.the-variants.{Asks, Bad}
 
@@ -42,7 +42,7 @@ abbrev pub radix : ℕ
 radix = 10
 
 -- "Letters are those of the program": the step of a letter and its numbers in their order. A step doesn't look at numbers that
--- it hasn't.
+-- it hasn't. W4: "New steps get a line in `house` only where a request names the letter", and it names none for its own.
 unfoldable pub stepOf : ℕ → ℕ → ℕ → ℕ → Parsed
 stepOf letter a b c =
     cond (letter == code "O") (Asks (Open a b))
@@ -56,7 +56,7 @@ stepOf letter a b c =
     (cond (letter == code "X") (Asks (Crash a))
     (cond (letter == code "H") (Asks (Hear a b c)) Bad)))))))))
 
--- how many numbers a step has
+-- how many numbers a step has; no letter asks for the last (Letters.antt)
 abbrev pub numbersOf : Command → ℕ
 numbersOf (Open n k) = 2
 numbersOf (SetDegree c k) = 2
@@ -68,6 +68,7 @@ numbersOf (Checkpoint c) = 1
 numbersOf (Tell a b) = 2
 numbersOf (Crash c) = 1
 numbersOf (Hear b a i) = 3
+numbersOf (SetGap q) = 1
 
 -- S and H have the most
 abbrev pub mostNumbers : ℕ

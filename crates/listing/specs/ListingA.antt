@@ -80,10 +80,10 @@ run g long =
     (goes (λ q. q) refl blank-ok refl  -- R 3
     (next (λ q. quiet-put (Known 2 2 0) 2 refl (quiet-put (StableCount 2) 2 refl q)) refl refl  -- L 2 1
     (goes (λ q. quiet-put (MessageState 2) stateReleased refl (quiet-part (OfMessage 2 0) messageHead (flat one) (λ _. refl) q)) refl blank-ok refl  -- R 3
-    (next (λ q. quiet-removed 1 1 refl refl refl (further 3 refl _ _) (quiet-put (End 1 1 0) 1 refl q)) refl refl  -- X 1
+    (next (λ q. quiet-removed 1 1 refl refl refl refl (further 3 refl _ _) (quiet-put (End 1 1 0) 1 refl q)) refl refl  -- X 1
     (next (λ q. quiet-put (MessageState 2) stateDelivered refl (quiet-put (LiveCount 0) 2 refl (quiet-part (OfPlace 0 1 0) 0 (placeRecord 0 2 3 0 (set one 0 (pair 0 2))) (λ _. refl) q))) refl refl  -- D 3
-    (next (λ q. quiet-rolled 2 1 refl refl refl refl (further 3 refl _ _) (quiet-put (Known 2 1 0) 1 refl (quiet-put (End 2 1 0) 1 refl q))) refl refl  -- H 2 1 0
-    (next (λ q. quiet-rolled 0 1 refl refl refl refl (further 3 refl _ _) (quiet-put (Known 0 1 0) 1 refl (quiet-put (End 0 1 0) 1 refl q))) refl refl  -- H 0 1 0
+    (next (λ q. quiet-rolled 2 1 refl refl refl refl refl (further 3 refl _ _) (quiet-put (Known 2 1 0) 1 refl (quiet-put (End 2 1 0) 1 refl q))) refl refl  -- H 2 1 0
+    (next (λ q. quiet-rolled 0 1 refl refl refl refl refl (further 3 refl _ _) (quiet-put (Known 0 1 0) 1 refl (quiet-put (End 0 1 0) 1 refl q))) refl refl  -- H 0 1 0
     (next (λ q. q) refl refl  -- D 3
     end)))))))))))))))
 

@@ -9,21 +9,21 @@ use native.Mathlib.Omega.{arith}
 use lib.Count.{onesIn, ones}
 use lib.Dec.{leb·zero}
 use lib.ListN.{length, getD, length-replicate, getD-replicate}
-use borrow.Author.Tests.{eqb-true, eq-eqb, leb-true, ltb-false, le-leb, lt-ltb, le-ltb, ne-eqb}
-use Rattle.base.specs.Choice.{_==_, _≤?_, _<?_, le?}
+use borrow.Author.Tests.{eqb-true, eq-eqb, leb-true, ltb-false, lt-ltb, le-ltb, ne-eqb}
+use Rattle.base.specs.Choice.{_==_, _≤?_, _<?_, cond-ind, le?}
 use Rattle.base.specs.Ranges.{allb, allb-all, allb-get, anyb, first}
 use Rattle.base.specs.Lists.{tab}
 use Rattle.base.specs.Cases.{allOf, passed, firstOf}
-use Rattle.table.specs.Field.{Field, State, OfHead, OfController, Known, End, OfPlace, OfMessage, Size, LiveCount, StableCount, MessageState, owner, second, wordOf, same, spareFrom}
-use Rattle.table.specs.Layout.{controllers, incarnations, headWords}
+use Rattle.table.specs.Field.{Field, State, OfHead, OfController, Known, End, OfPlace, OfMessage, Size, LiveCount, StableCount, MessageState, owner, second, wordOf, same}
+use Rattle.table.specs.Layout.{controllers, incarnations}
 use Rattle.table.specs.Change.{put, putPart, clearPlaces, putStates, put-ind, part-ind, clear-ind, states-ind}
 use Rattle.table.specs.Numbering.{numberOf, used, lastGiven, recordOf, messageOf, posted}
 use Rattle.rules.specs.Limits.{house}
 use Rattle.rules.specs.Vector.{placeVector, messageVector, flat, knownStable, filterPair, filtered, condemnedPair, condemned, maskTo, mask, conflictPair, conflict, mergePair, merged}
-use Rattle.rules.specs.Form.{stateHeld, stateOk, zeros, pairOk, vectorOk, controllerOk, highest, rowOk, placeOk, messageOk, inForm}
+use Rattle.rules.specs.Form.{stateHeld, stateOk, zeros, pairOk, vectorOk, controllerOk, highest, rowOk, placeOk, messageOk, headZeros, headOk, inForm}
 use Rattle.rules.specs.Ledger.{ledgerWords, ledgerOk, blankLedger}
-use Rattle.rules.specs.Shared.{placeRecord, logged, loggedTo, causing, causedIn, causesIn, causes, offeredAgain, newVector, placed, entered, restarted, heldOrDropped, dropHeld, startAnew, removed, latestFlagged, replayed}
-use Rattle.rules.specs.Steps.{AfterBoth, afterBoth, refusing, refusingBoth, openHouse, stepOpen, messageRecord, sent, stepSend, messageRefusals, letOut, mayGo, release, stepRelease, intervalAdded, intervalBegins, deliver, stepDeliver, stepLog, crashed, stepCrash, noted, lowestCondemned, rolledBack, hear, stepHear}
+use Rattle.rules.specs.Shared.{newestPlace, placeRecord, logged, loggedTo, checkpointed, forced, capped, causing, causedIn, causesIn, causes, offeredAgain, newVector, placed, entered, restarted, heldOrDropped, dropHeld, startAnew, removed, latestFlagged, replayed}
+use Rattle.rules.specs.Steps.{AfterBoth, afterBoth, refusing, refusingBoth, openHouse, stepOpen, messageRecord, sent, stepSend, messageRefusals, letOut, mayGo, release, stepRelease, intervalAdded, intervalBegins, deliver, stepDeliver, stepLog, crashed, stepCrash, noted, lowestCondemned, rolledBack, hear, stepHear, stepGap}
 use Rattle.rules.specs.Step.{perform, stepOn}
 use Rattle.rules.specs.declared.Answer.{Answer}
 use Rattle.rules.specs.declared.Answer.the-variants.{Done}
@@ -55,22 +55,31 @@ quiet-causes : {σ : State} (c k : ℕ) → ((r : ℕ) → near (MessageState r)
 unfolding causes causesIn
 quiet-causes {σ} c k e q = record { rest = states-ind Rest σ _ (λ r z. rw (e r z) (q .rest (MessageState r) z)) (λ g _. q .rest g) }
 
-quiet-anew : {σ : State} (c k : ℕ) → near (OfPlace c k 0) ≡ true → near (OfController c 0) ≡ true → near (Known c c 0) ≡ true → Quiet σ → Quiet (startAnew σ c k)
-unfolding startAnew dropHeld heldOrDropped restarted placed entered
-quiet-anew {σ} c k e h l q =
-    let freed : Quiet (clearPlaces σ c k (σ (LiveCount c))) = record { rest = clear-ind Rest σ c k _ (λ x i l m z. refl) (λ g _. q .rest g) } in
-    let intervalAdded = quiet-put _ _ l (quiet-put _ _ h (quiet-put _ _ h (quiet-put _ _ h (quiet-part _ _ _ (λ i. e) freed)))) in
-    record { rest = states-ind Rest _ _ (λ r z. rw (intervalAdded .rest (MessageState r) z)) (λ g _. intervalAdded .rest g) }
+-- the newest interval checkpointed, if that is due
+pub quiet-capped : {σ : State} (c : ℕ) → near (OfPlace c (newestPlace σ c) 0) ≡ true → near (OfController c 0) ≡ true → near (Known c c 0) ≡ true → Quiet σ → Quiet (capped σ c)
+unfolding capped checkpointed loggedTo logged
+quiet-capped {σ} c e h l q =
+    cond-ind Quiet (forced σ c) (λ _. quiet-put _ 1 e (cond-ind Quiet (σ (StableCount c) <? σ (LiveCount c)) (λ _. quiet-put _ _ l (quiet-put _ _ h q)) (λ _. q))) (λ _. q)
 
-pub quiet-removed : {σ : State} (c k : ℕ) → near (OfPlace c k 0) ≡ true → near (OfController c 0) ≡ true → near (Known c c 0) ≡ true →
+quiet-anew : {σ : State} (c k : ℕ) → near (OfPlace c k 0) ≡ true → near (OfPlace c (newestPlace (restarted σ c k) c) 0) ≡ true → near (OfController c 0) ≡ true →
+    near (Known c c 0) ≡ true → Quiet σ → Quiet (startAnew σ c k)
+unfolding startAnew dropHeld heldOrDropped restarted placed entered
+quiet-anew {σ} c k e n h l q =
+    let freed : Quiet (clearPlaces σ c k (σ (LiveCount c))) = record { rest = clear-ind Rest σ c k _ (λ x i l m z. refl) (λ g _. q .rest g) } in
+    let started : Quiet (restarted σ c k) = quiet-put _ _ l (quiet-put _ _ h (quiet-put _ _ h (quiet-put _ _ h (quiet-part _ _ _ (λ i. e) freed)))) in
+    let begun = quiet-capped c n h l started in
+    record { rest = states-ind Rest _ _ (λ r z. rw (begun .rest (MessageState r) z)) (λ g _. begun .rest g) }
+
+pub quiet-removed : {σ : State} (c k : ℕ) → near (OfPlace c k 0) ≡ true → near (OfPlace c (newestPlace (restarted (causes σ c k) c k) c) 0) ≡ true →
+    near (OfController c 0) ≡ true → near (Known c c 0) ≡ true →
     ((r : ℕ) → near (MessageState r) ≡ false → causedIn σ c k (σ (LiveCount c) - k) r ≡ false) → Quiet σ → Quiet (removed σ c k)
 unfolding removed
-quiet-removed c k e h l o q = quiet-anew _ _ e h l (quiet-causes _ _ o q)
+quiet-removed c k e n h l o q = quiet-anew _ _ e n h l (quiet-causes _ _ o q)
 
-pub quiet-rolled : {σ : State} (b k : ℕ) → near (OfPlace b k 0) ≡ true → near (OfController b 0) ≡ true → near (Known b b 0) ≡ true →
-    (σ (StableCount b) <? k) ≡ false → ((r : ℕ) → near (MessageState r) ≡ false → causedIn σ b k (σ (LiveCount b) - k) r ≡ false) → Quiet σ → Quiet (rolledBack σ b k)
+pub quiet-rolled : {σ : State} (b k : ℕ) → near (OfPlace b k 0) ≡ true → near (OfPlace b (newestPlace (restarted (causes σ b k) b k) b) 0) ≡ true →
+    near (OfController b 0) ≡ true → near (Known b b 0) ≡ true → (σ (StableCount b) <? k) ≡ false → ((r : ℕ) → near (MessageState r) ≡ false → causedIn σ b k (σ (LiveCount b) - k) r ≡ false) → Quiet σ → Quiet (rolledBack σ b k)
 unfolding rolledBack loggedTo
-quiet-rolled b k e h l s o q = rw s (quiet-removed _ _ e h l o q)
+quiet-rolled b k e n h l s o q = rw s (quiet-removed _ _ e n h l o q)
 
 pub quiet-opened : (k : ℕ) → Quiet (openHouse 3 k)
 unfolding openHouse
@@ -90,7 +99,7 @@ abbrev pub tests : State → List Bool
 tests σ =
     (σ Size == 3)
     ∷ (used σ ≤? 3)
-    ∷ zeros (headWords - spareFrom) (λ (k : ℕ). σ (OfHead (spareFrom + k)))
+    ∷ headOk house σ
     ∷ allb controllers (controllerOk house 3 σ)
     ∷ allb controllers (λ (c : ℕ). σ (LiveCount c) ≤? cond (c <? 3) 3 0)
     ∷ allb 3 (λ (b : ℕ). allb 3 (rowOk house 3 σ b))
@@ -118,14 +127,13 @@ unfolding inForm allOf rowOk placeOk messageOk zeros
 in-form σ q e =
     let size = eqb-true (σ Size) 3 (passed (tests σ) 0 e) in
     let few = passed (tests σ) 1 e in
-    let fits = le-leb (used σ) (house .messages) (omega (arith, leb-true (used σ) 3 few)) in
     let rows = grid controllers controllers (rowOk house 3 σ) (passed (tests σ) 5 e) (λ b a h z.
     allb-all _ incarnations (λ i _. rw (q .rest (Known b a i) z, q .rest (End b a i) z, leb·zero))) in
     let chains = grid controllers (house .places) (placeOk house 3 σ) (passed (tests σ) 6 e) (λ c p h z.
     rw (unused (c <? 3) p _ z (allb-get _ controllers c (passed (tests σ) 4 e) h)) (allb-all _ _ (λ k _. rw (q .rest (OfPlace c p k) z)))) in
     let records = every (house .messages) (messageOk house 3 σ) (passed (tests σ) 7 e) (λ r z.
     rw (unused true r _ z few) (allb-all _ _ (λ k _. rw (q .rest (OfMessage r k) (rw z))))) in
-    rw (size, fits, passed (tests σ) 2 e, passed (tests σ) 3 e, rows, chains, records)
+    rw (size, passed (tests σ) 2 e, passed (tests σ) 3 e, rows, chains, records)
 
 -- An opening looks at the ledger's length, and a release at all of its words. That the ledger of a house just opened passes is shown
 -- here once, and not computed at each release.
@@ -179,5 +187,5 @@ further n h inHouse caused r z = rw (le-ltb r n (omega (arith, leb-true n 3 h, l
 
 -- The rules on the way of these lists: `unfolding steps` opens them all.
 unfoldable pub steps : Unit {0}
-unfolding onesIn ones allb anyb first tab allOf firstOf same put putPart clearPlaces putStates numberOf used lastGiven recordOf messageOf posted placeVector messageVector flat knownStable filterPair filtered condemnedPair condemned maskTo mask conflictPair conflict mergePair merged zeros pairOk vectorOk controllerOk highest rowOk placeOk stateOk messageOk placeRecord logged loggedTo causing causedIn causesIn causes offeredAgain newVector placed entered restarted heldOrDropped dropHeld startAnew removed latestFlagged replayed refusing refusingBoth openHouse stepOpen messageRecord sent stepSend letOut mayGo release stepRelease intervalAdded intervalBegins deliver stepDeliver stepLog crashed stepCrash noted lowestCondemned rolledBack hear stepHear perform releaseOf
+unfolding onesIn ones allb anyb first tab allOf firstOf same put putPart clearPlaces putStates numberOf used lastGiven recordOf messageOf posted placeVector messageVector flat knownStable filterPair filtered condemnedPair condemned maskTo mask conflictPair conflict mergePair merged zeros pairOk vectorOk controllerOk highest rowOk placeOk stateOk messageOk headZeros headOk placeRecord logged loggedTo checkpointed forced capped causing causedIn causesIn causes offeredAgain newVector placed entered restarted heldOrDropped dropHeld startAnew removed latestFlagged replayed refusing refusingBoth openHouse stepOpen messageRecord sent stepSend letOut mayGo release stepRelease intervalAdded intervalBegins deliver stepDeliver stepLog crashed stepCrash noted lowestCondemned rolledBack hear stepHear stepGap perform releaseOf
 steps = tt

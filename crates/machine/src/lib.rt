@@ -28,6 +28,7 @@ pub fn looks_at_form(x: Command) -> bool
         Command::Tell(_, _) => true,
         Command::Crash(_) => true,
         Command::Hear(_, _, _) => true,
+        Command::SetGap(_) => true,
     }
 }
 
@@ -48,6 +49,7 @@ pub fn perform(t: &mut [u32], g: &mut [u32], x: Command) -> Answer
         Command::Tell(owner, holder) => controller::tell(t, owner, holder),
         Command::Crash(c) => recovery::crash(t, c),
         Command::Hear(hearer, owner, i) => recovery::hear(t, hearer, owner, i),
+        Command::SetGap(q) => checkpoint::set_gap(t, q),
     }
 }
 
@@ -101,7 +103,7 @@ pub fn release(t: &mut [u32], g: &mut [u32], m: u32) -> Answer
     step(t, g, Command::Release(m))
 }
 
-// The eight others, with whatever ledger: they don't look at it.
+// The nine others, with whatever ledger: they don't look at it.
 pub fn set_degree(t: &mut [u32], c: u32, k: u32) -> Answer
     ensures { λ a. ⌜ ((g : List ℕ) → outBoth a (now (t .exit)) g ≡ step (now (t .entry)) g (Command.SetDegree c k)) ⌝ }
 {
@@ -148,4 +150,10 @@ pub fn hear(t: &mut [u32], hearer: u32, owner: u32, i: u32) -> Answer
     ensures { λ a. ⌜ ((g : List ℕ) → outBoth a (now (t .exit)) g ≡ step (now (t .entry)) g (Command.Hear hearer owner i)) ⌝ }
 {
     step_alone(t, Command::Hear(hearer, owner, i))
+}
+
+pub fn set_gap(t: &mut [u32], q: u32) -> Answer
+    ensures { λ a. ⌜ ((g : List ℕ) → outBoth a (now (t .exit)) g ≡ step (now (t .entry)) g (Command.SetGap q)) ⌝ }
+{
+    step_alone(t, Command::SetGap(q))
 }

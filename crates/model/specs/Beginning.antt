@@ -8,11 +8,11 @@ use Prim.Native.Nat.{ℕ, _+_, _≤_, _<_}
 use native.Mathlib.Omega.{arith}
 use borrow.Author.Tests.{eqb-true, eqb-false}
 use Rattle.base.specs.Choice.{_==_, cond-ind, le?}
-use Rattle.history.specs.History.{Interval, interval, History, changedAt, newest, those, joined, leaving, delivering}
+use Rattle.history.specs.History.{Interval, interval, History, changedAt, those, joined, leaving, capping, beginning, delivering}
 use Rattle.model.specs.Model.{Pair, pair, intervalOf, Vec, Controller, full, filtered, larger, mergedFor, beginController}
 use Rattle.model.specs.Tests.{Is, or-cases, or-first, or-second, changedAt-ind, changedAt-same, changedAt-other}
-use Rattle.model.specs.Chain.{OnChain, newest-chain}
-use Rattle.model.specs.Invariant.{Spoilt, Covers, Tracks, InOrder, ControllerOk, Settled, live-or-spoilt, knows-on, spoilt-up, some-live}
+use Rattle.model.specs.Chain.{OnChain}
+use Rattle.model.specs.Invariant.{Spoilt, Covers, Tracks, InOrder, ControllerOk, Settled, live-or-spoilt, knows-on, spoilt-up, some-live, newest-is}
 use Rattle.model.specs.Vectors.{filtered-tracks, larger-ind, larger-first, larger-second}
 use Rattle.model.specs.Growing.{Grows, grown, grown-ext}
 
@@ -42,6 +42,8 @@ leaving-none h c =
       rests = h .rests;
       stable = h .stable;
       lost = h .lost;
+      gap = h .gap;
+      flagged = h .flagged;
     }
   where
     same : changedAt (h .chain) c (those every (h .chain c)) ≡ h .chain
@@ -198,6 +200,8 @@ module _ {n : ℕ} {h : History} {c : ℕ} {k : Controller} {w : Vec} {s : Inter
         begunIn-old = λ x l. changedAt-other _ _ _ _ (λ e. omega arith);
         begunIn-new = changedAt-same _ _ _;
         vec-old = λ x l. changedAt-other _ _ _ _ (λ e. omega arith);
+        flagged-old = λ x l. changedAt-other _ _ _ _ (λ e. omega arith);
+        flagged-new = changedAt-same _ _ _;
         newer = omega arith;
         no-end = settled .not-ended;
         current = ok .body .current-live;
@@ -223,9 +227,7 @@ module _ {n : ℕ} {h : History} {c : ℕ} {k : Controller} {w : Vec} {s : Inter
   unfolding beginController
   begun-controller = grown begins-grows (knows-on (grown-ext begins-grows) (ok .knows))
 
-  -- the history is fed just this
-  pub delivering-is : (m : ℕ) → h .receiver m ≡ c → h .sending m ≡ s → delivering h m ≡ joined (leaving h c every) c new restsOn false
-  unfolding delivering restsOn
-  delivering-is m p q =
-      let last-is : newest (h .chain c) ≡ last = ap newest (ok .shape .chain-is) ∙ newest-chain c (k .begunIn) live live-pos in
-      rw (p, q, ok .shape .incarnation-is, last-is, leaving-none h c)
+  -- the history is fed just this, and a checkpoint where it is forced
+  pub delivering-is : (m : ℕ) → h .receiver m ≡ c → h .sending m ≡ s → delivering h m ≡ capping (joined (leaving h c every) c new restsOn false) c
+  unfolding delivering beginning restsOn
+  delivering-is m p q = rw (p, q, ok .shape .incarnation-is, newest-is (ok .shape), leaving-none h c)

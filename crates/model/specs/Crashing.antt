@@ -139,6 +139,7 @@ module _ {n : ℕ} {h : History} {c : ℕ} {k : Controller} (X : Crashes n h c k
         stable-same = λ i x b s. s;
         lost-same = λ i x u l. ⊎-elim (λ z. z) (λ z. absurd (ne (ap (λ q. q .owner) (z .live .is)))) (lost-cases _ u l);
         heard-same = λ a i z. ⊎-elim (λ g. g) (λ g. absurd (ne (g .0))) (heard-cases b a i z);
+        flagged-same = λ i x. refl;
       }
 
   -- the newest stable interval is of the incarnation that ends, and all that is begun in it up to there is stable

@@ -1,7 +1,7 @@
 -- A controller's chain is cut after number j and grows by number j + 1. A delivery cuts nothing; a crash and a rollback cut what
 -- is spoilt. What the two have in common is proved here once: the controller's part of the invariant holds again.
 use mathlib.Core.Path.{_≡_, refl, sym, _∙_, ap, subst}
-use mathlib.Core.Bool.{Bool}
+use mathlib.Core.Bool.{Bool, false}
 use mathlib.Core.List.{_∷_}
 use mathlib.Core.Logic.{_⊎_, inl, inr, ⊎-elim, _≢_, _↔_}
 use Prim.Native.Nat.{ℕ, _+_, _≤_, _<_}
@@ -11,8 +11,8 @@ use Rattle.base.specs.Choice.{le?}
 use Rattle.model.specs.Model.{intervalOf, Vec, Controller, full}
 use Rattle.model.specs.Tests.{Is, eq?, changedAt-same}
 use Rattle.model.specs.Chain.{chainOf, chain-cong, chain-more}
-use Rattle.model.specs.Invariant.{Spoilt, Covers, Tracks, InOrder, Knows, Shape, Body, Ends, ControllerOk, Settled, Ext, Frame, tracks-on, spoilt-on, spoilt-by}
-use Rattle.model.specs.Joining.{Joins, fresh, new-begun, begun-cases, new-stable, old-stable, rests-cases, new-self, new-rests, joined-ext, joined-frame, joined-back, joined-order}
+use Rattle.model.specs.Invariant.{Spoilt, Covers, Tracks, InOrder, Knows, Shape, Body, Ends, ControllerOk, Settled, Flags, Ext, Frame, tracks-on, spoilt-on, spoilt-by}
+use Rattle.model.specs.Joining.{Joins, fresh, new-begun, begun-cases, new-stable, old-stable, new-flagged, old-flagged, rests-cases, new-self, new-rests, joined-ext, joined-frame, joined-back, joined-order}
 
 -- controller c, which is k, becomes k′: of its chain the test `kept` leaves the numbers up to j, and number j + 1 joins, which rests on what r
 -- says, is stable if s says so, and has vector w
@@ -33,6 +33,8 @@ pub record Grows (n : ℕ) (h : History) (c : ℕ) (k k′ : Controller) (j : �
   pub begunIn-old : (x : ℕ) → x ≤ j → k′ .begunIn x ≡ k .begunIn x
   pub begunIn-new : k′ .begunIn (j + 1) ≡ k′ .incarnation
   pub vec-old : (x : ℕ) → x ≤ j → k′ .vec x ≡ k .vec x
+  pub flagged-old : (x : ℕ) → x ≤ j → k′ .flagged x ≡ k .flagged x
+  pub flagged-new : k′ .flagged (j + 1) ≡ false
   -- its incarnation has not ended, and what is begun in it is left on the chain
   pub newer : k .incarnation ≤ k′ .incarnation
   pub no-end : k .ends c (k′ .incarnation) ≡ 0
@@ -57,7 +59,7 @@ pub record Grows (n : ℕ) (h : History) (c : ℕ) (k k′ : Controller) (j : �
 
 module _ {n : ℕ} {h : History} {c : ℕ} {k k′ : Controller} {j : ℕ} {kept r : Interval → Bool} {s : Bool} {w : Vec} (G : Grows n h c k k′ j kept r s w) where
   open Grows G using (order, ok, below, pos, fits, cut, clean, gone)
-  open Grows G using (live-is, degree-is, ends-is, begunIn-old, begunIn-new, vec-old, newer, no-end, current)
+  open Grows G using (live-is, degree-is, ends-is, begunIn-old, begunIn-new, vec-old, flagged-old, flagged-new, newer, no-end, current)
   open Grows G using (stable-pos, stable-le, current-from, stable-kept, stable-joined)
   open Grows G using (r-last, r-begun, r-trans, r-clean, vec-new, sound, cover, own)
 
@@ -139,6 +141,10 @@ module _ {n : ℕ} {h : History} {c : ℕ} {k k′ : Controller} {j : ℕ} {kept
       longer : new ∷ chainOf c (k′ .begunIn) j ≡ chainOf c (k′ .begunIn) (k′ .live)
       longer = rw (live-is, chain-more c (k′ .begunIn) j, begunIn-new)
 
+  -- a number that is left is not the new interval's
+  below-new : (x : ℕ) → x ≤ j → interval c (k .begunIn x) x ≢ new
+  below-new x b e = let q : x ≡ j + 1 = ap (λ z. z .number) e in omega arith
+
   -- its vector tracks the new interval
   tracked-new : Tracks h′ w new
   tracked-new =
@@ -182,9 +188,6 @@ module _ {n : ℕ} {h : History} {c : ℕ} {k k′ : Controller} {j : ℕ} {kept
             rw (begunIn-old x l, vec-old x l) (tracks-on grown-ext _ _ (live-old x a l) (bo .tracked x a (omega (arith, fits)))));
       }
     where
-      below-new : (x : ℕ) → x ≤ j → interval c (k .begunIn x) x ≢ new
-      below-new x b e = let q : x ≡ j + 1 = ap (λ z. z .number) e in omega arith
-
       current′ : (x : ℕ) → (interval c (k′ .incarnation) x ≡ new) ⊎ Is (h .begun (interval c (k′ .incarnation) x)) →
           (x ≤ k′ .live) × (k′ .begunIn x ≡ k′ .incarnation)
       current′ x (inl e) = let z : x ≡ j + 1 = ap (λ q. q .number) e in (omega (arith, live-is), rw z begunIn-new)
@@ -259,3 +262,9 @@ module _ {n : ℕ} {h : History} {c : ℕ} {k k′ : Controller} {j : ℕ} {kept
         not-ended = ap (λ e. e c (k′ .incarnation)) ends-is ∙ no-end;
         live-clean = numbers (λ x v. Spoilt h′ c (interval c v x) → ⊥) clean-new (λ x a b l. clean x a b (grown-back c _ (live-old x a b) l));
       }
+
+  -- what is left keeps its flags, and the new interval has none
+  pub grown-flags : Flags h c k → Flags h′ c k′
+  grown-flags f =
+      numbers (λ x v. h′ .flagged (interval c v x) ≡ k′ .flagged x) (new-flagged kept s joins ∙ sym flagged-new)
+      (λ x a b. old-flagged kept s joins _ (below-new x b) ∙ f x a (omega (arith, fits)) ∙ sym (flagged-old x b))

@@ -79,6 +79,7 @@ module _ {n : ℕ} {h : History} {b : ℕ} {k : Controller} {a i e : ℕ} (H : H
         stable-same = λ i x b s. s;
         lost-same = λ i x u l. l;
         heard-same = λ d u z. ⊎-elim (λ g. g) (λ g. absurd (ne (g .0))) (hearing-cases h b a i c d u z);
+        flagged-same = λ i x. refl;
       }
 
   -- it spoils no more for other controllers

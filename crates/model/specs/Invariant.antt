@@ -5,11 +5,11 @@ use mathlib.Core.Bool.{Bool}
 use mathlib.Core.Logic.{_⊎_, inl, inr, ⊎-elim}
 use Prim.Native.Nat.{ℕ, _≤_, _<_}
 use native.Mathlib.Omega.{arith}
-use Rattle.history.specs.History.{Interval, interval, History}
+use Rattle.history.specs.History.{Interval, interval, History, newest}
 use Rattle.history.specs.Demand.{RestsOnLost}
 use Rattle.model.specs.Model.{Pair, intervalOf, Vec, Controller, Message, Model, full}
 use Rattle.model.specs.Tests.{Is, interval-path}
-use Rattle.model.specs.Chain.{chainOf, OnChain}
+use Rattle.model.specs.Chain.{chainOf, OnChain, newest-chain}
 
 -- interval y rests on one lost in a crash that b has heard
 abbrev pub Spoilt : History → ℕ → Interval → Type 0
@@ -55,6 +55,11 @@ pub record Shape (h : History) (c incarnation degree live stable : ℕ) (begunIn
 -- so it has a live interval
 pub some-live : {h : History} {c incarnation degree live stable : ℕ} {begunIn : ℕ → ℕ} → Shape h c incarnation degree live stable begunIn → 1 ≤ live
 some-live s = omega (arith, s .stable-pos, s .stable-le)
+
+-- and its newest one has the highest number
+pub newest-is : {h : History} {c incarnation degree live stable : ℕ} {begunIn : ℕ → ℕ} → Shape h c incarnation degree live stable begunIn →
+    newest (h .chain c) ≡ interval c (begunIn live) live
+newest-is {c = c} {live = live} {begunIn = begunIn} s = ap newest (s .chain-is) ∙ newest-chain c begunIn live (some-live s)
 
 -- the intervals of controller c: a begun one of the current incarnation is live, a live one rests on just the live ones
 -- up to it among the live ones, the first rests on itself alone, and each has a vector that tracks it
@@ -103,6 +108,10 @@ pub record MessageOk (h : History) (m : ℕ) (g : Message) : Type 0 where
   pub from-begun : Is (h .begun (g .from))
   pub tracked : Tracks h (g .vec) (g .from)
 
+-- W4: what the history says is flagged of the live intervals of c, the controller does
+abbrev pub Flags : History → ℕ → Controller → Type 0
+Flags h c k = (x : ℕ) → 1 ≤ x → x ≤ k .live → h .flagged (interval c (k .begunIn x) x) ≡ k .flagged x
+
 -- an end word is its owner's
 abbrev pub EndsAgree : (ℕ → Controller) → Type 0
 EndsAgree controller = (b a i : ℕ) → 1 ≤ controller b .ends a i → controller b .ends a i ≡ controller a .ends a i
@@ -113,6 +122,8 @@ pub record Inv (n : ℕ) (μ : Model) (h : History) : Type 0 where
   pub settled : (c : ℕ) → c < n → Settled h c (μ .controller c)
   pub message-ok : (m : ℕ) → 1 ≤ m → m ≤ μ .sent → MessageOk h m (μ .message m)
   pub agree : EndsAgree (μ .controller)
+  pub flags : (c : ℕ) → c < n → Flags h c (μ .controller c)
+  pub gap-is : h .gap ≡ μ .gap
 
 -- h′ is later than h: what an interval rests on never changes, nothing begun, stable, lost or heard is taken back, nothing
 -- more is lost in a crash that was heard, and a new interval has the highest number of its incarnation
@@ -135,6 +146,7 @@ pub record Frame (h h′ : History) (c : ℕ) : Type 0 where
   pub stable-same : (i x : ℕ) → Is (h .begun (interval c i x)) → Is (h′ .stable (interval c i x)) → Is (h .stable (interval c i x))
   pub lost-same : (i x u : ℕ) → Is (h′ .lost (interval c i x) u) → Is (h .lost (interval c i x) u)
   pub heard-same : (a i : ℕ) → Is (h′ .heard c a i) → Is (h .heard c a i)
+  pub flagged-same : (i x : ℕ) → h′ .flagged (interval c i x) ≡ h .flagged (interval c i x)
 
 -- a history is later than itself
 pub ext-refl : (h : History) → Ext h h
@@ -173,6 +185,7 @@ frame-refl h c =
       stable-same = λ i x b s. s;
       lost-same = λ i x u l. l;
       heard-same = λ a i e. e;
+      flagged-same = λ i x. refl;
     }
 
 -- two steps that say no more of c
@@ -186,9 +199,10 @@ frame-trans x e f =
       stable-same = λ i x′ b s. e .stable-same i x′ b (f .stable-same i x′ (x .begun-stays _ b) s);
       lost-same = λ i x′ u l. e .lost-same i x′ u (f .lost-same i x′ u l);
       heard-same = λ a i l. e .heard-same a i (f .heard-same a i l);
+      flagged-same = λ i x′. f .flagged-same i x′ ∙ e .flagged-same i x′;
     }
 
--- h′ differs from h in nothing that is said of intervals and of crashes heard
+-- h′ differs from h in nothing that is said of intervals, but for what is flagged, and of crashes heard
 pub record SameFacts (h h′ : History) : Type 0 where
   pub begun-is : h′ .begun ≡ h .begun
   pub rests-is : h′ .rests ≡ h .rests
@@ -209,10 +223,10 @@ ext-same e =
       new-above = λ y b. inl (rw (e .begun-is) at b);
     }
 
--- and says no more of c where c keeps its degree, incarnation and chain
+-- and says no more of c where c keeps its degree, incarnation, chain and flags
 pub frame-same : {h h′ : History} (c : ℕ) → SameFacts h h′ → h′ .incarnation c ≡ h .incarnation c → h′ .degree c ≡ h .degree c →
-    h′ .chain c ≡ h .chain c → Frame h h′ c
-frame-same c e p q r =
+    h′ .chain c ≡ h .chain c → ((i x : ℕ) → h′ .flagged (interval c i x) ≡ h .flagged (interval c i x)) → Frame h h′ c
+frame-same c e p q r f =
     record {
       incarnation-same = p;
       degree-same = q;
@@ -221,6 +235,7 @@ frame-same c e p q r =
       stable-same = λ i x b s. rw (e .stable-is) at s;
       lost-same = λ i x u l. rw (e .lost-is) at l;
       heard-same = λ a i z. rw (e .heard-is) at z;
+      flagged-same = f;
     }
 
 -- the same crash spoils another interval, for another controller, in another history

@@ -1,7 +1,7 @@
 -- An interval joins a chain, after some have left it: the history stays in order, is later, and says no more of the other
 -- controllers.
 use mathlib.Core.Path.{_≡_, refl, sym, _∙_, ap}
-use mathlib.Core.Bool.{Bool, true, _||_}
+use mathlib.Core.Bool.{Bool, true, false, _||_}
 use mathlib.Core.Logic.{_⊎_, inl, inr, ⊎-elim, _≢_}
 use Prim.Native.Nat.{ℕ, _≤_, _<_}
 use native.Mathlib.Omega.{arith}
@@ -58,6 +58,16 @@ module _ {n : ℕ} {h : History} {y : Interval} {r : Interval → Bool} (kept : 
   unfolding joined leaving
   stable-cases = changedAtInterval-ind (λ j b. Is b → (j ≡ y) ⊎ Is (h .stable j)) (h .stable) y s (λ e. inl refl) (λ j ne b. inr b)
 
+  -- the new one is not flagged
+  pub new-flagged : h′ .flagged y ≡ false
+  unfolding joined leaving
+  new-flagged = changedAtInterval-same _ _ _
+
+  -- the others are flagged if they were
+  pub old-flagged : (j : Interval) → j ≢ y → h′ .flagged j ≡ h .flagged j
+  unfolding joined leaving
+  old-flagged j ne = changedAtInterval-other (h .flagged) y j _ ne
+
   -- what is lost was lost
   old-lost : (j : Interval) (i : ℕ) → Is (h′ .lost j i) → Is (h .lost j i)
   unfolding joined leaving
@@ -111,6 +121,7 @@ module _ {n : ℕ} {h : History} {y : Interval} {r : Interval → Bool} (kept : 
         stable-same = λ i x b e. sym (old-stable (interval c i x) (not-new _ b)) ∙ e;
         lost-same = λ i x u l. l;
         heard-same = λ a i e. e;
+        flagged-same = λ i x. old-flagged (interval c i x) (λ e. ne (ap (λ z. z .owner) e));
       }
 
   -- an old interval is spoilt only if it was

@@ -5,8 +5,8 @@ use Prim.Native.Nat.{ℕ, _≤_, _<_}
 use native.Mathlib.Omega.{arith}
 use Rattle.history.specs.History.{Interval, History, changedAt}
 use Rattle.model.specs.Model.{Controller, Model, changedAt₂, putController}
-use Rattle.model.specs.Tests.{Is, eq?, changedAt-ind, changedAt-same, changedAt-other, changedAt-id, changedAt₂-ind, changedAt₂-other}
-use Rattle.model.specs.Invariant.{Spoilt, InOrder, ControllerOk, Settled, EndsAgree, Inv, Ext, Frame, ext-refl, ext-trans, message-on, controller-on, settled-on}
+use Rattle.model.specs.Tests.{Is, eq?, changedAt-ind, changedAt-same, changedAt-other, changedAt-id, changedAt-twice, changedAt₂-ind, changedAt₂-other}
+use Rattle.model.specs.Invariant.{Spoilt, InOrder, ControllerOk, Settled, Flags, EndsAgree, Inv, Ext, Frame, ext-refl, ext-trans, message-on, controller-on, settled-on}
 
 -- model μ with history h becomes μ′ with h′
 pub record Keeps (n : ℕ) (μ : Model) (h : History) (μ′ : Model) (h′ : History) : Type 0 where
@@ -56,6 +56,8 @@ pub record Puts (n : ℕ) (μ : Model) (h h′ : History) (c : ℕ) (k : Control
   pub agree : EndsAgree (changedAt (μ .controller) c k)
   pub sending-is : h′ .sending ≡ h .sending
   pub receiver-is : h′ .receiver ≡ h .receiver
+  pub flags : Flags h′ c k
+  pub gap-is : h′ .gap ≡ h .gap
 
 -- then all is kept: the other controllers and the messages are carried over
 pub put-keeps : {n : ℕ} {μ : Model} {h h′ : History} {c : ℕ} {k : Controller} → Inv n μ h → Puts n μ h h′ c k → Keeps n μ h (putController μ c k) h′
@@ -71,6 +73,10 @@ put-keeps {n} {μ} {h} {h′} {c} {k} v p =
                 (λ b ne l. settled-on (p .ext) (v .controller-ok b l) (p .back b ne l) (v .settled b l));
             message-ok = λ m a l. message-on (p .ext) (sending m) (receiver m) (v .message-ok m a l);
             agree = p .agree;
+            flags =
+                changedAt-ind (λ b k. b < n → Flags h′ b k) (μ .controller) c k (λ l. p .flags)
+                (λ b ne l x q r. p .frame b ne .flagged-same _ x ∙ v .flags b l x q r);
+            gap-is = p .gap-is ∙ v .gap-is;
           };
       ext = p .ext;
       sent-grows = omega arith;
@@ -89,7 +95,15 @@ put-keeps {n} {μ} {h} {h′} {c} {k} v p =
 -- a controller put where it stands
 pub putController-id : (μ : Model) (c : ℕ) → putController μ c (μ .controller c) ≡ μ
 unfolding putController
-putController-id μ c = λ d. record { controller = changedAt-id (μ .controller) c d; sent = μ .sent; message = μ .message }
+putController-id μ c = λ d. record { controller = changedAt-id (μ .controller) c d; sent = μ .sent; message = μ .message; gap = μ .gap }
+
+-- a controller put, and changed then
+pub putController-twice : (μ : Model) (c : ℕ) (k : Controller) (f : Controller → Controller) →
+    putController (putController μ c k) c (f (putController μ c k .controller c)) ≡ putController μ c (f k)
+unfolding putController
+putController-twice μ c k f =
+    rw (changedAt-same (μ .controller) c k)
+    (λ d. record { controller = changedAt-twice (μ .controller) c k (f k) d; sent = μ .sent; message = μ .message; gap = μ .gap })
 
 -- The end words of all controllers agree again after a step that leaves controller c as k.
 module _ (controller : ℕ → Controller) (c : ℕ) (k : Controller) (ag : EndsAgree controller) where

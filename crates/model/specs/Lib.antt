@@ -12,8 +12,10 @@ pub mod Logging
 pub mod Hearing
 pub mod Crashing
 pub mod Keeping
+pub mod Capping
 pub mod Steps
 pub mod Recovery
+pub mod Close
 pub mod Opening
 pub mod Consequences
 pub mod Runs

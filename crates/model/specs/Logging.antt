@@ -30,6 +30,7 @@ pub record Logged (h h′ : History) (c : ℕ) (k : Controller) (j : ℕ) (k′ 
   pub live-is : k′ .live ≡ k .live
   pub begunIn-is : k′ .begunIn ≡ k .begunIn
   pub ends-is : k′ .ends ≡ k .ends
+  pub flagged-is : k′ .flagged ≡ k .flagged
 
 module _ {n : ℕ} {h : History} {c : ℕ} {k : Controller} {j : ℕ} {l : List Interval} (L : Logs n h c k j l) where
   open Logs L using (order, ok, fits, on, has, clean)
@@ -108,6 +109,7 @@ module _ {n : ℕ} {h : History} {c : ℕ} {k : Controller} {j : ℕ} {l : List 
         stable-same = λ i x z s. ⊎-elim (λ e. e) (λ e. absurd (ne (ap (λ q. q .owner) (on _ e .is)))) (stable-cases (interval b i x) s);
         lost-same = λ i x u e. e;
         heard-same = λ a i e. e;
+        flagged-same = λ i x. refl;
       }
 
   -- nothing is spoilt that was not
@@ -174,14 +176,14 @@ module _ {n : ℕ} {h : History} {c : ℕ} {k : Controller} {j : ℕ} {l : List 
   -- logging up to a number that is not below the stable count
   pub log-logged : k .stable ≤ j → Logged h h′ c k j (logController c k j)
   unfolding logController
-  log-logged sj = record { ok = log-controller sj; upto = omega arith; incarnation-is = refl; live-is = refl; begunIn-is = refl; ends-is = refl }
+  log-logged sj = record { ok = log-controller sj; upto = omega arith; incarnation-is = refl; live-is = refl; begunIn-is = refl; ends-is = refl; flagged-is = refl }
 
   -- logging "if any" are not yet stable
   pub loggedController-logged : Logged h h′ c k j (loggedController c k j)
   loggedController-logged =
       cond-ind (Logged h h′ c k j) (k .stable <? j) (λ e. log-logged (omega (arith, ltb-true (k .stable) j e)))
       (λ e. let js = ltb-false (k .stable) j e in
-      record { ok = same-controller js; upto = js; incarnation-is = refl; live-is = refl; begunIn-is = refl; ends-is = refl })
+      record { ok = same-controller js; upto = js; incarnation-is = refl; live-is = refl; begunIn-is = refl; ends-is = refl; flagged-is = refl })
 
   -- a settled controller stays so
   pub logged-settled : {k′ : Controller} → Logged h h′ c k j k′ → Settled h c k → Settled h′ c k′

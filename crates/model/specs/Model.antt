@@ -1,7 +1,7 @@
 -- A house on functions: what the proof of demand 3 looks at, by controller and interval number, without places, words and
 -- limits. Every change that an accepted step makes is a changer here.
-use mathlib.Core.Bool.{Bool, not, cond}
-use Prim.Native.Nat.{ℕ, _+_, max}
+use mathlib.Core.Bool.{Bool, true, false, not, cond, _&&_}
+use Prim.Native.Nat.{ℕ, zero, suc, _+_, _-_, max}
 use Rattle.base.specs.Choice.{_==_, _≤?_, _<?_}
 use Rattle.history.specs.History.{Interval, interval, changedAt}
 
@@ -34,6 +34,7 @@ pub record Controller : Type 0 where
   -- number
   pub begunIn : ℕ → ℕ
   pub vec : ℕ → Vec
+  pub flagged : ℕ → Bool
 
 -- a message, without its state: no accepted step's effect on the invariant looks at it
 pub record Message : Type 0 where
@@ -47,6 +48,8 @@ pub record Model : Type 0 where
   pub sent : ℕ
   -- by message number, from 1
   pub message : ℕ → Message
+  -- Q
+  pub gap : ℕ
 
 -- a table of numbers changed at row a and column i
 unfoldable pub changedAt₂ : (ℕ → ℕ → ℕ) → ℕ → ℕ → ℕ → ℕ → ℕ → ℕ
@@ -70,11 +73,11 @@ mergedFor c own v w a = cond (a == c) own (larger (v a) (w a))
 
 -- k is put for controller c
 unfoldable pub putController : Model → ℕ → Controller → Model
-putController μ c k = record { controller = changedAt (μ .controller) c k; sent = μ .sent; message = μ .message }
+putController μ c k = record { controller = changedAt (μ .controller) c k; sent = μ .sent; message = μ .message; gap = μ .gap }
 
 -- a message is put at number m
 unfoldable pub putMessage : Model → ℕ → Message → Model
-putMessage μ m g = record { controller = μ .controller; sent = μ .sent; message = changedAt (μ .message) m g }
+putMessage μ m g = record { controller = μ .controller; sent = μ .sent; message = changedAt (μ .message) m g; gap = μ .gap }
 
 -- K
 unfoldable pub degreeController : Controller → ℕ → Controller
@@ -88,6 +91,7 @@ degreeController k d =
       ends = k .ends;
       begunIn = k .begunIn;
       vec = k .vec;
+      flagged = k .flagged;
     }
 
 -- L, C and the logging of kept intervals: stable up to number j
@@ -102,11 +106,51 @@ logController c k j =
       ends = k .ends;
       begunIn = k .begunIn;
       vec = k .vec;
+      flagged = k .flagged;
     }
 
 -- the same "if any" of them are not yet stable
 abbrev pub loggedController : ℕ → Controller → ℕ → Controller
 loggedController c k j = cond (k .stable <? j) (logController c k j) k
+
+-- its newest interval is flagged
+unfoldable pub flagController : Controller → Controller
+flagController k =
+    record {
+      degree = k .degree;
+      incarnation = k .incarnation;
+      live = k .live;
+      stable = k .stable;
+      known = k .known;
+      ends = k .ends;
+      begunIn = k .begunIn;
+      vec = k .vec;
+      flagged = changedAt (k .flagged) (k .live) true;
+    }
+
+-- C
+abbrev pub checkpointController : ℕ → Controller → Controller
+checkpointController c k = flagController (loggedController c k (k .live))
+
+-- the highest flagged of the numbers up to x, or 0
+unfoldable pub latest : (ℕ → Bool) → ℕ → ℕ
+latest f zero = 0
+latest f (suc x) = cond (f (suc x)) (suc x) (latest f x)
+
+-- how far number x stands above it
+abbrev pub aboveLatest : Controller → ℕ → ℕ
+aboveLatest k x = x - latest (k .flagged) x
+
+-- W4: the newest interval of c, which has just begun, is checkpointed where it stands Q or more above the latest flagged one
+unfoldable pub forcedModel : Model → ℕ → Bool
+forcedModel μ c = not (μ .gap == 0) && (μ .gap ≤? aboveLatest (μ .controller c) (μ .controller c .live))
+
+unfoldable pub capModel : Model → ℕ → Model
+capModel μ c = cond (forcedModel μ c) (putController μ c (checkpointController c (μ .controller c))) μ
+
+-- Q is set
+unfoldable pub gapModel : Model → ℕ → Model
+gapModel μ q = record { controller = μ .controller; sent = μ .sent; message = μ .message; gap = q }
 
 -- T: a tells; w are its own known words
 unfoldable pub tellController : ℕ → Controller → (ℕ → ℕ) → Controller
@@ -120,6 +164,7 @@ tellController a k w =
       ends = k .ends;
       begunIn = k .begunIn;
       vec = k .vec;
+      flagged = k .flagged;
     }
 
 -- X, first part: the end word of c's own incarnation
@@ -134,6 +179,7 @@ endController c k =
       ends = changedAt₂ (k .ends) c (k .incarnation) (k .stable);
       begunIn = k .begunIn;
       vec = k .vec;
+      flagged = k .flagged;
     }
 
 -- H, first part: the end word e of a's incarnation i, and the known word raised to it
@@ -148,6 +194,7 @@ noteController k a i e =
       ends = changedAt₂ (k .ends) a i e;
       begunIn = k .begunIn;
       vec = k .vec;
+      flagged = k .flagged;
     }
 
 -- D: an interval begins from a message with vector w
@@ -162,6 +209,7 @@ beginController c k w =
       ends = k .ends;
       begunIn = changedAt (k .begunIn) (k .live + 1) (k .incarnation);
       vec = changedAt (k .vec) (k .live + 1) (mergedFor c (pair (k .incarnation) (k .live + 1)) (filtered k (k .vec (k .live))) (filtered k w));
+      flagged = changedAt (k .flagged) (k .live + 1) false;
     }
 
 -- starting anew after kept number j: what was given to the numbers up to j stays, the new interval has number j + 1, and
@@ -185,6 +233,7 @@ anewController c k j =
       ends = k .ends;
       begunIn = renewed j (k .incarnation + 1) 0 (k .begunIn);
       vec = renewed j (newVec c k j) (λ (a : ℕ). pair 0 0) (k .vec);
+      flagged = renewed j false false (k .flagged);
     }
 
 -- S: message m goes from c's newest interval to r
@@ -195,6 +244,7 @@ sendMessage μ m c r =
       controller = μ .controller;
       sent = m;
       message = changedAt (μ .message) m (record { to = r; from = interval c (k .begunIn (k .live)) (k .live); vec = filtered k (k .vec (k .live)) });
+      gap = μ .gap;
     }
 
 -- R: message m's vector is filtered for its sender
@@ -217,6 +267,7 @@ openController k c =
       ends = λ (a i : ℕ). 0;
       begunIn = λ (x : ℕ). 0;
       vec = changedAt (λ (x a : ℕ). pair 0 0) 1 (changedAt (λ (a : ℕ). pair 0 0) c (pair 0 1));
+      flagged = changedAt (λ (x : ℕ). false) 1 true;
     }
 
 -- for controllers from n on
@@ -231,6 +282,7 @@ absentController =
       ends = λ (a i : ℕ). 0;
       begunIn = λ (x : ℕ). 0;
       vec = λ (x a : ℕ). pair 0 0;
+      flagged = λ (x : ℕ). false;
     }
 
 -- the house just opened
@@ -240,4 +292,5 @@ openModel n k =
       controller = λ (c : ℕ). cond (c <? n) (openController k c) absentController;
       sent = 0;
       message = λ (m : ℕ). record { to = 0; from = interval 0 0 0; vec = λ (a : ℕ). pair 0 0 };
+      gap = 0;
     }

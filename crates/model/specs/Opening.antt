@@ -8,9 +8,9 @@ use borrow.Author.Tests.{eqb-true, eq-eqb, ltb-true, lt-ltb}
 use Rattle.base.specs.Choice.{_==_, _<?_, and-left, and-right, cond-ind}
 use Rattle.history.specs.History.{Interval, interval, History, changedAt, sameInterval, opening}
 use Rattle.model.specs.Model.{pair, intervalOf, Vec, Controller, full, openController, absentController, openModel}
-use Rattle.model.specs.Tests.{Is, and-both, changedAt-ind, changedAt-same, sameInterval-true, sameInterval-refl}
+use Rattle.model.specs.Tests.{Is, and-both, contrary, changedAt-ind, changedAt-same, sameInterval-true, sameInterval-refl}
 use Rattle.model.specs.Chain.{chainOf}
-use Rattle.model.specs.Invariant.{Tracks, InOrder, ControllerOk, Inv}
+use Rattle.model.specs.Invariant.{Tracks, InOrder, ControllerOk, Flags, Inv}
 use Rattle.model.specs.Vectors.{full-pos}
 use Rattle.model.specs.Knowing.{knows-set}
 
@@ -107,6 +107,11 @@ module _ (n k : ℕ) where
             };
       }
 
+  -- its first interval is flagged
+  first-flagged : (c : ℕ) → c < n → Flags h c (openController k c)
+  unfolding opening openController
+  first-flagged c l x p q = let e : x ≡ 1 = omega arith in rw e (first-begun c 0 1 l refl refl ∙ sym (changedAt-same _ _ _))
+
   -- there are no end words
   no-ends : (c a i : ℕ) → openModel n k .controller c .ends a i ≡ 0
   unfolding openModel openController absentController
@@ -122,4 +127,6 @@ module _ (n k : ℕ) where
         settled = λ c l. record { not-ended = no-ends c c _; live-clean = λ x p q r. absurd (false≢true (r .lost)) };
         message-ok = λ m p l. absurd (omega arith);
         agree = λ b a i l. no-ends b a i ∙ sym (no-ends a a i);
+        flags = λ c l. cond-ind (Flags h c) (c <? n) (λ e. first-flagged c l) (λ e. contrary (lt-ltb c n l) e);
+        gap-is = refl;
       }

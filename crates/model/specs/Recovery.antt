@@ -8,17 +8,18 @@ use native.Mathlib.Omega.{arith}
 use borrow.Author.Tests.{le-leb, lt-leb}
 use Rattle.base.specs.Choice.{_≤?_}
 use Rattle.history.specs.History.{Interval, interval, History, changedAt, those, joined, leaving, stabilized, hearing, losing, crashing, rollingBack}
-use Rattle.model.specs.Model.{Controller, Model, changedAt₂, putController, noteController, endController, loggedController, anewController}
+use Rattle.model.specs.Model.{Controller, Model, changedAt₂, putController, capModel, noteController, endController, loggedController, anewController}
 use Rattle.model.specs.Tests.{Is, fails, eq?, changedAt-ind, changedAt-same, changedAt₂-other}
 use Rattle.model.specs.Chain.{chainOf, member-chain, chain-member, those-chain}
-use Rattle.model.specs.Invariant.{Spoilt, ControllerOk, EndsAgree, Inv, Ext, ext-trans, frame-trans, controller-on, spoilt-on, spoilt-up}
+use Rattle.model.specs.Invariant.{Spoilt, ControllerOk, Flags, EndsAgree, Inv, Ext, ext-trans, frame-trans, controller-on, spoilt-on, spoilt-up}
 use Rattle.model.specs.Vectors.{Condemned, condemned-spoilt, spoilt-condemned}
-use Rattle.model.specs.Growing.{grown-ext, grown-order, grown-frame, grown-back, grown-settled}
+use Rattle.model.specs.Growing.{grown-ext, grown-order, grown-frame, grown-back, grown-settled, grown-flags}
 use Rattle.model.specs.Renewing.{Renews, renews-grows, renewed-controller, restarting-is}
 use Rattle.model.specs.Logging.{Logs, Logged, logged-ext, logged-order, logged-frame, logged-back, loggedController-logged}
 use Rattle.model.specs.Hearing.{Hears, heard-ext, heard-order, heard-frame, heard-back, heard-controller}
 use Rattle.model.specs.Crashing.{Crashes, crashed-ext, crashed-order, crashed-frame, crashed-controller, crashed-clean, crashed-gone, crashed-back}
-use Rattle.model.specs.Keeping.{Keeps, put-keeps, agree-heard, agree-crashed}
+use Rattle.model.specs.Keeping.{Keeps, keeps-trans, put-keeps, agree-heard, agree-crashed}
+use Rattle.model.specs.Capping.{keeps-capped}
 
 -- X: the marks of the crash, and a new start after the stable intervals
 module _ {n : ℕ} {μ : Model} {h : History} (v : Inv n μ h) (c : ℕ) (below : c < n) where
@@ -63,12 +64,12 @@ module _ {n : ℕ} {μ : Model} {h : History} (v : Inv n μ h) (c : ℕ) (below 
       let w = v .agree b c (failed .incarnation) u in
       omega (arith, v .settled c below .not-ended)
 
-  -- nobody else has heard of the crash, so nothing else is spoilt
-  pub keeps-crash : Keeps n μ h (putController μ c (anewController c (endController c (μ .controller c)) (μ .controller c .stable))) (crashing h c)
+  -- nobody else has heard of the crash, so nothing else is spoilt; the new interval may be checkpointed
+  pub keeps-crash : Keeps n μ h (capModel (putController μ c (anewController c (endController c (μ .controller c)) (μ .controller c .stable))) c) (crashing h c)
   unfolding crashing hearing losing leaving joined endController anewController
   keeps-crash =
-      subst (Keeps n μ h (putController μ c (anewController c (endController c failed) (failed .stable)))) (sym (restarting-is restart))
-      (put-keeps v (record {
+      let begun =
+      put-keeps v (record {
         order = grown-order (renews-grows restart);
         ext = ext-trans (crashed-ext crash) (grown-ext (renews-grows restart));
         frame = λ b ne. frame-trans (crashed-ext crash) (crashed-frame crash b ne) (grown-frame (renews-grows restart) b ne);
@@ -79,7 +80,11 @@ module _ {n : ℕ} {μ : Model} {h : History} (v : Inv n μ h) (c : ℕ) (below 
         agree = agree-crashed (μ .controller) c _ (v .agree) (failed .incarnation) (failed .stable) refl (v .settled c below .not-ended);
         sending-is = refl;
         receiver-is = refl;
-      }))
+        flags = grown-flags (renews-grows restart) (v .flags c below);
+        gap-is = refl;
+      }) in
+      subst (Keeps n μ h (capModel (putController μ c (anewController c (endController c failed) (failed .stable))) c)) (sym (restarting-is restart))
+      (keeps-trans begun (keeps-capped (begun .inv) c below))
 
 -- H: the hearer can hear of the crash that ended incarnation i of the crashed controller
 pub record HearsOf (n : ℕ) (μ : Model) (hearer crashed i : ℕ) : Type 0 where
@@ -188,7 +193,7 @@ module _ {n : ℕ} {μ : Model} {h : History} (v : Inv n μ h) {b a i : ℕ} (O 
 
   -- heard: nothing must be undone
   pub keeps-heard : NoneCondemned n (notedController μ b a i) → Keeps n μ h (putController μ b (notedController μ b a i)) (hearing h b a i)
-  unfolding hearing
+  unfolding hearing noteController
   keeps-heard N =
       put-keeps v (record {
         order = heard-order marks;
@@ -200,6 +205,8 @@ module _ {n : ℕ} {μ : Model} {h : History} (v : Inv n μ h) {b a i : ℕ} (O 
         agree = controllers-agree;
         sending-is = refl;
         receiver-is = refl;
+        flags = v .flags b hearer-below;
+        gap-is = refl;
       })
 
   -- rolled: the numbers above j are undone
@@ -270,18 +277,23 @@ module _ {n : ℕ} {μ : Model} {h : History} (v : Inv n μ h) {b a i : ℕ} (O 
     unfolding anewController noteController
     ends-is = logs-kept .ends-is
 
+    -- no flag has changed so far
+    kept-flags : Flags logged b keeping
+    unfolding stabilized hearing noteController
+    kept-flags = rw (logs-kept .live-is, logs-kept .begunIn-is, logs-kept .flagged-is) (v .flags b hearer-below)
+
     -- the history is later, over the three parts of the step
     ext : Ext h (joined (leaving logged b kept) b (interval b (keeping .incarnation + 1) (j + 1))
         (logged .rests (interval b (keeping .begunIn j) j)) true)
     unfolding anewController
     ext = ext-trans (heard-ext marks) (ext-trans (logged-ext logs) (grown-ext (renews-grows restart-after)))
 
-    -- what is kept is logged and clean, and what is spoilt is gone
-    pub keeps-rolled : Keeps n μ h (putController μ b (anewController b (loggedController b (notedController μ b a i) j) j)) (rollingBack (hearing h b a i) b j)
+    -- what is kept is logged and clean, and what is spoilt is gone; the new interval may be checkpointed
+    pub keeps-rolled : Keeps n μ h (capModel (putController μ b (anewController b (loggedController b (notedController μ b a i) j) j)) b) (rollingBack (hearing h b a i) b j)
     unfolding rollingBack joined leaving stabilized hearing anewController
     keeps-rolled =
-        subst (Keeps n μ h (putController μ b (anewController b keeping j))) (sym (restarting-is restart-after))
-        (put-keeps v (record {
+        let begun =
+        put-keeps v (record {
           order = grown-order (renews-grows restart-after);
           ext = ext;
           frame = λ c ne.
@@ -295,4 +307,8 @@ module _ {n : ℕ} {μ : Model} {h : History} (v : Inv n μ h) {b a i : ℕ} (O 
           agree = agree-heard (μ .controller) b _ (v .agree) a i ends-is other;
           sending-is = refl;
           receiver-is = refl;
-        }))
+          flags = grown-flags (renews-grows restart-after) kept-flags;
+          gap-is = refl;
+        }) in
+        subst (Keeps n μ h (capModel (putController μ b (anewController b keeping j)) b)) (sym (restarting-is restart-after))
+        (keeps-trans begun (keeps-capped (begun .inv) b hearer-below))

@@ -7,7 +7,7 @@ use Prim.Native.Nat.{ℕ, _+_, _≤_, _<_}
 use native.Mathlib.Omega.{arith}
 use borrow.Author.Tests.{eqb-true, eqb-false, eq-eqb, le-leb, lt-leb}
 use Rattle.base.specs.Choice.{_==_, cond-ind, le?}
-use Rattle.history.specs.History.{Interval, interval, History, newest, those, joined, leaving, restarting}
+use Rattle.history.specs.History.{Interval, interval, History, newest, those, joined, leaving, capping, beginning, restarting}
 use Rattle.model.specs.Model.{intervalOf, Controller, full, filtered, renewed, newVec, anewController}
 use Rattle.model.specs.Tests.{Is, changedAt-same}
 use Rattle.model.specs.Chain.{chainOf, OnChain, newest-chain}
@@ -17,7 +17,7 @@ use Rattle.model.specs.Knowing.{knows-set}
 use Rattle.model.specs.Growing.{Grows, grown, grown-ext, grown-cases, grown-new, grown-stable}
 
 -- what a new start keeps
-renewed-old : {A : Type 0} (j : ℕ) (new none : A) (f : ℕ → A) (x : ℕ) → x ≤ j → renewed j new none f x ≡ f x
+pub renewed-old : {A : Type 0} (j : ℕ) (new none : A) (f : ℕ → A) (x : ℕ) → x ≤ j → renewed j new none f x ≡ f x
 unfolding renewed
 renewed-old j new none f x l = rw (le-leb x j l)
 
@@ -116,6 +116,8 @@ module _ {n : ℕ} {h : History} {c : ℕ} {k : Controller} {j : ℕ} {kept : In
         begunIn-old = λ x l. renewed-old j _ _ (k .begunIn) x l;
         begunIn-new = renewed-new j _ _ (k .begunIn);
         vec-old = λ x l. renewed-old j _ _ (k .vec) x l;
+        flagged-old = λ x l. renewed-old j _ _ (k .flagged) x l;
+        flagged-new = renewed-new j _ _ (k .flagged);
         newer = omega arith;
         no-end = le? 1 (k .ends c (k .incarnation + 1)) (λ l. absurd (let z = ok .ended .end-le _ l in omega arith)) (λ l. omega arith);
         current = λ x b. none x b;
@@ -144,9 +146,9 @@ module _ {n : ℕ} {h : History} {c : ℕ} {k : Controller} {j : ℕ} {kept : In
         stable = λ x b l. ⊎-elim (λ e. rw e (grown-stable renews-grows)) (none x) (grown-cases renews-grows _ b);
       }))
 
-  -- the history is fed just this
-  pub restarting-is : restarting (leaving h c kept) c ≡ joined (leaving h c kept) c new (h .rests last) true
-  unfolding restarting leaving
+  -- the history is fed just this, and a checkpoint where it is forced
+  pub restarting-is : restarting (leaving h c kept) c ≡ capping (joined (leaving h c kept) c new (h .rests last) true) c
+  unfolding restarting beginning leaving
   restarting-is =
       let last-is : newest (leaving h c kept .chain c) ≡ last = ap newest (changedAt-same (h .chain) c _ ∙ cut) ∙ newest-chain c (k .begunIn) j pos in
       rw (ok .shape .incarnation-is, last-is)

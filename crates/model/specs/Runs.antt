@@ -76,6 +76,10 @@ not-done : (r : Run) (x : Call) (l : List Call) → NoOpening r (x ∷ l) → No
 unfolding runs stepCall
 not-done r x l unopened size degree e = subst (λ y. callIn r y .answer ≢ Done) (sym e) (unopened [] l size degree (ap (λ y. y ∷ l) e))
 
+-- the first part of a list from an opening is one too
+pub first-part : {t g : List ℕ} {n k : ℕ} (l l′ : List Call) → FromOpening t g n k (l ++ l′) → FromOpening t g n k l
+first-part l l′ O = record { done = O .done; no-opening = no-opening-before _ l l′ (O .no-opening) }
+
 -- a fact of a run that each call of a list keeps
 runs-ind : (P : Run → Type 0) (l : List Call) (r : Run) → P r →
     ((before : List Call) (x : Call) (after : List Call) → l ≡ before ++ x ∷ after → P (runs r before) → P (next x (runs r before))) → P (runs r l)

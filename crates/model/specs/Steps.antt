@@ -1,23 +1,20 @@
--- Setting a degree, sending, releasing, delivering, logging, checkpointing and telling keep the invariant.
+-- Setting a degree or Q, sending, releasing, delivering and telling keep the invariant.
 use mathlib.Core.Path.{_≡_, refl, sym, _∙_, ap, subst}
-use mathlib.Core.Bool.{false, not}
-use mathlib.Core.List.{List}
 use Prim.Native.Nat.{ℕ, _+_, _≤_, _<_}
 use native.Mathlib.Omega.{arith}
 use lib.Count.{ones}
 use Rattle.table.specs.Field.{desk}
-use Rattle.history.specs.History.{Interval, interval, History, newest, those, oldest, joined, leaving, stabilized, degreeSet, sentFrom, delivering, logging, checkpointing}
+use Rattle.history.specs.History.{interval, History, joined, leaving, degreeSet, sentFrom, gapSet, delivering}
 use Rattle.history.specs.Demand.{named}
-use Rattle.model.specs.Model.{Vec, Controller, Message, Model, full, filtered, putController, putMessage, degreeController, logController, loggedController, tellController, beginController, sendMessage, releasedVec, releaseMessage}
-use Rattle.model.specs.Tests.{Is, fails, not-passes, changedAt-ind, changedAt-same, changedAt-other}
-use Rattle.model.specs.Chain.{member-chain, chain-member, newest-chain, oldest-on, on-oldest}
-use Rattle.model.specs.Invariant.{Shape, ControllerOk, MessageOk, Inv, Ext, SameFacts, ext-refl, ext-same, frame-refl, frame-same, spoilt-same, tracks-on, knows-on, body-on, ends-on, message-on, controller-on, settled-on, some-live}
+use Rattle.model.specs.Model.{Vec, Controller, Message, Model, full, filtered, putController, putMessage, degreeController, capModel, gapModel, tellController, beginController, sendMessage, releasedVec, releaseMessage}
+use Rattle.model.specs.Tests.{Is, changedAt-ind, changedAt-same, changedAt-other}
+use Rattle.model.specs.Invariant.{Shape, ControllerOk, MessageOk, Inv, Ext, SameFacts, ext-refl, ext-same, frame-refl, frame-same, spoilt-same, tracks-on, knows-on, body-on, ends-on, message-on, controller-on, settled-on, some-live, newest-is}
 use Rattle.model.specs.Vectors.{Condemned, filtered-tracks, spoilt-condemned}
 use Rattle.model.specs.Knowing.{may-know, knows-told}
-use Rattle.model.specs.Growing.{grown-ext, grown-order, grown-frame, grown-back, grown-settled}
+use Rattle.model.specs.Growing.{grown-ext, grown-order, grown-frame, grown-back, grown-settled, grown-flags}
 use Rattle.model.specs.Beginning.{Compatible, Begins, begins-grows, begun-controller, delivering-is}
-use Rattle.model.specs.Logging.{Logs, Logged, logged-ext, logged-order, logged-frame, logged-back, log-logged, loggedController-logged, logged-settled}
-use Rattle.model.specs.Keeping.{Keeps, put-keeps, agree-same}
+use Rattle.model.specs.Keeping.{Keeps, keeps-trans, put-keeps, agree-same}
+use Rattle.model.specs.Capping.{keeps-capped}
 
 -- message m can be delivered: it was sent to a controller, it is not condemned to it, and no other owner has full pairs of
 -- different incarnations in the two vectors, both filtered for the receiver
@@ -47,7 +44,7 @@ module _ {n : ℕ} {μ : Model} {h : History} (v : Inv n μ h) where
       put-keeps v (record {
         order = v .history;
         ext = ext;
-        frame = λ b ne. frame-same b same refl (changedAt-other _ _ _ _ ne) refl;
+        frame = λ b ne. frame-same b same refl (changedAt-other _ _ _ _ ne) refl (λ i x. refl);
         back = λ b ne l y bi r. spoilt-same same r;
         ok =
             record {
@@ -68,6 +65,8 @@ module _ {n : ℕ} {μ : Model} {h : History} (v : Inv n μ h) where
         agree = agree-same (μ .controller) c _ (v .agree) refl;
         sending-is = refl;
         receiver-is = refl;
+        flags = v .flags c below;
+        gap-is = refl;
       })
     where
       ok : ControllerOk h c (μ .controller c)
@@ -90,12 +89,14 @@ module _ {n : ℕ} {μ : Model} {h : History} (v : Inv n μ h) where
         inv =
             record {
               history = v .history;
-              controller-ok = λ c l. controller-on ext (frame-same c same refl refl refl) (v .controller-ok c l);
+              controller-ok = λ c l. controller-on ext (frame-same c same refl refl refl (λ i x. refl)) (v .controller-ok c l);
               settled = λ c l. settled-on ext (v .controller-ok c l) (λ y b z. spoilt-same same z) (v .settled c l);
               message-ok =
                   changedAt-ind (λ m g. 1 ≤ m → m ≤ μ .sent + 1 → MessageOk h′ m g) (μ .message) (μ .sent + 1) g (λ p l. new)
                   (λ m ne p l. message-on ext (changedAt-other _ _ _ _ ne) (changedAt-other _ _ _ _ ne) (v .message-ok m p (omega arith)));
               agree = v .agree;
+              flags = v .flags;
+              gap-is = v .gap-is;
             };
         ext = ext;
         sent-grows = omega arith;
@@ -132,7 +133,7 @@ module _ {n : ℕ} {μ : Model} {h : History} (v : Inv n μ h) where
       new : MessageOk h′ (μ .sent + 1) g
       new =
           record {
-            sending-is = changedAt-same _ _ _ ∙ ap newest (ok .shape .chain-is) ∙ newest-chain s (k .begunIn) (k .live) live-pos;
+            sending-is = changedAt-same _ _ _ ∙ newest-is (ok .shape);
             receiver-is = changedAt-same _ _ _;
             from-begun = begun;
             tracked =
@@ -152,6 +153,8 @@ module _ {n : ℕ} {μ : Model} {h : History} (v : Inv n μ h) where
               settled = v .settled;
               message-ok = changedAt-ind (λ j g. 1 ≤ j → j ≤ μ .sent → MessageOk h j g) (μ .message) m _ (λ p l. released) (λ j ne. v .message-ok j);
               agree = v .agree;
+              flags = v .flags;
+              gap-is = v .gap-is;
             };
         ext = ext-refl h;
         sent-grows = omega arith;
@@ -174,13 +177,14 @@ module _ {n : ℕ} {μ : Model} {h : History} (v : Inv n μ h) where
                 filtered-tracks _ _ _ (v .history) (v .controller-ok _ (v .history .owner-below _ (o .from-begun)) .knows) (o .from-begun) (o .tracked);
           }
 
-  -- D: since the message is not condemned, its sending interval is not spoilt for the receiver, whose chain grows
-  pub keeps-deliver : (m : ℕ) → Delivers n μ m →
-      Keeps n μ h (putController μ (μ .message m .to) (beginController (μ .message m .to) (μ .controller (μ .message m .to)) (μ .message m .vec))) (delivering h m)
+  -- D: since the message is not condemned, its sending interval is not spoilt for the receiver, whose chain grows; what begins may be
+  -- checkpointed then
+  pub keeps-deliver : (m : ℕ) → Delivers n μ m → let c = μ .message m .to in
+      Keeps n μ h (capModel (putController μ c (beginController c (μ .controller c) (μ .message m .vec))) c) (delivering h m)
   unfolding joined leaving beginController
   keeps-deliver m D =
-      subst (Keeps n μ h (putController μ c (beginController c k w))) (sym (delivering-is begins m (o .receiver-is) (o .sending-is)))
-      (put-keeps v (record {
+      let begun =
+      put-keeps v (record {
         order = grown-order (begins-grows begins);
         ext = grown-ext (begins-grows begins);
         frame = grown-frame (begins-grows begins);
@@ -190,7 +194,11 @@ module _ {n : ℕ} {μ : Model} {h : History} (v : Inv n μ h) where
         agree = agree-same (μ .controller) c _ (v .agree) refl;
         sending-is = refl;
         receiver-is = refl;
-      }))
+        flags = grown-flags (begins-grows begins) (v .flags c (D .to-below));
+        gap-is = refl;
+      }) in
+      subst (Keeps n μ h (capModel (putController μ c (beginController c k w)) c)) (sym (delivering-is begins m (o .receiver-is) (o .sending-is)))
+      (keeps-trans begun (keeps-capped (begun .inv) c (D .to-below)))
     where
       c : ℕ
       c = μ .message m .to
@@ -219,74 +227,6 @@ module _ {n : ℕ} {μ : Model} {h : History} (v : Inv n μ h) where
             one = D .no-conflict;
           }
 
-  -- L, C: a controller whose live intervals up to j are logged
-  keeps-logged : (c j : ℕ) (l : List Interval) (k′ : Controller) → c < n → Logs n h c (μ .controller c) j l → Logged h (stabilized h l) c (μ .controller c) j k′ →
-      Keeps n μ h (putController μ c k′) (stabilized h l)
-  unfolding stabilized
-  keeps-logged c j l k′ below logs o =
-      put-keeps v (record {
-        order = logged-order logs;
-        ext = logged-ext logs;
-        frame = logged-frame logs;
-        back = λ b ne z y bi. logged-back logs b y;
-        ok = o .ok;
-        settled = logged-settled logs o (v .settled c below);
-        agree = agree-same (μ .controller) c k′ (v .agree) (o .ends-is);
-        sending-is = refl;
-        receiver-is = refl;
-      })
-
-  -- L: the q oldest that are not stable are those with the q numbers above the stable count
-  pub keeps-log : (c q : ℕ) → c < n → 1 ≤ q → μ .controller c .stable + q ≤ μ .controller c .live →
-      Keeps n μ h (putController μ c (logController c (μ .controller c) (μ .controller c .stable + q))) (logging h c q)
-  unfolding logging
-  keeps-log c q below pos fits = keeps-logged c (k .stable + q) _ _ below logs (log-logged logs (omega arith))
-    where
-      k : Controller
-      k = μ .controller c
-
-      ok : ControllerOk h c k
-      ok = v .controller-ok c below
-
-      low : (x : ℕ) → 1 ≤ x → x ≤ k .stable → not (h .stable (interval c (k .begunIn x) x)) ≡ false
-      low x p l = rw (ok .body .stable-upto x p l)
-
-      high : (x : ℕ) → k .stable < x → x ≤ k .live → Is (not (h .stable (interval c (k .begunIn x) x)))
-      high x p l = not-passes _ (fails _ (λ z. let y = ok .body .stable-only x (omega arith) l z in omega arith))
-
-      logs : Logs n h c k (k .stable + q) (oldest q (those (λ (y : Interval). not (h .stable y)) (h .chain c)))
-      logs =
-          record {
-            order = v .history;
-            ok = ok;
-            fits = fits;
-            on = λ y e.
-                oldest-on (λ (y : Interval). not (h .stable y)) c (k .begunIn) (k .stable) (k .live) q fits low high y (rw (ok .shape .chain-is) at e);
-            has = λ x a b.
-                rw (ok .shape .chain-is)
-                (on-oldest (λ (y : Interval). not (h .stable y)) c (k .begunIn) (k .stable) (k .live) q fits low high x a b);
-            clean = λ x p l. v .settled c below .live-clean x p (omega arith);
-          }
-
-  -- C: the whole chain is logged
-  checkpoint-logs : (c : ℕ) → c < n → Logs n h c (μ .controller c) (μ .controller c .live) (h .chain c)
-  checkpoint-logs c below =
-      let k = μ .controller c in
-      let ok = v .controller-ok c below in
-      record {
-        order = v .history;
-        ok = ok;
-        fits = omega arith;
-        on = λ y e. member-chain c (k .begunIn) (k .live) y (rw (ok .shape .chain-is) at e);
-        has = λ x p q. rw (ok .shape .chain-is) (chain-member c (k .begunIn) (k .live) x (omega arith) q);
-        clean = v .settled c below .live-clean;
-      }
-
-  -- so all that is not stable is logged, if any
-  pub keeps-checkpoint : (c : ℕ) → c < n → Keeps n μ h (putController μ c (loggedController c (μ .controller c) (μ .controller c .live))) (checkpointing h c)
-  unfolding checkpointing
-  keeps-checkpoint c below = let logs = checkpoint-logs c below in keeps-logged c (μ .controller c .live) _ _ below logs (loggedController-logged logs)
-
   -- T: what a knows of itself b may know
   pub keeps-tell : (a b : ℕ) → a < n → b < n → Keeps n μ h (putController μ b (tellController a (μ .controller b) (μ .controller a .known a))) h
   unfolding tellController
@@ -308,4 +248,35 @@ module _ {n : ℕ} {μ : Model} {h : History} (v : Inv n μ h) where
         agree = agree-same (μ .controller) b _ (v .agree) refl;
         sending-is = refl;
         receiver-is = refl;
+        flags = v .flags b holder;
+        gap-is = refl;
       })
+
+  -- W4: only Q changes
+  pub keeps-gap : (q : ℕ) → Keeps n μ h (gapModel μ q) (gapSet h q)
+  unfolding gapModel gapSet
+  keeps-gap q =
+      record {
+        inv =
+            record {
+              history = v .history;
+              controller-ok = λ c l. controller-on ext (frame-same c same refl refl refl (λ i x. refl)) (v .controller-ok c l);
+              settled = λ c l. settled-on ext (v .controller-ok c l) (λ y b z. spoilt-same same z) (v .settled c l);
+              message-ok = λ m p l. message-on ext refl refl (v .message-ok m p l);
+              agree = v .agree;
+              flags = v .flags;
+              gap-is = refl;
+            };
+        ext = ext;
+        sent-grows = omega arith;
+        sending-same = λ m l. refl;
+        receiver-same = λ m l. refl;
+        from-same = λ m l. refl;
+        to-same = λ m l. refl;
+      }
+    where
+      same : SameFacts h (gapSet h q)
+      same = record { begun-is = refl; rests-is = refl; stable-is = refl; lost-is = refl; heard-is = refl }
+
+      ext : Ext h (gapSet h q)
+      ext = ext-same same

@@ -86,6 +86,12 @@ changedAt-other f n k a ne = rw (ne-eqb k n ne)
 pub changedAt-id : {A : Type 0} (f : ℕ → A) (n : ℕ) → changedAt f n (f n) ≡ f
 changedAt-id f n = fun-ext (changedAt-ind (λ k a. a ≡ f k) f n (f n) refl (λ k ne. refl))
 
+-- a function changed twice at one number
+pub changedAt-twice : {A : Type 0} (f : ℕ → A) (n : ℕ) (a b : A) → changedAt (changedAt f n a) n b ≡ changedAt f n b
+changedAt-twice f n a b =
+    fun-ext (changedAt-ind (λ k z. z ≡ changedAt f n b k) (changedAt f n a) n b (sym (changedAt-same f n b))
+    (λ k ne. changedAt-other f n k a ne ∙ sym (changedAt-other f n k b ne)))
+
 -- a table of numbers changed at one row and column
 pub changedAt₂-ind : (P : ℕ → ℕ → ℕ → Type 0) (f : ℕ → ℕ → ℕ) (a i v : ℕ) → P a i v →
     ((b s : ℕ) → (b ≡ a → s ≡ i → ⊥) → P b s (f b s)) → (b s : ℕ) → P b s (changedAt₂ f a i v b s)

@@ -12,7 +12,7 @@ use lib.Seq.{drop-drop, getD-take, getD-set-other, length-take-le, take-suc-set}
 use borrow.Author.Tests.{ne-eqb, eqb-true, eqb-false, le-leb, lt-leb, le-ltb, ltb-false}
 use Rattle.base.specs.Choice.{_==_, _<?_, or-left, or-right, le?}
 use Rattle.rules.specs.declared.Command.{Command}
-use Rattle.rules.specs.declared.Command.the-variants.{Open, SetDegree, Send, Release, Deliver, Log, Checkpoint, Tell, Crash, Hear}
+use Rattle.rules.specs.declared.Command.the-variants.{Open, SetDegree, Send, Release, Deliver, Log, Checkpoint, Tell, Crash, Hear, SetGap}
 use Rattle.lines.specs.Lines.{space, longestLine, stepOf, numbersOf, mostNumbers, withNumbers, command, firstMore, fields, valueOf, isNumber, areNumbers, asked, parse}
 use Rattle.lines.specs.declared.Parsed.{Parsed}
 use Rattle.lines.specs.declared.Parsed.the-variants.{Asks, Bad}
@@ -66,6 +66,7 @@ numbers-most (Checkpoint c) = omega arith
 numbers-most (Tell a b) = omega arith
 numbers-most (Crash c) = omega arith
 numbers-most (Hear b a i) = omega arith
+numbers-most (SetGap q) = omega arith
 
 -- so nothing is asked with more
 with-many : (n : ℕ) (p : Parsed) → mostNumbers < n → withNumbers n p ≡ Bad

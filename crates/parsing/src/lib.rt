@@ -53,7 +53,7 @@ pub fn step_of(letter: u32, a: u32, b: u32, c: u32) -> Parsed
     }
 }
 
-// How many numbers a step has.
+// How many numbers a step has; the last is one that no letter asks for.
 fn numbers_of(x: Command) -> usize
     ensures { λ r. ⌜ r ≡ numbersOf x ⌝ }
 {
@@ -68,6 +68,7 @@ fn numbers_of(x: Command) -> usize
         Command::Tell(_, _) => 2,
         Command::Crash(_) => 1,
         Command::Hear(_, _, _) => 3,
+        Command::SetGap(_) => 1,
     }
 }
 

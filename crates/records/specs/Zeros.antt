@@ -5,10 +5,10 @@ use mathlib.Core.List.{List}
 use Prim.Native.Nat.{ℕ, _+_, _-_}
 use native.Mathlib.Omega.{arith}
 use lib.ListN.{getD}
-use Rattle.table.specs.Field.{Field, OfHead, OfController, OfPlace, OfMessage, spareFrom}
-use Rattle.table.specs.Layout.{position, headWords, controllerWords, placeWords, messageWords}
+use Rattle.table.specs.Field.{Field, OfHead, OfController, OfPlace, OfMessage}
+use Rattle.table.specs.Layout.{position, controllerWords, placeWords, messageWords}
 use Rattle.table.specs.Words.{state}
-use Rattle.rules.specs.Form.{zeros}
+use Rattle.rules.specs.Form.{zeros, headZeros}
 
 -- k words from word `at` on are 0
 unfoldable pub zerosFrom : List ℕ → ℕ → ℕ → Bool
@@ -20,9 +20,10 @@ unfolding zerosFrom
 zeros-fields t at k f e = ap (zeros k) (fun-ext (λ (i : ℕ). ap (λ (j : ℕ). getD t j 0) (e i)))
 
 module _ (t : List ℕ) where
-  -- of the head's spare words
-  pub zeros-head : zerosFrom t spareFrom (headWords - spareFrom) ≡ zeros (headWords - spareFrom) (λ (k : ℕ). state t (OfHead (spareFrom + k)))
-  zeros-head = zeros-fields t spareFrom (headWords - spareFrom) (λ (k : ℕ). OfHead (spareFrom + k)) (λ (k : ℕ). refl)
+  -- of the head, from one word on and below another
+  pub zeros-head : (from to : ℕ) → zerosFrom t from (to - from) ≡ headZeros (state t) from to
+  unfolding headZeros
+  zeros-head from to = zeros-fields t from (to - from) (λ (k : ℕ). OfHead (from + k)) (λ (k : ℕ). refl)
 
   -- of a record that begins at word `at`
   pub zeros-controller : (c at : ℕ) → at ≡ position (OfController c 0) → zerosFrom t at controllerWords ≡ zeros controllerWords (λ (k : ℕ). state t (OfController c k))

@@ -1,4 +1,4 @@
-// Whether the words of one record are in their ranges: a controller's, a row of known and end words, a place, a message. No
+// Whether the words of one record are in their ranges: the head's, a controller's, a row of known and end words, a place's, a message's. No
 // branch on a word that is tested, so that long runs of words are looked at in one go.
 ghost use mathlib.Core.Path.{_≡_};
 ghost use Prim.Native.Nat.{_+_, _≤_, _<_};
@@ -7,7 +7,7 @@ ghost use Rattle.table.specs.Layout.{controllers, places, messages, vectorWords
 ghost use Rattle.table.specs.Words.{state};
 ghost use Rattle.rules.specs.Limits.{house};
 ghost use Rattle.rules.specs.Vector.{pair};
-ghost use Rattle.rules.specs.Form.{pairOk, vectorOk, controllerOk, highest, rowOk, placeOk, stateOk, messageOk};
+ghost use Rattle.rules.specs.Form.{headOk, pairOk, vectorOk, controllerOk, highest, rowOk, placeOk, stateOk, messageOk};
 ghost use Rattle.vector.specs.At.{vectorAt};
 ghost use Rattle.records.specs.Zeros.{zerosFrom};
 
@@ -48,6 +48,21 @@ pub fn vector_ok(t: &[u32], n: u32, at: usize) -> bool
         owner += 1;
     }
     ok
+}
+
+// The head: the number of controllers, the records in use, the gap, and zeros for the rest.
+pub fn head_ok(t: &[u32]) -> bool
+    requires { ⌜ length (now t) ≡ tableWords ⌝ }
+    ensures { λ x. ⌜ x ≡ headOk house (state (now (t .entry))) ⌝ }
+{
+    let n = table::size(t);
+    let rest = table::HEAD_WORDS - table::SPARE_AGAIN;
+    (1 <= n)
+        & (n <= table::CONTROLLERS as u32)
+        & (table::records_used(t) <= table::MESSAGES as u32)
+        & all_zero(t, table::SPARE, table::GAP - table::SPARE)
+        & (table::gap(t) <= table::LAST_GAP)
+        & all_zero(t, table::SPARE_AGAIN, rest)
 }
 
 pub fn controller_ok(t: &[u32], n: u32, c: usize) -> bool

@@ -57,7 +57,7 @@ pub fn crash_controller(t: &mut [u32], c: usize) -> Answer
     let live = table::live_count(t, c);
     let k = table::stable_count(t, c);
     let x = table::number_of(t, c, k);
-    let again = restart::replay(t, c, k);
+    let again = checkpoint::replay(t, c, k);
     lose(t, c);
     Answer::Crashed(c as u32, i, x, live - k, again)
 }
@@ -79,7 +79,7 @@ pub fn roll_back(t: &mut [u32], hearer: usize, k: u32)
     requires { ⌜ (length (now t) ≡ tableWords) × Starts (state (now t)) hearer k ⌝ }
     ensures { λ _. ⌜ now (t .exit) ≡ words (rolledBack (state (now (t .entry))) hearer k) ⌝ }
 {
-    controller::log_rest(t, hearer, k);
+    checkpoint::log_rest(t, hearer, k);
     restart::remove_intervals(t, hearer, k);
 }
 

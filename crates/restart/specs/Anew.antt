@@ -1,25 +1,19 @@
--- The replay figure, and what starting anew and removing intervals write, one call after the other.
-use mathlib.Core.Path.{_≡_, refl, sym, ap, ap₂, _∙_, subst}
+-- What starting anew and removing intervals write, one call after the other.
+use mathlib.Core.Path.{_≡_, refl, sym, ap, _∙_, subst}
 use mathlib.Core.List.{List}
-use Prim.Native.Nat.{ℕ, _+_, _-_, _<_}
+use Prim.Native.Nat.{ℕ, _+_, _-_}
 use native.Mathlib.Omega.{arith}
 use lib.ListN.{set}
 use Rattle.table.specs.Field.{State, Known, OfPlace, Incarnation, LiveCount, StableCount}
 use Rattle.table.specs.Change.{put, putPart, clearPlaces}
-use Rattle.table.specs.Layout.{controllers}
 use Rattle.table.specs.Words.{state, words, agree-words, called, then-put, then-part}
 use Rattle.table.specs.Numbering.{numberOf}
 use Rattle.rules.specs.Vector.{Vector, pair, placeVector, filtered}
-use Rattle.rules.specs.Shared.{placeRecord, newVector, placed, entered, restarted, dropHeld, startAnew, causes, removed, latestFlagged, replayed}
+use Rattle.rules.specs.Shared.{placeRecord, newVector, placed, entered, restarted, capped, dropHeld, startAnew, causes, removed}
 use Rattle.laws.specs.Facts.{Near}
 use Rattle.laws.specs.Agree.{agree-dropHeld, agree-entered}
-use Rattle.laws.specs.Chain.{Starts, starts-words, starts-causes}
-use Rattle.laws.specs.Kept.{then-start}
-
--- the replay figure from its two numbers
-pub replay-is : (σ : State) (c k x y : ℕ) → x ≡ numberOf σ c k → y ≡ latestFlagged σ c k → x - y ≡ replayed σ c k
-unfolding replayed
-replay-is σ c k x y e q = ap₂ (λ x y. x - y) e q
+use Rattle.laws.specs.Chain.{Counts, counts-words, counts-restarted, Starts, starts-words, starts-causes}
+use Rattle.laws.specs.Kept.{then-capped, then-start}
 
 -- the kept vector is near, and the new one is made of it
 pub kept-near : (σ : State) (c k : ℕ) (v : Vector) → Starts σ c k → v ≡ placeVector σ c (k - 1) → Near v
@@ -50,10 +44,16 @@ begins t t₁ t₂ c k own x v eo ex ev e₁ e₂ =
     called (λ σ. entered σ c (k + 1) (own + 1) x) _ e₁ e₂ (agree-entered _ _ (agree-words _ e₁) c (k + 1) refl refl)
     ∙ (λ d. words (entered (placed (state t) c k (eo d + 1) (ex d) (ev d)) c (k + 1) (eo d + 1) (ex d)))
 
--- the new incarnation has begun, and held messages are dropped
-pub starts : (t t₁ t₂ : List ℕ) (c k : ℕ) → c < controllers → t₁ ≡ words (restarted (state t) c k) → t₂ ≡ words (dropHeld (state t₁) c k) → t₂ ≡ words (startAnew (state t) c k)
-unfolding startAnew
-starts t t₁ t₂ c k cl e₁ e₂ = called (λ σ. dropHeld σ c k) _ e₁ e₂ (agree-dropHeld _ _ (agree-words _ e₁) c k cl)
+-- the new incarnation has begun: the start has its counts, was checkpointed, if that was due, and held messages were dropped
+module _ (t t₁ : List ℕ) (c k : ℕ) (s : Starts (state t) c k) (e₁ : t₁ ≡ words (restarted (state t) c k)) where
+  pub begun-counts : Counts (state t₁) c
+  begun-counts = counts-words _ c e₁ (counts-restarted (state t) c k s)
+
+  pub starts : (t₂ t₃ : List ℕ) → t₂ ≡ words (capped (state t₁) c) → t₃ ≡ words (dropHeld (state t₂) c k) → t₃ ≡ words (startAnew (state t) c k)
+  unfolding startAnew
+  starts t₂ t₃ e₂ e₃ =
+      let e = then-capped _ c (counts-restarted (state t) c k s) e₁ e₂ in
+      called (λ σ. dropHeld σ c k) _ e e₃ (agree-dropHeld _ _ (agree-words _ e) c k (s .chain .named))
 
 -- the causes have their states, and the start is made on them
 module _ (t t₁ : List ℕ) (c k : ℕ) (s : Starts (state t) c k) (e₁ : t₁ ≡ words (causes (state t) c k)) where

@@ -1,22 +1,11 @@
-// How many intervals a crash has replayed; and what a crash and a rollback share: starting anew, and removing intervals.
+// What a crash and a rollback share: starting anew, and removing intervals.
 ghost use mathlib.Core.Path.{_≡_};
-ghost use Prim.Native.Nat.{_≤_, _<_};
+ghost use Prim.Native.Nat.{_<_};
 ghost use lib.ListN.{length};
-ghost use Rattle.table.specs.Field.{LiveCount};
 ghost use Rattle.table.specs.Layout.{controllers, incarnations, tableWords};
 ghost use Rattle.table.specs.Words.{state, words};
-ghost use Rattle.rules.specs.Shared.{newVector, placed, entered, restarted, startAnew, removed, replayed};
-ghost use Rattle.laws.specs.Chain.{Chain, Starts};
-
-// How many intervals are to be replayed after the k-th.
-pub fn replay(t: &[u32], c: usize, k: u32) -> u32
-    requires { ⌜ (length (now t) ≡ tableWords) × Chain (state (now t)) c × (k ≤ state (now t) (LiveCount c)) ⌝ }
-    ensures { λ n. ⌜ n ≡ replayed (state (now (t .entry))) c k ⌝ }
-{
-    let x = table::number_of(t, c, k);
-    let flagged = interval::latest_flagged(t, c, k as usize);
-    x - flagged
-}
+ghost use Rattle.rules.specs.Shared.{newVector, placed, entered, restarted, startAnew, removed};
+ghost use Rattle.laws.specs.Chain.{Starts};
 
 // The kept vector filtered for c, with c's own pair set to the new interval.
 pub fn new_vector(t: &[u32], c: usize, k: u32) -> vector::Vector
@@ -64,12 +53,13 @@ pub fn begin_incarnation(t: &mut [u32], c: usize, k: u32)
     enter(t, c, k + 1, i, x);
 }
 
-// Starting anew at c after the k-th interval.
+// Starting anew at c after the k-th interval. The start may be checkpointed as it begins.
 pub fn start_anew(t: &mut [u32], c: usize, k: u32)
     requires { ⌜ (length (now t) ≡ tableWords) × Starts (state (now t)) c k ⌝ }
     ensures { λ _. ⌜ now (t .exit) ≡ words (startAnew (state (now (t .entry))) c k) ⌝ }
 {
     begin_incarnation(t, c, k);
+    checkpoint::cap(t, c);
     removal::drop_held(t, c, k);
 }
 

@@ -3,26 +3,26 @@
 use mathlib.Core.Path.{_≡_, refl}
 use mathlib.Core.Bool.{true, false}
 use mathlib.Core.List.{List, [], _∷_, map}
-use Prim.Native.Nat.{ℕ}
+use Prim.Native.Nat.{ℕ, _+_}
 use lib.Count.{onesIn, ones}
 use lib.ListN.{set, replicate}
-use Rattle.base.specs.Ranges.{anyb, first}
+use Rattle.base.specs.Ranges.{allb, anyb, first}
 use Rattle.base.specs.Lists.{tab}
-use Rattle.base.specs.Cases.{firstOf}
+use Rattle.base.specs.Cases.{allOf, firstOf}
 use Rattle.base.specs.Splice.{splice}
-use Rattle.table.specs.Field.{State, Known, End, SentCount, Degree, LiveCount, StableCount, Cause, Flag, PairNumber, MessageState, Receiver, SendingNumber, Payload, MessagePairNumber, desk, same}
+use Rattle.table.specs.Field.{State, OfHead, Known, End, Size, SentCount, Gap, Degree, LiveCount, StableCount, Cause, Flag, PairNumber, MessageState, Receiver, SendingNumber, Payload, MessagePairNumber, desk, same}
 use Rattle.table.specs.Change.{blank, put, putPart, clearPlaces, putStates}
 use Rattle.table.specs.Numbering.{numberOf, used, messageOf}
-use Rattle.rules.specs.Limits.{house, lastEntry}
-use Rattle.rules.specs.Refusal.{LEDGER-USED-UP}
-use Rattle.rules.specs.Vector.{placeVector, messageVector, flat, knownStable, filterPair, filtered, condemnedPair, condemned, maskTo, mask}
-use Rattle.rules.specs.Form.{stateHeld, stateReleased, stateDropped, statePublished, stateOk}
+use Rattle.rules.specs.Limits.{house, lastEntry, lastGap}
+use Rattle.rules.specs.Refusal.{DEGREE, LEDGER-USED-UP}
+use Rattle.rules.specs.Vector.{placeVector, messageVector, flat, knownStable, filterPair, filtered, condemnedPair, condemned, maskTo, mask, conflictPair, conflict, mergePair, merged}
+use Rattle.rules.specs.Form.{stateHeld, stateReleased, stateDropped, statePublished, stateOk, zeros, headZeros, headOk}
 use Rattle.rules.specs.Ledger.{countAt, ledgerWords, countOf, appended, blankLedger}
-use Rattle.rules.specs.Shared.{placeRecord, logged, loggedTo, causing, causedIn, causesIn, causes, offeredAgain, newVector, placed, entered, restarted, heldOrDropped, dropHeld, startAnew, removed, latestFlagged, replayed}
-use Rattle.rules.specs.Steps.{refusingBoth, openHouse, stepOpen, letOut, mayGo, release, crashed, noted, lowestCondemned, rolledBack, hear}
+use Rattle.rules.specs.Shared.{placeRecord, logged, loggedTo, checkpointed, forced, capped, causing, causedIn, causesIn, causes, offeredAgain, newVector, placed, entered, restarted, heldOrDropped, dropHeld, startAnew, removed, latestFlagged, replayed}
+use Rattle.rules.specs.Steps.{refusing, refusingBoth, openHouse, stepOpen, stepGap, letOut, mayGo, release, intervalAdded, intervalBegins, deliver, crashed, noted, lowestCondemned, rolledBack, hear}
 use Rattle.rules.specs.Report.{report}
 use Rattle.rules.specs.Starred.{Row, _is_, no, yes, truth, answer}
-use Rattle.rules.specs.declared.Answer.the-variants.{Released, Held, Rolled, Refused}
+use Rattle.rules.specs.declared.Answer.the-variants.{Done, Released, Held, Rolled, Refused}
 
 -- message 1, in record 0, is from controller 0, of degree 0, and has the pair (0,2) of controller 1, which controller 0 knows to be stable
 abbrev since-logged : State
@@ -72,6 +72,18 @@ published-taken = put (put one-taken (Receiver 0) desk) (MessageState 0) statePu
 abbrev one-orphan : State
 one-orphan = put (put (put (put (put (put blank (LiveCount 0) 4) (Flag 0 0) 1) (Flag 0 1) 1) (Flag 0 3) 1) (PairNumber 0 3 1) 2) (End 1 1 0) 1
 
+-- controller 0 has three live intervals, of which two are stable and the first is a checkpoint; the gap is q
+abbrev with-gap : ℕ → State
+with-gap q = put (put (put (put blank (LiveCount 0) 3) (StableCount 0) 2) (Flag 0 0) 1) Gap q
+
+-- the head of a house of one controller, with x in word k
+abbrev in-head : ℕ → ℕ → State
+in-head k x = put (put blank Size 1) (OfHead k) x
+
+-- what stands of its place p: the flag, and then the stable count and the number that it knows to be stable of its incarnation i
+abbrev stands : State → ℕ → ℕ → List ℕ
+stands σ p i = σ (Flag 0 p) ∷ σ (StableCount 0) ∷ σ (Known 0 0 i) ∷ []
+
 abbrev told-apart : List Row
 told-apart =
     -- "Counting stored pairs at release instead of filtered ones": it would be held.
@@ -112,8 +124,31 @@ told-apart =
     ∷ (answer (hear (put one-orphan (Flag 0 1) 0) 0 1 0 .answer) is answer (Rolled 0 3 1 2))
     -- W3: a condemned place passed over: the second interval rests on lost work, too.
     ∷ (answer (hear (put one-orphan (PairNumber 0 1 1) 2) 0 1 0 .answer) is answer (Rolled 0 1 3 0))
+    -- W4: message 1, in record 0, begins number 4, three above the checkpoint. With a gap of 3 it is flagged, and all is logged: "Q or
+    -- more" and not more than Q, not flagged without logging, and the new one logged too.
+    ∷ (stands (deliver house (with-gap 3) 1 0 .left) 3 0 is (1 ∷ 4 ∷ 4 ∷ []))
+    -- W4: one number less than the gap is not forced, and 0 is off.
+    ∷ (stands (deliver house (with-gap 4) 1 0 .left) 3 0 is (0 ∷ 2 ∷ 0 ∷ []))
+    ∷ (stands (deliver house (with-gap 0) 1 0 .left) 3 0 is (0 ∷ 2 ∷ 0 ∷ []))
+    -- W4: a checkpoint counts though it isn't stable: the third interval's.
+    ∷ (stands (deliver house (put (with-gap 3) (Flag 0 2) 1) 1 0 .left) 3 0 is (0 ∷ 2 ∷ 0 ∷ []))
+    -- W4: a start that is not counted: after a crash, and after a rollback, number 3 is two above the checkpoint.
+    ∷ (stands (crashed (with-gap 2) 0) 2 1 is (1 ∷ 3 ∷ 3 ∷ []))
+    ∷ (stands (rolledBack (with-gap 2) 0 2) 2 1 is (1 ∷ 3 ∷ 3 ∷ []))
+    ∷ (stands (crashed (with-gap 3) 0) 2 1 is (0 ∷ 3 ∷ 3 ∷ []))
+    -- W4: a gap of 65 taken, or one of 64 refused; an old gap left by a step that sets 0, or by an opening.
+    ∷ (answer (stepGap blank (lastGap + 1) .answer) is answer (Refused DEGREE))
+    ∷ (answer (stepGap blank lastGap .answer) is answer Done)
+    ∷ ((stepGap blank lastGap .left Gap ∷ []) is (64 ∷ []))
+    ∷ ((stepGap (with-gap 2) 0 .left Gap ∷ []) is (0 ∷ []))
+    ∷ ((stepOpen house (with-gap 2) used-before 1 0 .left Gap ∷ []) is (0 ∷ []))
+    -- W4: a gap of 65 in form, or one of 64 not; a word beside it, 10 or 12, that may be anything.
+    ∷ (truth (headOk house (in-head 11 64)) is yes)
+    ∷ (truth (headOk house (in-head 11 65)) is no)
+    ∷ (truth (headOk house (in-head 10 1)) is no)
+    ∷ (truth (headOk house (in-head 12 1)) is no)
     ∷ []
 
 pub told-apart-hold : map (λ (x : Row). x .given) told-apart ≡ map (λ (x : Row). x .said) told-apart
-unfolding put same putPart clearPlaces putStates tab anyb numberOf used messageOf placeVector messageVector flat knownStable filterPair filtered condemnedPair condemned maskTo mask placeRecord logged loggedTo causing causedIn causesIn causes offeredAgain newVector placed entered restarted heldOrDropped dropHeld startAnew removed latestFlagged replayed stateOk appended blankLedger splice firstOf refusingBoth openHouse stepOpen letOut mayGo release crashed noted lowestCondemned rolledBack hear report first onesIn ones
+unfolding put same putPart clearPlaces putStates tab allb anyb numberOf used messageOf placeVector messageVector flat knownStable filterPair filtered condemnedPair condemned maskTo mask conflictPair conflict mergePair merged placeRecord logged loggedTo checkpointed forced capped causing causedIn causesIn causes offeredAgain newVector placed entered restarted heldOrDropped dropHeld startAnew removed latestFlagged replayed stateOk zeros headZeros headOk appended blankLedger splice allOf firstOf refusing refusingBoth openHouse stepOpen stepGap letOut mayGo release intervalAdded intervalBegins deliver crashed noted lowestCondemned rolledBack hear report first onesIn ones
 told-apart-hold = refl

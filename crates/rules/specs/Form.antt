@@ -5,10 +5,10 @@ use Prim.Native.Nat.{ℕ, _+_, _-_}
 use Rattle.base.specs.Choice.{_==_, _≤?_, _<?_}
 use Rattle.base.specs.Ranges.{allb}
 use Rattle.base.specs.Cases.{allOf}
-use Rattle.table.specs.Field.{State, OfHead, OfController, Known, End, OfPlace, OfMessage, Size, Degree, Incarnation, LiveCount, StableCount, PlaceIncarnation, PlaceNumber, Cause, Flag, MessageState, Sender, Receiver, SendingIncarnation, SendingNumber, desk, spareFrom}
+use Rattle.table.specs.Field.{State, OfHead, OfController, Known, End, OfPlace, OfMessage, Size, Degree, Incarnation, LiveCount, StableCount, PlaceIncarnation, PlaceNumber, Cause, Flag, MessageState, Sender, Receiver, SendingIncarnation, SendingNumber, Gap, word, desk, spareFrom, spareAgain}
 use Rattle.table.specs.Layout.{controllers, incarnations, headWords, controllerWords, placeWords, messageWords}
 use Rattle.table.specs.Numbering.{numberOf, used, lastGiven}
-use Rattle.rules.specs.Limits.{Limits, lastIncarnation}
+use Rattle.rules.specs.Limits.{Limits, lastIncarnation, lastGap}
 use Rattle.rules.specs.Vector.{Pair, Vector, incarnation, number, pairOf, placeVector, messageVector}
 
 -- "States: 0 unused, 1 held, 2 released, 3 delivered, 4 lost, 5 dropped." W1: "State 4 isn't given any more; a table that has it
@@ -110,15 +110,29 @@ module _ (L : Limits) (n : ℕ) where
       ∷ []))
       (zeros messageWords (λ (k : ℕ). σ (OfMessage r k)))
 
--- "n (1 to 8); word 1: messages sent (0 to 128); words 2 to 15 are 0", and all the rest
+-- the words of the head from one on and below another are 0
+unfoldable pub headZeros : State → ℕ → ℕ → Bool
+headZeros σ from to = zeros (to - from) (λ (k : ℕ). σ (OfHead (from + k)))
+
+-- "n (1 to 8); word 1: messages sent (0 to 128); words 2 to 15 are 0", but for W4's gap, "kept in word 11 of the table, in form up
+-- to 64"
+unfoldable pub headOk : Limits → State → Bool
+headOk L σ =
+    allOf
+    ((1 ≤? σ Size)
+    ∷ (σ Size ≤? controllers)
+    ∷ (used σ ≤? L .messages)
+    ∷ headZeros σ spareFrom (word Gap)
+    ∷ (σ Gap ≤? lastGap)
+    ∷ headZeros σ spareAgain headWords
+    ∷ [])
+
+-- "every word is in its range"
 unfoldable pub inForm : Limits → State → Bool
 inForm L σ =
     let n = σ Size in
     allOf
-    ((1 ≤? n)
-    ∷ (n ≤? controllers)
-    ∷ (used σ ≤? L .messages)
-    ∷ zeros (headWords - spareFrom) (λ (k : ℕ). σ (OfHead (spareFrom + k)))
+    (headOk L σ
     ∷ allb controllers (controllerOk L n σ)
     ∷ allb controllers (λ (holder : ℕ). allb controllers (rowOk L n σ holder))
     ∷ allb controllers (λ (c : ℕ). allb (L .places) (placeOk L n σ c))

@@ -17,6 +17,10 @@ lastIncarnation = 15
 abbrev pub lastNumber : ℕ
 lastNumber = 64
 
+-- W4: "a house-wide gap Q, 0 to 64"
+abbrev pub lastGap : ℕ
+lastGap = 64
+
 -- W2: "the ledger has 257 words: a count, then 128 pairs"
 abbrev pub lastEntry : ℕ
 lastEntry = 128

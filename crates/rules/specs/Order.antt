@@ -10,7 +10,7 @@ use Rattle.base.specs.Cases.{Case}
 use Rattle.table.specs.Field.{State}
 use Rattle.rules.specs.Limits.{Limits}
 use Rattle.rules.specs.Refusal.{LENGTH, FORM, LEDGER, CONTROLLER, MESSAGE, DEGREE, SAME-CONTROLLER, STATE, LOG-COUNT, NO-SUCH-CRASH, ALREADY-HEARD, MESSAGES-USED-UP, PLACES-USED-UP, INCARNATIONS-USED-UP, LEDGER-USED-UP}
-use Rattle.rules.specs.Steps.{openRefusals, degreeRefusals, sendRefusals, messageRefusals, releaseRefusals, logRefusals, checkpointRefusals, tellRefusals, crashRefusals, hearRefusals}
+use Rattle.rules.specs.Steps.{openRefusals, degreeRefusals, sendRefusals, messageRefusals, releaseRefusals, logRefusals, checkpointRefusals, tellRefusals, crashRefusals, hearRefusals, gapRefusals}
 
 -- Their order: that of their numbers, but for the ledger's. W2: 14 "stands directly after 2, at release and, for the length only,
 -- directly after 1 at opening"; 18 "stands last at release".
@@ -58,6 +58,7 @@ pub in-order : (L : Limits) (σ : State) (g : List ℕ) (a b c : ℕ) →
     ∷ tellRefusals σ a b
     ∷ crashRefusals L σ a
     ∷ hearRefusals σ a b c
+    ∷ gapRefusals a
     ∷ [])
     ≡ true
 unfolding first

@@ -23,7 +23,7 @@ CONTROLLER = 3
 abbrev pub MESSAGE : ℕ
 MESSAGE = 4
 
--- "5 n not 1 to 8, or a degree above n"
+-- "5 n not 1 to 8, or a degree above n"; W4: "A Q above 64 is refused with 5"
 abbrev pub DEGREE : ℕ
 DEGREE = 5
 

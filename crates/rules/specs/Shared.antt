@@ -1,11 +1,12 @@
--- Document 01, "Rules used by several steps", but for those on vectors, which stand in Vector.antt.
+-- Document 01, "Rules used by several steps", but for those on vectors, which stand in Vector.antt; and W4's, which is applied
+-- wherever an interval begins.
 use mathlib.Core.Bool.{Bool, not, cond, _&&_}
 use mathlib.Core.List.{List, [], _∷_, _++_}
 use Prim.Native.Nat.{ℕ, zero, suc, _+_, _-_}
 use lib.ListN.{set}
-use Rattle.base.specs.Choice.{_==_, _<?_}
+use Rattle.base.specs.Choice.{_==_, _≤?_, _<?_}
 use Rattle.base.specs.Ranges.{anyb}
-use Rattle.table.specs.Field.{State, OfPlace, Known, Incarnation, LiveCount, StableCount, Cause, Flag, MessageState, Sender, SendingNumber}
+use Rattle.table.specs.Field.{State, OfPlace, Known, Gap, Incarnation, LiveCount, StableCount, Cause, Flag, MessageState, Sender, SendingNumber}
 use Rattle.table.specs.Change.{put, putPart, clearPlaces, putStates}
 use Rattle.table.specs.Numbering.{numberOf, used, messageOf}
 use Rattle.rules.specs.Vector.{Vector, pair, placeVector, messageVector, flat, filtered, condemned}
@@ -27,6 +28,28 @@ logged σ c k = put (put σ (StableCount c) k) (Known c c (σ (Incarnation c))) 
 -- the same "if any" of them are not yet stable
 unfoldable pub loggedTo : State → ℕ → ℕ → State
 loggedTo σ c k = cond (σ (StableCount c) <? k) (logged σ c k) σ
+
+-- C c: "log all not yet stable, if any, as by L; flag the newest place."
+unfoldable pub checkpointed : State → ℕ → State
+checkpointed σ c = put (loggedTo σ c (σ (LiveCount c))) (Flag c (newestPlace σ c)) 1
+
+-- "Replayed = k minus the highest flagged number on the chain that is at most k": of the first k places
+unfoldable pub latestFlagged : State → ℕ → ℕ → ℕ
+latestFlagged σ c zero = 0
+latestFlagged σ c (suc p) = cond (σ (Flag c p) == 1) (numberOf σ c (p + 1)) (latestFlagged σ c p)
+
+unfoldable pub replayed : State → ℕ → ℕ → ℕ
+replayed σ c k = numberOf σ c k - latestFlagged σ c k
+
+-- W4: "When a new interval of any cause would stand Q or more numbers above the latest flagged one on its chain": whether the one
+-- that has just begun at c, the newest, with flag 0, does. (How many numbers that are is what would be replayed up to it.) "0 means
+-- off".
+unfoldable pub forced : State → ℕ → Bool
+forced σ c = not (σ Gap == 0) && (σ Gap ≤? replayed σ c (σ (LiveCount c)))
+
+-- "it is checkpointed as it begins, which logs all before it", and itself
+unfoldable pub capped : State → ℕ → State
+capped σ c = cond (forced σ c) (checkpointed σ c) σ
 
 -- a message that can be a cause: it stands in record r; W2: "A message for receiver 8 .. is never changed as a cause"
 unfoldable pub causing : State → ℕ → Bool
@@ -81,17 +104,10 @@ heldOrDropped σ c x r = cond (orphaned σ c x r) stateDropped (σ (MessageState
 unfoldable pub dropHeld : State → ℕ → ℕ → State
 dropHeld σ c k = putStates σ (heldOrDropped σ c (numberOf σ c k))
 
+-- W4: the start is an interval that begins
 unfoldable pub startAnew : State → ℕ → ℕ → State
-startAnew σ c k = dropHeld (restarted σ c k) c k
+startAnew σ c k = dropHeld (capped (restarted σ c k) c) c k
 
 -- The intervals of c from place k on are removed, lost by X or undone by H: their causes get their states; "then start anew".
 unfoldable pub removed : State → ℕ → ℕ → State
 removed σ c k = startAnew (causes σ c k) c k
-
--- "Replayed = k minus the highest flagged number on the chain that is at most k": of the first k places
-unfoldable pub latestFlagged : State → ℕ → ℕ → ℕ
-latestFlagged σ c zero = 0
-latestFlagged σ c (suc p) = cond (σ (Flag c p) == 1) (numberOf σ c (p + 1)) (latestFlagged σ c p)
-
-unfoldable pub replayed : State → ℕ → ℕ → ℕ
-replayed σ c k = numberOf σ c k - latestFlagged σ c k

@@ -11,7 +11,7 @@ use Rattle.table.specs.Change.{blank, put, putPart}
 use Rattle.table.specs.Numbering.{numberOf}
 use Rattle.rules.specs.Limits.{house}
 use Rattle.rules.specs.Vector.{pair, noPair, pairOf, placeVector, messageVector, flat, knownStable, filterPair, filtered, condemnedPair, condemned, maskTo, mask, conflictPair, conflict, mergePair, merged}
-use Rattle.rules.specs.Shared.{placeRecord, latestFlagged, replayed}
+use Rattle.rules.specs.Shared.{placeRecord, latestFlagged, replayed, forced, capped}
 use Rattle.rules.specs.Steps.{letOut, mayGo, release, intervalAdded, intervalBegins, deliver}
 use Rattle.rules.specs.Report.{report}
 use Rattle.rules.specs.declared.Answer.{Answer}
@@ -88,5 +88,5 @@ starred =
     ∷ []
 
 pub starred-hold : map (λ (x : Row). x .given) starred ≡ map (λ (x : Row). x .said) starred
-unfolding put same putPart tab anyb numberOf placeVector messageVector flat knownStable filterPair filtered condemnedPair condemned maskTo mask conflictPair conflict mergePair merged placeRecord latestFlagged replayed letOut mayGo release intervalAdded intervalBegins deliver report onesIn ones
+unfolding put same putPart tab anyb numberOf placeVector messageVector flat knownStable filterPair filtered condemnedPair condemned maskTo mask conflictPair conflict mergePair merged placeRecord latestFlagged replayed forced capped letOut mayGo release intervalAdded intervalBegins deliver report onesIn ones
 starred-hold = refl

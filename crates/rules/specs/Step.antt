@@ -10,11 +10,11 @@ use Rattle.table.specs.Words.{state, words}
 use Rattle.rules.specs.Limits.{Limits, house}
 use Rattle.rules.specs.Refusal.{LENGTH, FORM}
 use Rattle.rules.specs.Form.{inForm}
-use Rattle.rules.specs.Steps.{After, refuse, AfterBoth, beside, stepOpen, stepDegree, stepSend, stepRelease, stepDeliver, stepLog, stepCheckpoint, stepTell, stepCrash, stepHear}
+use Rattle.rules.specs.Steps.{After, refuse, AfterBoth, beside, stepOpen, stepDegree, stepSend, stepRelease, stepDeliver, stepLog, stepCheckpoint, stepTell, stepCrash, stepHear, stepGap}
 use Rattle.rules.specs.declared.Answer.{Answer}
 use Rattle.rules.specs.declared.Answer.the-variants.{Refused}
 use Rattle.rules.specs.declared.Command.{Command}
-use Rattle.rules.specs.declared.Command.the-variants.{Open, SetDegree, Send, Release, Deliver, Log, Checkpoint, Tell, Crash, Hear}
+use Rattle.rules.specs.declared.Command.the-variants.{Open, SetDegree, Send, Release, Deliver, Log, Checkpoint, Tell, Crash, Hear, SetGap}
 
 -- a step after the host's refusals of the table; only O and R look at the ledger
 unfoldable pub perform : Limits → State → List ℕ → Command → AfterBoth
@@ -28,6 +28,7 @@ perform L σ g (Checkpoint c) = beside (stepCheckpoint σ c) g
 perform L σ g (Tell owner holder) = beside (stepTell σ owner holder) g
 perform L σ g (Crash c) = beside (stepCrash L σ c) g
 perform L σ g (Hear hearer owner i) = beside (stepHear σ hearer owner i) g
+perform L σ g (SetGap q) = beside (stepGap σ q) g
 
 -- "2 table not in form (not looked at by open)"
 abbrev pub looksAtForm : Command → Bool
@@ -41,6 +42,7 @@ looksAtForm (Checkpoint c) = true
 looksAtForm (Tell owner holder) = true
 looksAtForm (Crash c) = true
 looksAtForm (Hear hearer owner i) = true
+looksAtForm (SetGap q) = true
 
 unfoldable pub stepOn : Limits → State → List ℕ → Command → AfterBoth
 stepOn L σ g x = cond (looksAtForm x && not (inForm L σ)) (beside (refuse FORM σ) g) (perform L σ g x)

@@ -1,5 +1,5 @@
--- The ten steps of document 01 on a state, each with its own refusals; O and R also look at the ledger (W2). The host's
--- refusals of the table, LENGTH and FORM, stand in Step.antt. Each letter's refusals in their order, which is that of their
+-- The ten steps of document 01 on a state, and W4's, which has no letter, each with its own refusals; O and R also look at the ledger
+-- (W2). The host's refusals of the table, LENGTH and FORM, stand in Step.antt. Each step's refusals in their order, which is that of their
 -- numbers but for those of the ledger (Refusal.antt; the test is in Order.antt):
 --
 --   O   LENGTH        LEDGER (its length) DEGREE
@@ -12,6 +12,7 @@
 --   T   LENGTH FORM   CONTROLLER SAME-CONTROLLER
 --   X   LENGTH FORM   CONTROLLER PLACES-USED-UP INCARNATIONS-USED-UP
 --   H   LENGTH FORM   CONTROLLER NO-SUCH-CRASH ALREADY-HEARD, and, where it must undo, INCARNATIONS-USED-UP
+--   Q   LENGTH FORM   DEGREE (the gap, which no letter sets)
 use mathlib.Core.Bool.{Bool, not, cond, _&&_, _||_}
 use mathlib.Core.List.{List, [], _∷_, _++_}
 use Prim.Native.Nat.{ℕ, _+_, _-_, max}
@@ -21,16 +22,16 @@ use Rattle.base.specs.Choice.{_==_, _≤?_, _<?_}
 use Rattle.base.specs.Ranges.{first}
 use Rattle.base.specs.Lists.{tab}
 use Rattle.base.specs.Cases.{Case, _⇒_, firstOf}
-use Rattle.table.specs.Field.{State, OfHead, OfController, Known, End, OfPlace, OfMessage, Size, Degree, Incarnation, LiveCount, StableCount, PlaceIncarnation, PlaceNumber, Flag, MessageState, Sender, Receiver, desk, word, messageHead}
+use Rattle.table.specs.Field.{State, OfHead, OfController, Known, End, OfPlace, OfMessage, Size, Gap, Degree, Incarnation, LiveCount, StableCount, PlaceIncarnation, PlaceNumber, MessageState, Sender, Receiver, desk, word, messageHead}
 use Rattle.table.specs.Change.{put, putPart}
 use Rattle.table.specs.Layout.{controllers, incarnations}
 use Rattle.table.specs.Numbering.{numberOf, used, nextMessage, recordOf, posted}
-use Rattle.rules.specs.Limits.{Limits, lastIncarnation}
+use Rattle.rules.specs.Limits.{Limits, lastIncarnation, lastGap}
 use Rattle.rules.specs.Refusal.{LEDGER, CONTROLLER, MESSAGE, DEGREE, SAME-CONTROLLER, STATE, LOG-COUNT, NO-SUCH-CRASH, ALREADY-HEARD, MESSAGES-USED-UP, PLACES-USED-UP, INCARNATIONS-USED-UP, LEDGER-USED-UP}
 use Rattle.rules.specs.Vector.{Vector, pair, noPair, placeVector, messageVector, flat, filtered, condemned, mask, conflict, merged}
 use Rattle.rules.specs.Form.{stateHeld, stateReleased, stateDelivered, stateDropped, statePublished, forDesk}
 use Rattle.rules.specs.Ledger.{ledgerWords, countOf, entryOf, ledgerOk, appended, blankLedger}
-use Rattle.rules.specs.Shared.{newestPlace, placeRecord, logged, loggedTo, removed, replayed}
+use Rattle.rules.specs.Shared.{newestPlace, placeRecord, logged, loggedTo, checkpointed, replayed, capped, removed}
 use Rattle.rules.specs.declared.Answer.{Answer}
 use Rattle.rules.specs.declared.Answer.the-variants.{Done, Sent, Released, Held, Delivered, Dropped, Waits, Crashed, Heard, Rolled, Refused}
 
@@ -182,9 +183,10 @@ intervalAdded σ c m r v =
     let added = putPart σ (OfPlace c live 0) 0 (placeRecord i x m 0 (set v c (pair i x))) in
     put (put added (LiveCount c) (live + 1)) (MessageState r) stateDelivered
 
--- its answer with what it leaves
+-- its answer with what it leaves; W4: it may be checkpointed as it begins
 unfoldable pub intervalBegins : State → ℕ → ℕ → ℕ → Vector → After
-intervalBegins σ c m r v = after (Delivered m (σ (Incarnation c)) (numberOf σ c (σ (LiveCount c) + 1))) (intervalAdded σ c m r v)
+intervalBegins σ c m r v =
+    after (Delivered m (σ (Incarnation c)) (numberOf σ c (σ (LiveCount c) + 1))) (capped (intervalAdded σ c m r v) c)
 
 -- D m, in record r: "deliver at its receiver c. Condemned to c: dropped. Else filter both c's newest vector and the message's
 -- for c; if an owner other than c has non-empty pairs of different incarnations in the two, it waits and no word changes. Else
@@ -211,10 +213,7 @@ logRefusals σ c q = (noController σ c ⇒ CONTROLLER) ∷ (((q == 0) || (σ (L
 unfoldable pub stepLog : State → ℕ → ℕ → After
 stepLog σ c q = refusing (logRefusals σ c q) σ (after Done (logged σ c (σ (StableCount c) + q)))
 
--- C c: "log all not yet stable, if any, as by L; flag the newest place."
-unfoldable pub checkpointed : State → ℕ → State
-checkpointed σ c = put (loggedTo σ c (σ (LiveCount c))) (Flag c (newestPlace σ c)) 1
-
+-- C c: its rule stands in Shared.antt, since W4's new intervals follow it too
 abbrev pub checkpointRefusals : State → ℕ → List Case
 checkpointRefusals σ c = (noController σ c ⇒ CONTROLLER) ∷ []
 
@@ -294,3 +293,10 @@ hearRefusals σ hearer owner i =
 
 unfoldable pub stepHear : State → ℕ → ℕ → ℕ → After
 stepHear σ hearer owner i = refusing (hearRefusals σ hearer owner i) σ (hear σ hearer owner i)
+
+-- W4: "A new step sets a house-wide gap Q .. kept in word 11 of the table"; "A Q above 64 is refused with 5"; "The step answers as K does."
+abbrev pub gapRefusals : ℕ → List Case
+gapRefusals q = ((lastGap <? q) ⇒ DEGREE) ∷ []
+
+unfoldable pub stepGap : State → ℕ → After
+stepGap σ q = refusing (gapRefusals q) σ (after Done (put σ Gap q))

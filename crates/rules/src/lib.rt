@@ -1,7 +1,7 @@
 // What is asked of a house and what it answers. The rules themselves are definitions, in specs/.
 pub mod refusal;
 
-// A step, by its letter in document 01.
+// A step, by its letter in document 01; W4 names none for its own.
 pub enum Command {
     // O n k
     Open(u32, u32),
@@ -23,6 +23,8 @@ pub enum Command {
     Crash(u32),
     // H b a t: hearer, owner of the crash, incarnation
     Hear(u32, u32, u32),
+    // the gap Q between checkpoints
+    SetGap(u32),
 }
 
 // The answer to a step. specs/Report.antt gives each its word, number and values.

@@ -23,16 +23,23 @@ pub data Field : Type 0 where
 abbrev pub State : Type 0
 State = Field → ℕ
 
--- "From 0: n; word 1: messages sent; words 2 to 15 are 0."
+-- "From 0: n; word 1: messages sent; words 2 to 15 are 0", but for the gap, below
 abbrev pub Size : Field
 Size = OfHead 0
 
 abbrev pub SentCount : Field
 SentCount = OfHead 1
 
--- the first word of the head that has no meaning yet
+-- W4: the gap Q, "kept in word 11 of the table"
+abbrev pub Gap : Field
+Gap = OfHead 11
+
+-- the first word of the head that has no meaning yet, and the first after the gap
 abbrev pub spareFrom : ℕ
 spareFrom = 2
+
+abbrev pub spareAgain : ℕ
+spareAgain = 12
 
 -- "Per controller 4 words: K, incarnation, live count, stable count."
 abbrev pub Degree : ℕ → Field

@@ -1,7 +1,7 @@
 -- The ways between a place or a record and its number. Every number that a rule makes from a place, a count or a record is
 -- made here, and so is the way back. Rules, code and theorem use the laws below and not the text of these definitions.
 use mathlib.Core.Path.{_≡_, refl, sym, ap, _∙_, subst}
-use mathlib.Core.Bool.{Bool, true, false, cond, _&&_, true≢false}
+use mathlib.Core.Bool.{Bool, true, false, not, cond, _&&_, true≢false}
 use mathlib.Core.List.{List}
 use mathlib.Core.Logic.{_≢_}
 use Prim.Native.Nat.{ℕ, _+_, _-_, _≤_, _<_}
@@ -9,7 +9,7 @@ use native.Mathlib.Omega.{arith}
 use lib.ListN.{length, getD}
 use borrow.Author.Tests.{leb-true, le-leb, lt-ltb, le-ltb}
 use Rattle.base.specs.Choice.{_==_, _≤?_, _<?_, and-left, and-right, cond-ind, le?}
-use Rattle.table.specs.Field.{Field, State, OfHead, OfController, Known, End, OfPlace, OfMessage, Size, SentCount, region, word, wordOf, alike, alike-word, same, messageHead, spareFrom}
+use Rattle.table.specs.Field.{Field, State, OfHead, OfController, Known, End, OfPlace, OfMessage, Size, SentCount, Gap, region, word, wordOf, alike, alike-word, same, messageHead, spareFrom}
 use Rattle.table.specs.Change.{put, put-ind, put-same, putPart, part-ind, putStates, states-ind}
 use Rattle.table.specs.Layout.{controllers, messages, headWords}
 use Rattle.table.specs.Words.{state, words, Agree, agree-value, agree-part-to, then-put}
@@ -107,8 +107,8 @@ pub place-from : (σ τ : State) (c x : ℕ) → numberOf σ c 1 ≡ numberOf τ
 unfolding placeOf
 place-from σ τ c x e = ap (λ n. x - n) e
 
--- in a house whose head has 0 in its spare words, numbers are counts
-pub number-fresh : (σ : State) (c k : ℕ) → ((k : ℕ) → spareFrom ≤ k → σ (OfHead k) ≡ 0) → numberOf σ c k ≡ k
+-- in a house whose head has 0 in its spare words before the gap, numbers are counts
+pub number-fresh : (σ : State) (c k : ℕ) → ((k : ℕ) → spareFrom ≤ k → k < word Gap → σ (OfHead k) ≡ 0) → numberOf σ c k ≡ k
 unfolding numberOf
 number-fresh σ c k h = refl
 
@@ -240,15 +240,19 @@ module _ (σ : State) (w : List ℕ) where
       absurd (omega (arith, given-present σ m (present-pos (posted σ w) m here) (omega (arith, present-given (posted σ w) m here)))))
       (λ l. omega arith)
 
-  -- the number of controllers
+  -- the number of controllers, and the gap
   pub posted-size : posted σ w Size ≡ σ Size
   unfolding posted put same putPart
   posted-size = refl
 
+  pub posted-gap : posted σ w Gap ≡ σ Gap
+  unfolding posted put same putPart
+  posted-gap = refl
+
 -- UNTOUCHED BY OTHER WORDS
--- the words that numbering looks at
+-- the words that numbering looks at: all of the head but the gap
 abbrev pub numbering : Field → Bool
-numbering (OfHead i) = true
+numbering (OfHead i) = not (i == word Gap)
 numbering (OfController c k) = false
 numbering (Known holder owner i) = false
 numbering (End holder owner i) = false

@@ -4,7 +4,7 @@
 ghost use mathlib.Core.Path.{_≡_};
 ghost use Prim.Native.Nat.{_≤_, _<_};
 ghost use lib.ListN.{length};
-ghost use Rattle.table.specs.Field.{OfController, OfPlace, OfMessage, Known, End, Size, SentCount, Degree, Incarnation, LiveCount, StableCount, PlaceIncarnation, PlaceNumber, Cause, Flag, MessageState, Sender, Receiver, SendingIncarnation, SendingNumber, Payload, placeHead, messageHead};
+ghost use Rattle.table.specs.Field.{OfController, OfPlace, OfMessage, Known, End, Size, SentCount, Gap, Degree, Incarnation, LiveCount, StableCount, PlaceIncarnation, PlaceNumber, Cause, Flag, MessageState, Sender, Receiver, SendingIncarnation, SendingNumber, Payload, placeHead, messageHead};
 ghost use Rattle.table.specs.Change.{put};
 ghost use Rattle.table.specs.Layout.{controllers, incarnations, places, messages, tableWords, position};
 ghost use Rattle.table.specs.Words.{state, words};
@@ -56,6 +56,9 @@ pub const LAST_INCARNATION: u32 = 15;
 
 pub const LAST_NUMBER: u32 = 64;
 
+// The largest gap between checkpoints that can be set.
+pub const LAST_GAP: u32 = 64;
+
 // The receiver that is no controller: the desk.
 pub const DESK: u32 = 8;
 
@@ -76,6 +79,10 @@ pub const SIZE: usize = 0;
 pub const SENT_COUNT: usize = 1;
 
 pub const SPARE: usize = 2;
+
+pub const GAP: usize = 11;
+
+pub const SPARE_AGAIN: usize = 12;
 
 // The words of a controller's record, and where those of controller c stand, at + c * CONTROLLER_WORDS.
 pub const DEGREE_WORD: usize = 0;
@@ -160,6 +167,21 @@ pub fn set_sent_count(t: &mut [u32], x: u32)
     ensures { λ _. ⌜ now (t .exit) ≡ words (put (state (now (t .entry))) SentCount x) ⌝ }
 {
     t[SENT_COUNT] = x;
+}
+
+// The gap between checkpoints, 0 where there is no ceiling on replay.
+pub fn gap(t: &[u32]) -> u32
+    requires { ⌜ length (now t) ≡ tableWords ⌝ }
+    ensures { λ x. ⌜ x ≡ state (now (t .entry)) Gap ⌝ }
+{
+    t[GAP]
+}
+
+pub fn set_gap(t: &mut [u32], x: u32)
+    requires { ⌜ length (now t) ≡ tableWords ⌝ }
+    ensures { λ _. ⌜ now (t .exit) ≡ words (put (state (now (t .entry))) Gap x) ⌝ }
+{
+    t[GAP] = x;
 }
 
 // A controller's own words.

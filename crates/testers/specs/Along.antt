@@ -36,11 +36,11 @@ lineAt l j = getD l j (line (Open 0 0) Done)
 abbrev pub Answered : Run → List ListingLine → Type 0
 Answered r l = answersFrom (r .table) (r .ledger) (calls (asked l)) ≡ answered l
 
-head-answered : (r : Run) (x : ListingLine) (l : List ListingLine) → Answered r (x ∷ l) → stepIn r (x .asked) .answer ≡ x .answered
+pub head-answered : (r : Run) (x : ListingLine) (l : List ListingLine) → Answered r (x ∷ l) → stepIn r (x .asked) .answer ≡ x .answered
 unfolding answersFrom stepCall
 head-answered r x l h = ap (λ ys. getD ys 0 Done) h
 
-tail-answered : (r : Run) (x : ListingLine) (l : List ListingLine) → Answered r (x ∷ l) → Answered (next (asks (x .asked)) r) l
+pub tail-answered : (r : Run) (x : ListingLine) (l : List ListingLine) → Answered r (x ∷ l) → Answered (next (asks (x .asked)) r) l
 unfolding answersFrom next
 tail-answered r x l h = ap (drop 1) h
 

@@ -9,15 +9,15 @@ use borrow.Author.Tests.{eqb-true, eq-eqb, lt-ltb, le-ltb, le-leb, lt-leb, not-f
 use Rattle.base.specs.Choice.{_==_, _≤?_, _<?_, and-left, and-right, cond-ind}
 use Rattle.base.specs.Ranges.{allb, allb-get, allb-all}
 use Rattle.base.specs.Cases.{allOf, passed, firstOf}
-use Rattle.table.specs.Field.{State, OfHead, OfController, Known, OfPlace, Size, Incarnation, LiveCount, StableCount, PlaceIncarnation, PlaceNumber, Cause, Flag, PairIncarnation, PairNumber, word, owner, second, same, spareFrom, placeHead}
+use Rattle.table.specs.Field.{State, OfHead, OfController, Known, OfPlace, Size, Incarnation, LiveCount, StableCount, PlaceIncarnation, PlaceNumber, Cause, Flag, PairIncarnation, PairNumber, word, owner, second, same, placeHead}
 use Rattle.table.specs.Change.{put, put-ind, put-same, put-other}
-use Rattle.table.specs.Layout.{controllers, incarnations, places, messages, headWords}
+use Rattle.table.specs.Layout.{controllers, incarnations, places, messages}
 use Rattle.table.specs.Words.{Agree, put-again}
 use Rattle.table.specs.Numbering.{numberOf, Numbered, numbers-put}
 use Rattle.rules.specs.Limits.{house, lastIncarnation, lastNumber}
 use Rattle.rules.specs.Form.{controllerOk, highest, rowOk, placeOk, messageOk, inForm, vectorOk}
-use Rattle.rules.specs.Shared.{newestPlace, logged, loggedTo}
-use Rattle.rules.specs.Steps.{After, refusing, AfterBoth, beside, checkpointed, checkpointRefusals, stepCheckpoint}
+use Rattle.rules.specs.Shared.{newestPlace, logged, loggedTo, checkpointed}
+use Rattle.rules.specs.Steps.{After, refusing, AfterBoth, beside, checkpointRefusals, stepCheckpoint}
 use Rattle.rules.specs.Step.{perform, stepOn}
 use Rattle.rules.specs.declared.Command.the-variants.{Checkpoint}
 use Rattle.laws.specs.Facts.{form, below-8, controllerForm}
@@ -25,7 +25,7 @@ use Rattle.laws.specs.Allowed.{checkpointAllowed}
 use Rattle.laws.specs.Records.{placeVector-of}
 use Rattle.model.specs.Tests.{eq?}
 use Rattle.image.specs.Tests.{fresh}
-use Rattle.testers.specs.FormSame.{zeros-same, controllerOk-of, rowOk-of, placeOk-of, messageOk-of}
+use Rattle.testers.specs.FormSame.{headOk-of, controllerOk-of, rowOk-of, placeOk-of, messageOk-of}
 use Rattle.testers.specs.StepSame.{SameBoth, same-refl}
 
 -- A change ρ of σ that leaves the head and the numbers is in form where σ is, if each test that passed passes again.
@@ -37,19 +37,19 @@ module _ (σ ρ : State) (e : inForm house σ ≡ true) (head : (k : ℕ) → ρ
   unfolding inForm
   form-again each rows chains records =
       let size = head (word Size) in
-      let spare = zeros-same (headWords - spareFrom) (λ (k : ℕ). ρ (OfHead (spareFrom + k))) (λ (k : ℕ). σ (OfHead (spareFrom + k))) (λ k l. head (spareFrom + k)) in
+      let same = headOk-of ρ σ (λ k l. head k) (N .used-same) in
       let all = ap (λ n. allb controllers (controllerOk house n ρ)) size
-      ∙ allb-all _ controllers (λ c l. each c (allb-get _ controllers c (passed _ 4 e) l)) ∙ sym (passed _ 4 e) in
+      ∙ allb-all _ controllers (λ c l. each c (allb-get _ controllers c (passed _ 1 e) l)) ∙ sym (passed _ 1 e) in
       let known = ap (λ n. allb controllers (λ (holder : ℕ). allb controllers (rowOk house n ρ holder))) size
-      ∙ allb-all _ controllers (λ b bl. allb-all _ controllers (λ a al. rows b a (allb-get _ controllers a (allb-get _ controllers b (passed _ 5 e) bl) al)))
-      ∙ sym (passed _ 5 e) in
+      ∙ allb-all _ controllers (λ b bl. allb-all _ controllers (λ a al. rows b a (allb-get _ controllers a (allb-get _ controllers b (passed _ 2 e) bl) al)))
+      ∙ sym (passed _ 2 e) in
       let live = ap (λ n. allb controllers (λ (c : ℕ). allb places (placeOk house n ρ c))) size
-      ∙ allb-all _ controllers (λ c cl. allb-all _ places (λ p pl. chains c p (allb-get _ places p (allb-get _ controllers c (passed _ 6 e) cl) pl)))
-      ∙ sym (passed _ 6 e) in
+      ∙ allb-all _ controllers (λ c cl. allb-all _ places (λ p pl. chains c p (allb-get _ places p (allb-get _ controllers c (passed _ 3 e) cl) pl)))
+      ∙ sym (passed _ 3 e) in
       let sent = ap (λ n. allb messages (messageOk house n ρ)) size
-      ∙ allb-all _ messages (λ r l. records r (allb-get _ messages r (passed _ 7 e) l)) ∙ sym (passed _ 7 e) in
+      ∙ allb-all _ messages (λ r l. records r (allb-get _ messages r (passed _ 4 e) l)) ∙ sym (passed _ 4 e) in
       (λ d. allOf
-      ((1 ≤? size d) ∷ (size d ≤? controllers) ∷ (N .used-same d ≤? house .messages) ∷ spare d ∷ all d ∷ known d ∷ live d ∷ sent d ∷ []))
+      (same d ∷ all d ∷ known d ∷ live d ∷ sent d ∷ []))
       ∙ e
 
 -- The three words that a checkpoint of controller c puts, each by itself: the stable count becomes the live count,

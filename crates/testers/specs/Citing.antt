@@ -25,7 +25,7 @@ use Rattle.rules.specs.Step.{perform, looksAtForm, stepOn, OutBoth, writtenBoth
 use Rattle.rules.specs.declared.Answer.{Answer}
 use Rattle.rules.specs.declared.Answer.the-variants.{Done, Sent, Released, Refused}
 use Rattle.rules.specs.declared.Command.{Command}
-use Rattle.rules.specs.declared.Command.the-variants.{Open, SetDegree, Send, Release, Deliver, Log, Checkpoint, Tell, Crash, Hear}
+use Rattle.rules.specs.declared.Command.the-variants.{Open, SetDegree, Send, Release, Deliver, Log, Checkpoint, Tell, Crash, Hear, SetGap}
 use Rattle.history.specs.History.{changedAt, answers, valueAt}
 use Rattle.laws.specs.Records.{length-message-record}
 use Rattle.laws.specs.Allowed.{sendAllowed, releaseAllowed}
@@ -53,9 +53,9 @@ named-agree σ τ q e h =
       payload = λ m l. let r = record-agree σ τ e m room in e (Payload (recordOf σ m)) (omega arith, omega arith) ∙ ap (λ r. τ (Payload r)) r ∙ h .payload m (omega arith);
     }
 
--- the words that no step but O and S writes: the head, and what a message's record has between its state and its vector
+-- the words that no step but O and S writes: the head but for the gap, and what a message's record has between its state and its vector
 abbrev fixed : Field → Bool
-fixed (OfHead k) = true
+fixed (OfHead k) = numbering (OfHead k)
 fixed (OfController c k) = false
 fixed (Known holder owner i) = false
 fixed (End holder owner i) = false
@@ -63,7 +63,7 @@ fixed (OfPlace c p k) = false
 fixed (OfMessage r k) = (word (MessageState r) <? k) && (k <? messageHead)
 
 numbering-fixed : (f : Field) → numbering f ≡ true → fixed f ≡ true
-numbering-fixed (OfHead k) e = refl
+numbering-fixed (OfHead k) e = e
 numbering-fixed (OfController c k) e = e
 numbering-fixed (Known holder owner i) e = e
 numbering-fixed (End holder owner i) e = e
@@ -89,6 +89,7 @@ Kept σ g x = fixed g ≡ true → x ≡ σ g
 kept-writable : (σ : State) → Writable (Kept σ)
 kept-writable σ =
     record {
+      gap = λ x e. absurd (true≢false (sym e));
       controller = λ c k x e. absurd (true≢false (sym e));
       known = λ holder owner i x e. absurd (true≢false (sym e));
       end = λ holder owner i x e. absurd (true≢false (sym e));
@@ -145,6 +146,7 @@ plain (Checkpoint c) = true
 plain (Tell a b) = true
 plain (Crash c) = true
 plain (Hear b a i) = true
+plain (SetGap n) = true
 
 -- a refused step feeds nothing
 cited-refused : (x : Command) (number : ℕ) (q : Citations) → citedStep x (Refused number) q ≡ q
@@ -159,6 +161,7 @@ cited-refused (Checkpoint c) number q = refl
 cited-refused (Tell a b) number q = refl
 cited-refused (Crash c) number q = refl
 cited-refused (Hear b a i) number q = refl
+cited-refused (SetGap n) number q = refl
 
 -- receiver and payload of a record
 record-words : (st sender receiver i x payload : ℕ) (v : Vector) →
@@ -284,6 +287,7 @@ module _ (σ : State) (g : List ℕ) (q : Citations) (c : Cites σ g q) where
   goes (Tell a b) ne = goes-other (Tell a b) refl refl (λ _. refl)
   goes (Crash b) ne = goes-other (Crash b) refl refl (λ _. refl)
   goes (Hear b a i) ne = goes-other (Hear b a i) refl refl (λ _. refl)
+  goes (SetGap n) ne = goes-other (SetGap n) refl refl (λ _. refl)
 
 -- ON TABLES
 -- a run's table and ledger say what its citations say

@@ -23,7 +23,7 @@ use Rattle.rules.specs.Step.{perform, stepOn, OutBoth, writtenBoth, lent, step}
 use Rattle.rules.specs.declared.Answer.{Answer}
 use Rattle.rules.specs.declared.Answer.the-variants.{Done, Released, Held, Refused}
 use Rattle.rules.specs.declared.Command.{Command}
-use Rattle.rules.specs.declared.Command.the-variants.{Open, SetDegree, Send, Release, Deliver, Log, Checkpoint, Tell, Crash, Hear}
+use Rattle.rules.specs.declared.Command.the-variants.{Open, SetDegree, Send, Release, Deliver, Log, Checkpoint, Tell, Crash, Hear, SetGap}
 use Rattle.laws.specs.Beside.{looksAtLedger, beside-any}
 use Rattle.testers.specs.Refused.{answers-differ}
 
@@ -115,6 +115,7 @@ module _ (t g : List ℕ) where
   ledger-stays (Tell owner holder) = inl (unlooked t g (Tell owner holder) refl)
   ledger-stays (Crash c) = inl (unlooked t g (Crash c) refl)
   ledger-stays (Hear hearer owner i) = inl (unlooked t g (Hear hearer owner i) refl)
+  ledger-stays (SetGap q) = inl (unlooked t g (SetGap q) refl)
 
 -- STEPS THAT DON'T LOOK AT IT
 -- they answer the same and leave the same table beside any two ledgers

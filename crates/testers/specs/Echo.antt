@@ -7,8 +7,8 @@ use native.Mathlib.Omega.{arith}
 use lib.ListN.{length}
 use borrow.Author.Tests.{eq-eqb, ltb-true}
 use Rattle.base.specs.Choice.{_<?_}
-use Rattle.table.specs.Field.{State, MessageState, Receiver, PairNumber}
-use Rattle.table.specs.Layout.{tableWords}
+use Rattle.table.specs.Field.{State, LiveCount, MessageState, Receiver, PairNumber}
+use Rattle.table.specs.Layout.{places, tableWords}
 use Rattle.table.specs.Words.{state, word-at, Agree, long-of, agree-words}
 use Rattle.table.specs.Numbering.{used, recordOf, record-agree}
 use Rattle.rules.specs.Limits.{house}
@@ -34,20 +34,21 @@ echoed σ m =
     intervalBegins σ c m r (filtered σ c (placeVector σ c (newestPlace σ c)))
 
 -- it too looks only at words of the table
-echoed-same : (σ τ : State) → Agree σ τ → Form σ → (m : ℕ) → let r = recordOf σ m in r < used σ → σ (MessageState r) ≡ stateReleased → Same (echoed σ m) (echoed τ m)
-echoed-same σ τ e f m l st =
+echoed-same : (σ τ : State) → Agree σ τ → Form σ → (m : ℕ) → let r = recordOf σ m in r < used σ → σ (MessageState r) ≡ stateReleased →
+    σ (LiveCount (σ (Receiver r))) < places → Same (echoed σ m) (echoed τ m)
+echoed-same σ τ e f m l st room =
     let r = recordOf σ m in
     let c = σ (Receiver r) in
     let w = chain-form σ c f (released-lt f r l st) in
-    rw (← record-agree σ τ e m (f .used-le), ← e (Receiver r) (omega (arith, f .used-le), omega arith)) (same-begins σ τ e c m r (w .named) (newest-filtered σ τ e f c w))
+    rw (← record-agree σ τ e m (f .used-le), ← e (Receiver r) (omega (arith, f .used-le), omega arith)) (same-begins σ τ e c m r w room (newest-filtered σ τ e f c w))
 
 echoed-words : {t g : List ℕ} (σ : State) (k : List ℕ) (m : ℕ) {x : Command} → Stage t g σ k x → looksAtForm x ≡ true → let r = recordOf σ m in (r <? used σ) ≡ true →
-    σ (MessageState r) ≡ stateReleased → lent t g (λ σ. beside (echoed σ m) g) ≡ writtenBoth (beside (echoed σ m) g)
+    σ (MessageState r) ≡ stateReleased → (σ (LiveCount (σ (Receiver r))) <? places) ≡ true → lent t g (λ σ. beside (echoed σ m) g) ≡ writtenBoth (beside (echoed σ m) g)
 unfolding lent
-echoed-words {t} {g} σ k m s looks here st =
+echoed-words {t} {g} σ k m s looks here st room =
     let e = agree-words σ (s .table-is) in
     rw (eq-eqb (length t) tableWords (long-of σ (s .table-is)))
-    (sym (same-written (same-beside g (echoed-same σ (state t) (λ f v. sym (e f v)) (form σ (s .good looks)) m (ltb-true _ _ here) st))))
+    (sym (same-written (same-beside g (echoed-same σ (state t) (λ f v. sym (e f v)) (form σ (s .good looks)) m (ltb-true _ _ here) st (ltb-true _ _ room)))))
 
 -- In the sample run the new interval of controller 2 would have no pair of controller 1.
 pub pair-echoed : (t g : List ℕ) → length t ≡ tableWords → length g ≡ ledgerWords house →
@@ -55,5 +56,5 @@ pub pair-echoed : (t g : List ℕ) → length t ≡ tableWords → length g ≡ 
     state (lent (r .table) (r .ledger) (λ σ. beside (echoed σ 2) (r .ledger)) .table) (PairNumber 2 1 1) ≡ 0
 unfolding steps stateAt sample-run goes
 pair-echoed t g long wide =
-    ap (λ o. state (o .table) (PairNumber 2 1 1)) (echoed-words _ _ 2 (sample-stage t g long wide 5) refl refl refl)
+    ap (λ o. state (o .table) (PairNumber 2 1 1)) (echoed-words _ _ 2 (sample-stage t g long wide 5) refl refl refl refl)
     ∙ word-at _ (PairNumber 2 1 1) (omega arith, omega arith, omega arith)

@@ -8,12 +8,12 @@ use native.Mathlib.Omega.{arith}
 use Rattle.base.specs.Choice.{_==_, _≤?_, _<?_}
 use Rattle.base.specs.Ranges.{allb, allb-ext}
 use Rattle.base.specs.Cases.{allOf}
-use Rattle.table.specs.Field.{State, OfHead, OfController, Known, End, OfPlace, OfMessage, Size, Degree, Incarnation, LiveCount, StableCount, PlaceIncarnation, PlaceNumber, Cause, Flag, MessageState, Sender, Receiver, SendingIncarnation, SendingNumber, PairIncarnation, PairNumber, MessagePairIncarnation, MessagePairNumber, desk, word, spareFrom}
+use Rattle.table.specs.Field.{State, OfHead, OfController, Known, End, OfPlace, OfMessage, Size, Degree, Incarnation, LiveCount, StableCount, PlaceIncarnation, PlaceNumber, Cause, Flag, MessageState, Sender, Receiver, SendingIncarnation, SendingNumber, PairIncarnation, PairNumber, MessagePairIncarnation, MessagePairNumber, Gap, desk, word, spareFrom, spareAgain}
 use Rattle.table.specs.Layout.{controllers, incarnations, places, messages, headWords, controllerWords, placeWords, messageWords}
 use Rattle.table.specs.Words.{Agree}
 use Rattle.table.specs.Numbering.{numberOf, used, lastGiven, number-same, used-agree, last-agree}
-use Rattle.rules.specs.Limits.{house, lastIncarnation}
-use Rattle.rules.specs.Form.{stateOk, zeros, vectorOk, controllerOk, highest, rowOk, placeOk, messageOk, inForm}
+use Rattle.rules.specs.Limits.{house, lastIncarnation, lastGap}
+use Rattle.rules.specs.Form.{stateOk, zeros, vectorOk, controllerOk, highest, rowOk, placeOk, messageOk, headZeros, headOk, inForm}
 use Rattle.laws.specs.Records.{placeVector-of, messageVector-of}
 
 pub zeros-same : (n : ℕ) (f g : ℕ → ℕ) → ((k : ℕ) → k < n → f k ≡ g k) → zeros n f ≡ zeros n g
@@ -86,6 +86,21 @@ module _ (σ τ : State) (n : ℕ) where
       ∷ []))
       (zeros-same messageWords (λ (k : ℕ). σ (OfMessage r k)) _ e d)
 
+-- words of the head
+headZeros-of : (σ τ : State) (from to : ℕ) → ((k : ℕ) → k < to → σ (OfHead k) ≡ τ (OfHead k)) → headZeros σ from to ≡ headZeros τ from to
+unfolding headZeros
+headZeros-of σ τ from to e = zeros-same (to - from) (λ (k : ℕ). σ (OfHead (from + k))) _ (λ k l. e (from + k) (omega arith))
+
+-- the head
+pub headOk-of : (σ τ : State) → ((k : ℕ) → k < headWords → σ (OfHead k) ≡ τ (OfHead k)) → used σ ≡ used τ → headOk house σ ≡ headOk house τ
+unfolding headOk
+headOk-of σ τ e count =
+    let size = e (word Size) (omega arith) in
+    let spare = headZeros-of σ τ spareFrom (word Gap) (λ k l. e k (omega arith)) in
+    let gap = e (word Gap) (omega arith) in
+    let again = headZeros-of σ τ spareAgain headWords e in
+    λ d. allOf ((1 ≤? size d) ∷ (size d ≤? controllers) ∷ (count d ≤? house .messages) ∷ spare d ∷ (gap d ≤? lastGap) ∷ again d ∷ [])
+
 -- the whole table
 pub inForm-same : (σ τ : State) → Agree σ τ → inForm house σ ≡ inForm house τ
 unfolding inForm
@@ -93,7 +108,7 @@ inForm-same σ τ e =
     let size = e Size (omega arith) in
     let n = τ Size in
     let count = used-agree σ τ e in
-    let spare = zeros-same (headWords - spareFrom) (λ (k : ℕ). σ (OfHead (spareFrom + k))) _ (λ k l. e (OfHead (spareFrom + k)) (omega arith)) in
+    let head = headOk-of σ τ (λ k l. e (OfHead k) (omega arith)) count in
     let each = ap (λ n. allb controllers (controllerOk house n σ)) size
     ∙ allb-ext _ _ controllers (λ c cl. controllerOk-of σ τ n c (λ k l. e (OfController c k) (cl, l))) in
     let rows = ap (λ n. allb controllers (λ (holder : ℕ). allb controllers (rowOk house n σ holder))) size
@@ -105,4 +120,4 @@ inForm-same σ τ e =
     let records = ap (λ n. allb messages (messageOk house n σ)) size
     ∙ allb-ext _ _ messages (λ r rl. messageOk-of σ τ n r count (λ k l. e (OfMessage r k) (rl, l))) in
     λ d. allOf
-    ((1 ≤? size d) ∷ (size d ≤? controllers) ∷ (count d ≤? house .messages) ∷ spare d ∷ each d ∷ rows d ∷ chains d ∷ records d ∷ [])
+    (head d ∷ each d ∷ rows d ∷ chains d ∷ records d ∷ [])

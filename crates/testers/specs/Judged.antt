@@ -17,12 +17,12 @@ use Rattle.rules.specs.Report.{report}
 use Rattle.rules.specs.Steps.{openHouse}
 use Rattle.rules.specs.Step.{Call}
 use Rattle.rules.specs.declared.Command.the-variants.{Send, Deliver}
-use Rattle.history.specs.History.{interval, History, sameInterval, changedAt, changedAtInterval, newest, member, those, oldest, sentFrom, joined, leaving, stabilized, hearing, losing, opening, delivering, restarting, crashing, rollingBack, answers, valueAt, fedStep, fed}
+use Rattle.history.specs.History.{interval, History, sameInterval, changedAt, changedAtInterval, newest, member, those, oldest, sentFrom, joined, leaving, stabilized, hearing, losing, opening, forcedAt, capping, beginning, delivering, restarting, crashing, rollingBack, answers, valueAt, fedStep, fed}
 use Rattle.history.specs.Citations.{Citation, noCitations, sentWith, letOutTo, citedStep, cited}
 use Rattle.history.specs.Demand.{Run, stepIn, justOpened}
 use Rattle.history.specs.Examples.{all, allCited}
 use Rattle.listing.specs.Quiet.{steps, quiet-opened, goes}
-use Rattle.testers.specs.Sample.{sample, asked, calls, sample-run, sample-opened, sample-answers}
+use Rattle.testers.specs.Sample.{sample, asked, calls, sample-run, opened-three, sample-answers}
 use Rattle.testers.specs.Along.{firstSteps, lineAt, answer-at, history-at, citations-after, stateAt, StageAt, stage-step, stage-at}
 
 abbrev pub list : List Call
@@ -47,7 +47,7 @@ record Told : Type 0 where
   sent-from : told 7 .sending 3 ≡ interval 0 0 1
 
 facts : Told
-unfolding all fed fedStep answers report valueAt sameInterval changedAt changedAtInterval newest member those oldest sentFrom joined leaving stabilized hearing losing opening delivering restarting crashing rollingBack
+unfolding all fed fedStep answers report valueAt sameInterval changedAt changedAtInterval newest member those oldest sentFrom joined leaving stabilized hearing losing opening forcedAt capping beginning delivering restarting crashing rollingBack
 facts =
     record {
       live-before = refl;
@@ -81,7 +81,7 @@ module _ (t g : List ℕ) (long : length t ≡ tableWords) (wide : length g ≡ 
   -- the table, the state and the ledger that it finds
   pub sample-stage : (j : ℕ) → StageAt (justOpened t g 3 1) sample-run j
   unfolding justOpened
-  sample-stage = let o = sample-opened t g long wide in stage-at sample-run (quiet-opened 1) (justOpened t g 3 1) (o .table-is) (o .ledger-is)
+  sample-stage = let o = opened-three t g long wide in stage-at sample-run (quiet-opened 1) (justOpened t g 3 1) (o .table-is) (o .ledger-is)
 
   -- the count of messages before and after the first is sent, and what the second brings to its receiver
   pub none-sent : state (sampleAt t g 0 .table) SentCount ≡ 0

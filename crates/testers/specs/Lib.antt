@@ -7,6 +7,7 @@ pub mod Desk
 pub mod Sample
 pub mod Along
 pub mod Judged
+pub mod Gapped
 pub mod Echo
 pub mod WrongMachines
 pub mod Written

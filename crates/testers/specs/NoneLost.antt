@@ -34,6 +34,7 @@ module _ (σ : State) where
   writable : Writable Before
   writable =
       record {
+        gap = λ x. other _ x refl;
         controller = λ c k x. other _ x refl;
         known = λ holder owner i x. other _ x refl;
         end = λ holder owner i x. other _ x refl;

@@ -16,12 +16,12 @@ use Rattle.rules.specs.Form.{inForm, forDesk}
 use Rattle.rules.specs.Ledger.{countOf}
 use Rattle.rules.specs.Shared.{newestPlace}
 use Rattle.rules.specs.Report.{report}
-use Rattle.rules.specs.Steps.{After, after, refuse, refusing, AfterBoth, afterBoth, beside, refusingBoth, stepOpen, stepDegree, stepSend, mayGo, release, stepRelease, intervalBegins, deliver, stepDeliver, stepLog, stepCheckpoint, stepTell, stepCrash, noted, lowestCondemned, hear, stepHear}
+use Rattle.rules.specs.Steps.{After, after, refuse, refusing, AfterBoth, afterBoth, beside, refusingBoth, stepOpen, stepDegree, stepSend, mayGo, release, stepRelease, intervalBegins, deliver, stepDeliver, stepLog, stepCheckpoint, stepTell, stepCrash, stepGap, noted, lowestCondemned, hear, stepHear}
 use Rattle.rules.specs.Step.{perform, looksAtForm, stepOn}
 use Rattle.rules.specs.declared.Answer.{Answer}
 use Rattle.rules.specs.declared.Answer.the-variants.{Done, Sent, Released, Held, Delivered, Dropped, Waits, Crashed, Heard, Rolled, Refused}
 use Rattle.rules.specs.declared.Command.{Command}
-use Rattle.rules.specs.declared.Command.the-variants.{Open, SetDegree, Send, Release, Deliver, Log, Checkpoint, Tell, Crash, Hear}
+use Rattle.rules.specs.declared.Command.the-variants.{Open, SetDegree, Send, Release, Deliver, Log, Checkpoint, Tell, Crash, Hear, SetGap}
 
 -- if it answers a refusal, it leaves σ
 pub record KeepsRefused (σ : State) (o : After) : Type 0 where
@@ -93,7 +93,7 @@ module _ (σ : State) where
 
   -- after the host's refusals
   keeps-perform : (g : List ℕ) (x : Command) → KeepsBoth σ g (perform house σ g x)
-  unfolding perform stepOpen stepDegree stepSend stepRelease stepDeliver stepLog stepCheckpoint stepTell stepCrash stepHear report
+  unfolding perform stepOpen stepDegree stepSend stepRelease stepDeliver stepLog stepCheckpoint stepTell stepCrash stepHear stepGap report
   keeps-perform g (Open n k) = keeps-refusing-both σ g _ (other-both σ g Done _ _ refl)
   keeps-perform g (SetDegree c k) = keeps-beside σ g (keeps-refusing σ _ (other σ Done _ refl))
   keeps-perform g (Send sender receiver payload) = keeps-beside σ g (keeps-refusing σ _ (other σ (Sent _) _ refl))
@@ -104,6 +104,7 @@ module _ (σ : State) where
   keeps-perform g (Tell owner holder) = keeps-beside σ g (keeps-refusing σ _ (other σ Done _ refl))
   keeps-perform g (Crash c) = keeps-beside σ g (keeps-refusing σ _ (other σ (Crashed _ _ _ _ _) _ refl))
   keeps-perform g (Hear hearer owner i) = keeps-beside σ g (keeps-refusing σ _ (keeps-hear hearer owner i))
+  keeps-perform g (SetGap q) = keeps-beside σ g (keeps-refusing σ _ (other σ Done _ refl))
 
   -- every step
   pub keeps-refused : (g : List ℕ) (x : Command) → KeepsBoth σ g (stepOn house σ g x)

@@ -1,5 +1,5 @@
 -- A short run on tables and ledgers of words of which demand 3 speaks, with its answers.
-use mathlib.Core.Path.{_≡_, refl, ap, ap₂, _∙_}
+use mathlib.Core.Path.{_≡_, refl, sym, ap, ap₂, _∙_}
 use mathlib.Core.Bool.{Bool, true, false, true≢false, _&&_, and-false}
 use mathlib.Core.List.{List, [], _∷_, _++_, map}
 use Prim.Native.Nat.{ℕ}
@@ -64,9 +64,9 @@ sample-run =
     (next (λ q. quiet-put (MessageState 1) stateDelivered refl (quiet-put (LiveCount 2) 2 refl (quiet-part (OfPlace 2 1 0) 0 (placeRecord 0 2 2 0 two) (λ _. refl) q))) refl refl  -- D 2
     (next (λ q. quiet-put SentCount 3 refl (quiet-part (OfMessage 2 0) 0 (messageRecord stateHeld 0 desk 0 1 5 none) (λ _. refl) q)) refl refl  -- S 0 8 5
     (goes (λ q. quiet-put (MessageState 2) statePublished refl (quiet-part (OfMessage 2 0) messageHead (flat none) (λ _. refl) q)) refl blank-ok refl  -- R 3
-    (next (λ q. quiet-removed 1 1 refl refl refl (further 3 refl _ _) (quiet-put (End 1 1 0) 1 refl q)) refl refl  -- X 1
+    (next (λ q. quiet-removed 1 1 refl refl refl refl (further 3 refl _ _) (quiet-put (End 1 1 0) 1 refl q)) refl refl  -- X 1
     (next (λ q. quiet-put (Known 0 1 0) 1 refl (quiet-put (End 0 1 0) 1 refl q)) refl refl  -- H 0 1 0
-    (next (λ q. quiet-rolled 2 1 refl refl refl refl (further 3 refl _ _) (quiet-put (Known 2 1 0) 1 refl (quiet-put (End 2 1 0) 1 refl q))) refl refl  -- H 2 1 0
+    (next (λ q. quiet-rolled 2 1 refl refl refl refl refl (further 3 refl _ _) (quiet-put (Known 2 1 0) 1 refl (quiet-put (End 2 1 0) 1 refl q))) refl refl  -- H 2 1 0
     (next (λ q. quiet-put (MessageState 0) stateDelivered refl (quiet-put (LiveCount 1) 3 refl (quiet-part (OfPlace 1 2 0) 0 (placeRecord 1 3 1 0 (set none 1 (pair 1 3))) (λ _. refl) q))) refl refl  -- D 1
     end)))))))))))
 
@@ -88,7 +88,7 @@ answers-words σ g (x ∷ xs) =
     ap (λ o. o .answer ∷ answersFrom (o .table) (o .ledger) (calls xs)) (step-words σ g x) ∙ ap (λ l. o .answer ∷ l) (answers-words (o .left) (o .ledger) xs)
 
 -- no call of a list opens a house: every one looks at the form
-unfoldable allLook : List Call → Bool
+unfoldable pub allLook : List Call → Bool
 allLook [] = true
 allLook (asks x ∷ l) = looksAtForm x && allLook l
 
@@ -97,25 +97,35 @@ unfolding allLook
 an-opening [] after n k = refl
 an-opening (asks x ∷ before) after n k = rw (an-opening before after n k) (and-false (looksAtForm x))
 
--- The sample run, from every table and every ledger of the right length.
+-- A house of three, all with the degree 1, opened in every table and every ledger of the right length.
 module _ (t g : List ℕ) (long : length t ≡ tableWords) (wide : length g ≡ ledgerWords house) where
   -- the opening is done
-  pub sample-opens : step t g (Open 3 1) .answer ≡ Done
+  opens-three : step t g (Open 3 1) .answer ≡ Done
   unfolding step lent stepOn
-  sample-opens = rw (eq-eqb (length t) tableWords long) (ap (λ o. o .answer) (opens (state t) g 1 wide refl))
-
-  -- "in a house just opened": and there is no opening in the list
-  pub sample-from-opening : FromOpening t g 3 1 (calls (asked sample))
-  unfolding allLook
-  sample-from-opening = record { done = sample-opens; no-opening = λ before after n k e. absurd (true≢false (ap allLook e ∙ an-opening before after n k)) }
+  opens-three = rw (eq-eqb (length t) tableWords long) (ap (λ o. o .answer) (opens (state t) g 1 wide refl))
 
   -- the table and the ledger that it leaves
-  pub sample-opened : Opened 3 1 (step t g (Open 3 1))
-  sample-opened = opening-done t g 3 1 sample-opens
+  pub opened-three : Opened 3 1 (step t g (Open 3 1))
+  opened-three = opening-done t g 3 1 opens-three
 
-  -- the answers
+  module _ (l : List ListingLine) where
+    -- "in a house just opened": and there is no opening in the list
+    pub from-opening : allLook (calls (asked l)) ≡ true → FromOpening t g 3 1 (calls (asked l))
+    from-opening looks =
+        record { done = opens-three; no-opening = λ before after n k e. absurd (true≢false (sym looks ∙ ap allLook e ∙ an-opening before after n k)) }
+
+    -- the answers, where they were computed on states
+    pub run-answered : Run (openHouse 3 1) (blankLedger house) (asked l) (answered l) →
+        answersFrom (justOpened t g 3 1 .table) (justOpened t g 3 1 .ledger) (calls (asked l)) ≡ answered l
+    unfolding justOpened
+    run-answered run =
+        ap₂ (λ u k. answersFrom u k (calls (asked l))) (opened-three .table-is) (opened-three .ledger-is)
+        ∙ answers-words (openHouse 3 1) (blankLedger house) (asked l) ∙ run-answers run (quiet-opened 1)
+
+  -- the sample run
+  pub sample-from-opening : FromOpening t g 3 1 (calls (asked sample))
+  unfolding allLook
+  sample-from-opening = from-opening sample refl
+
   pub sample-answers : answersFrom (justOpened t g 3 1 .table) (justOpened t g 3 1 .ledger) (calls (asked sample)) ≡ answered sample
-  unfolding justOpened
-  sample-answers =
-      ap₂ (λ u k. answersFrom u k (calls (asked sample))) (sample-opened .table-is) (sample-opened .ledger-is)
-      ∙ answers-words (openHouse 3 1) (blankLedger house) (asked sample) ∙ run-answers sample-run (quiet-opened 1)
+  sample-answers = run-answered sample sample-run

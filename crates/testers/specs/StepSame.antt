@@ -10,7 +10,7 @@ use lib.ListN.{length}
 use borrow.Author.Tests.{eqb-true, eq-eqb, leb-false, lt-ltb, not-false}
 use Rattle.base.specs.Choice.{_==_, _≤?_, _<?_, or-left, or-right, le?}
 use Rattle.base.specs.Cases.{Case, _⇒_, firstOf, hit}
-use Rattle.table.specs.Field.{State, OfMessage, End, Size, Degree, Incarnation, LiveCount, StableCount, Flag, MessageState, Sender, Receiver, Payload, desk, messageHead, same}
+use Rattle.table.specs.Field.{State, OfMessage, End, Size, Gap, Degree, Incarnation, LiveCount, StableCount, MessageState, Sender, Receiver, Payload, desk, messageHead, same}
 use Rattle.table.specs.Change.{put}
 use Rattle.table.specs.Layout.{controllers, places, messages, tableWords}
 use Rattle.table.specs.Words.{state, words, length-words, word-at, words-same, Agree, agree-put, agree-put-to, agree-values}
@@ -20,16 +20,16 @@ use Rattle.rules.specs.Refusal.{FORM, LEDGER, CONTROLLER, MESSAGE, DEGREE, SAME
 use Rattle.rules.specs.Vector.{Vector, placeVector, messageVector, flat, filtered, condemned, mask, conflict, merged}
 use Rattle.rules.specs.Form.{inForm, stateHeld, stateReleased, stateDropped, statePublished}
 use Rattle.rules.specs.Ledger.{countOf, appended}
-use Rattle.rules.specs.Shared.{newestPlace}
-use Rattle.rules.specs.Steps.{After, refuse, refusing, AfterBoth, beside, refusingBoth, stepOpen, stepDegree, stepSend, messageRefusals, letOut, mayGo, release, stepRelease, intervalAdded, intervalBegins, deliver, stepDeliver, stepLog, checkpointed, stepCheckpoint, stepTell, crashed, stepCrash, noted, lowestCondemned, hear, hearRefusals, stepHear}
+use Rattle.rules.specs.Shared.{newestPlace, capped}
+use Rattle.rules.specs.Steps.{After, refuse, refusing, AfterBoth, beside, refusingBoth, stepOpen, stepDegree, stepSend, messageRefusals, letOut, mayGo, release, stepRelease, intervalAdded, intervalBegins, deliver, stepDeliver, stepLog, stepCheckpoint, stepTell, crashed, stepCrash, noted, lowestCondemned, hear, hearRefusals, stepHear, stepGap}
 use Rattle.rules.specs.Step.{perform, stepOn, outBoth, writtenBoth, lent, step}
 use Rattle.rules.specs.declared.Answer.the-variants.{Sent, Released, Held, Delivered, Crashed, Rolled, Refused}
 use Rattle.rules.specs.declared.Command.{Command}
-use Rattle.rules.specs.declared.Command.the-variants.{Open, SetDegree, Send, Release, Deliver, Log, Checkpoint, Tell, Crash, Hear}
+use Rattle.rules.specs.declared.Command.the-variants.{Open, SetDegree, Send, Release, Deliver, Log, Checkpoint, Tell, Crash, Hear, SetGap}
 use Rattle.laws.specs.Facts.{Form, form, below-8, controllerForm, messageForm, released-lt, message-near}
 use Rattle.laws.specs.Allowed.{sendAllowed, messageAllowed, releaseAllowed, logAllowed, checkpointAllowed, tellAllowed, crashAllowed, hearAllowed}
-use Rattle.laws.specs.Agree.{incarnation-same, live-same, stable-same, state-same, placeVector-same, messageVector-same, filtered-same, condemned-same, replayed-same, lowestCondemned-same, agree-logged, agree-loggedTo, agree-sent, agree-begun, agree-noted, agree-told}
-use Rattle.laws.specs.Chain.{Chain, chain-form, chain-noted, Starts, starts-put}
+use Rattle.laws.specs.Agree.{incarnation-same, live-same, stable-same, state-same, placeVector-same, messageVector-same, filtered-same, condemned-same, replayed-same, lowestCondemned-same, agree-logged, agree-checkpointed, agree-capped, agree-sent, agree-begun, agree-noted, agree-told}
+use Rattle.laws.specs.Chain.{chain-counts, counts-added, Chain, chain-form, chain-noted, Starts, starts-put}
 use Rattle.laws.specs.Found.{lowest}
 use Rattle.laws.specs.Kept.{agree-removed, agree-rolled}
 use Rattle.testers.specs.FormSame.{inForm-same}
@@ -95,13 +95,16 @@ module _ (σ τ : State) (e : Agree σ τ) where
       same-cond SameBoth (ap (λ i. i == 0) q) (λ z. h (sym (eqb-true (firstOf cases) 0 z))) (λ _. same-beside g (same-refuse q))
 
   -- an interval begins, with vectors that are the same
-  pub same-begins : (c m r : ℕ) {v w : Vector} → c < controllers → v ≡ w → Same (intervalBegins σ c m r v) (intervalBegins τ c m r w)
+  pub same-begins : (c m r : ℕ) {v w : Vector} → Chain σ c → σ (LiveCount c) < places → v ≡ w → Same (intervalBegins σ c m r v) (intervalBegins τ c m r w)
   unfolding intervalBegins
-  same-begins c m r {v} {w} cl q =
+  same-begins c m r {v} {w} chain room q =
+      let cl = chain .named in
+      let counts = counts-added σ c m r v (chain-counts chain) room in
       let x = number-same σ τ e c (σ (LiveCount c) + 1) cl ∙ ap (λ live. numberOf τ c (live + 1)) (live-same σ τ e c cl) in
       record {
         answer-is = ap₂ (Delivered m) (incarnation-same σ τ e c cl) x;
-        left-is = subst (λ w. Agree (intervalAdded σ c m r v) (intervalAdded τ c m r w)) q (agree-begun σ τ e c m r v cl);
+        left-is =
+            subst (λ w. Agree (capped (intervalAdded σ c m r v) c) (capped (intervalAdded τ c m r w) c)) q (agree-capped _ _ (agree-begun σ τ e c m r v cl) c cl (counts .live-le));
       }
 
   -- O
@@ -195,7 +198,7 @@ module _ (σ τ : State) (e : Agree σ τ) where
         (λ _. record { answer-is = refl; left-is = agree-put σ τ (MessageState r) stateDropped e })
         (λ _. same-cond Same (ap₂ (conflict c) ours theirs) (λ _. record { answer-is = refl; left-is = e })
         (λ _. same-cond Same (ap (λ live. places ≤? live) (live-same σ τ e c (w .named))) (λ _. same-refuse refl)
-        (λ _. same-begins c m r (w .named) (ap₂ merged ours theirs)))))
+        (λ full. same-begins c m r w (leb-false places (σ (LiveCount c)) full) (ap₂ merged ours theirs)))))
 
     same-deliver : (m : ℕ) → Same (stepDeliver house σ m) (stepDeliver house τ m)
     unfolding stepDeliver
@@ -217,12 +220,10 @@ module _ (σ τ : State) (e : Agree σ τ) where
 
     -- C
     same-checkpoint : (c : ℕ) → Same (stepCheckpoint σ c) (stepCheckpoint τ c)
-    unfolding stepCheckpoint checkpointed
+    unfolding stepCheckpoint
     same-checkpoint c =
         same-refusing _ _ (same-first CONTROLLER _ _ (ap (λ n. n ≤? c) size) (λ _. refl))
-        (λ z. let cl = below-8 f c (checkpointAllowed σ c z) in
-        rw (← live-same σ τ e c cl)
-        (record { answer-is = refl; left-is = agree-put _ _ (Flag c (newestPlace σ c)) 1 (agree-loggedTo σ τ e c (σ (LiveCount c)) cl) }))
+        (λ z. record { answer-is = refl; left-is = agree-checkpointed σ τ e c (below-8 f c (checkpointAllowed σ c z)) })
 
     -- T
     same-tell : (owner holder : ℕ) → Same (stepTell σ owner holder) (stepTell τ owner holder)
@@ -298,6 +299,11 @@ module _ (σ τ : State) (e : Agree σ τ) where
         let again = replayed-same σ τ e hearer k (w .named) (omega (arith, s .room)) in
         record { answer-is = λ d. Rolled hearer (x d) (live d - k) (again d); left-is = agree-rolled _ _ hearer k s heard }))))
 
+    -- the gap
+    same-gap : (q : ℕ) → Same (stepGap σ q) (stepGap τ q)
+    unfolding stepGap
+    same-gap q = same-refusing _ _ refl (λ _. record { answer-is = refl; left-is = agree-put σ τ Gap q e })
+
 -- the host's look at the form
 looked : (σ τ : State) → Agree σ τ → (g : List ℕ) {o p : AfterBoth} → (Form σ → SameBoth o p) →
     SameBoth (cond (not (inForm house σ)) (beside (refuse FORM σ) g) o) (cond (not (inForm house τ)) (beside (refuse FORM τ) g) p)
@@ -316,6 +322,7 @@ same-step σ τ e g (Checkpoint c) = looked σ τ e g (λ f. same-beside g (same
 same-step σ τ e g (Tell owner holder) = looked σ τ e g (λ f. same-beside g (same-tell σ τ e f owner holder))
 same-step σ τ e g (Crash c) = looked σ τ e g (λ f. same-beside g (same-crash σ τ e f c))
 same-step σ τ e g (Hear hearer owner i) = looked σ τ e g (λ f. same-beside g (same-hear σ τ e f hearer owner i))
+same-step σ τ e g (SetGap q) = looked σ τ e g (λ f. same-beside g (same-gap σ τ e f q))
 
 -- The step function on the table of a state, beside a ledger, is the step on that state.
 pub step-words : (σ : State) (g : List ℕ) (x : Command) → step (words σ) g x ≡ writtenBoth (stepOn house σ g x)

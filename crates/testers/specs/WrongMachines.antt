@@ -22,7 +22,7 @@ use Rattle.rules.specs.Starred.{answer}
 use Rattle.rules.specs.declared.Answer.{Answer}
 use Rattle.rules.specs.declared.Answer.the-variants.{Done, Sent, Released, Held, Delivered, Dropped, Waits, Crashed, Heard, Rolled, Refused}
 use Rattle.rules.specs.declared.Command.{Command}
-use Rattle.rules.specs.declared.Command.the-variants.{Open, SetDegree, Send, Release, Deliver, Log, Checkpoint, Tell, Crash, Hear}
+use Rattle.rules.specs.declared.Command.the-variants.{Open, SetDegree, Send, Release, Deliver, Log, Checkpoint, Tell, Crash, Hear, SetGap}
 use Rattle.history.specs.Demand.{Run, stepIn}
 use Rattle.testers.specs.Judged.{sampleAt, sample-answer, none-sent, one-sent, pair-merged}
 use Rattle.testers.specs.Echo.{echoed, pair-echoed}
@@ -55,6 +55,7 @@ byLetter release deliver hear other (Checkpoint c) = other
 byLetter release deliver hear other (Tell owner holder) = other
 byLetter release deliver hear other (Crash c) = other
 byLetter release deliver hear other (Hear hearer owner i) = hear hearer
+byLetter release deliver hear other (SetGap q) = other
 
 abbrev atRelease : (List ℕ → List ℕ → ℕ → OutBoth) → Machine
 atRelease own t g x = byLetter (own t g) (λ m. step t g x) (λ b. step t g x) (step t g x) x

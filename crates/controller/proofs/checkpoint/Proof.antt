@@ -1,5 +1,5 @@
 -- Refused (checkpoint-refused), or done by `flag_newest` (checkpoint-done).
-use Rattle.controller.specs.Ready.{sized-chain}
+use Rattle.controller.specs.Ready.{sized-counts}
 use Rattle.controller.specs.Writes.{checkpoint-refused, checkpoint-done}
 use borrow.Author.Needs.{needs}
 use Rattle.controller.proofs.checkpoint.Statement.{statement}
@@ -9,7 +9,7 @@ returns : tie.Need-returns
 returns c = search checkpoint-refused
 
 flag-newest-requires : tie.Need-flag-newest-requires
-flag-newest-requires c κs = search sized-chain
+flag-newest-requires c κs = search sized-counts
 
 returns-2 : tie.Need-returns-2
 returns-2 c = search checkpoint-done

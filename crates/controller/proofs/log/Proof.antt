@@ -1,7 +1,7 @@
 -- Refused, or logged by `log_oldest`.
 use Rattle.rules.specs.Steps.{stepLog}
 use Rattle.laws.specs.Answering.{refused, granted-by, leaves}
-use Rattle.controller.specs.Ready.{log-chain, log-some}
+use Rattle.controller.specs.Ready.{log-counts, log-some}
 use borrow.Author.Needs.{needs}
 use Rattle.controller.proofs.log.Statement.{statement}
 use Rattle.controller.proofs.log.Tie as tie
@@ -11,7 +11,7 @@ unfolding stepLog
 returns c = search refused
 
 log-oldest-requires : tie.Need-log-oldest-requires
-log-oldest-requires c κs = search (log-chain, log-some)
+log-oldest-requires c κs = search (log-counts, log-some)
 
 returns-2 : tie.Need-returns-2
 unfolding stepLog

@@ -1,25 +1,17 @@
--- The place, the live count and the state are put, with what was read before (writes-begun).
-use Rattle.delivery.specs.Delivers.{writes-begun}
+-- The new interval has its counts (added-counts), so that it can be checkpointed; what is answered was read before (writes-begun).
+use Rattle.delivery.specs.Delivers.{added-counts, writes-begun}
 use borrow.Author.Needs.{needs}
 use Rattle.delivery.proofs.begin_interval.Statement.{statement}
 use Rattle.delivery.proofs.begin_interval.Tie as tie
 
+cap-requires : tie.Need-cap-requires
+cap-requires c κs = (search needs, search added-counts)
+
 returns : tie.Need-returns
-returns c =
-    let s = c .before .before in
-    let l = s .before .before .before .before in
-    let p = l .before .before .before .before in
-    let x = p .before .before in
-    let n = x .before .before in
-    let i = n .before .before in
-    let a = i .before .before .before .args in
-    writes-begun (a .t .now) _ _ _ (a .c) (a .m) (a .r) _ _ _ (a .v) (i .incarnation .ensures) (n .live-count .ensures) (x .number-of .ensures)
-    (p .write-place .ensures) (l .set-live-count .ensures) (s .set-message-state .ensures)
+returns c = search writes-begun
 
 pub begin-interval-spec : {M : Type 1} → statement M
 begin-interval-spec =
     tie.close
     (tie.spec
-    (λ c κs. search needs) (λ c κs. search needs) (λ c. search needs) (λ c κs. search needs) (λ c. search needs)
-    (λ c. search needs) (λ c. search needs) (λ c κs. search needs) (λ c. search needs) (λ c κs. search needs)
-    (λ c κs. search needs) (λ c. search needs) returns)
+    (λ c κs. search needs) (λ c κs. search needs) (λ c. search needs) (λ c κs. search needs) (λ c κs. search needs) cap-requires (λ c. search needs) returns)

@@ -1,4 +1,5 @@
 -- The two vectors conflict (waits), or no place is free (no-place-free), or an interval begins (begins).
+use Rattle.laws.specs.Chain.{chain-counts}
 use Rattle.delivery.specs.Delivers.{waits, no-place-free, begins}
 use borrow.Author.Needs.{needs}
 use Rattle.delivery.proofs.deliver_spared.Statement.{statement}
@@ -29,6 +30,9 @@ returns-2 c =
     no-place-free (a .args .t .now) _ _ _ _ (a .pre .1) _ _ (n .newest-vector .ensures) (f .filter-vector .ensures) _ (g .before .conflict .ensures)
     (g .if1 .left) _ (c .before .live-count .ensures) (c .if2 .taken) (a .pre .0)
 
+begin-interval-requires : tie.Need-begin-interval-requires
+begin-interval-requires c κs = search (needs, chain-counts)
+
 returns-3 : tie.Need-returns-3
 returns-3 c =
     let m = c .before .before .before in
@@ -46,4 +50,4 @@ deliver-spared-spec =
     (tie.spec
     (λ c κs. search needs) (λ c κs. search needs) (λ c κs. search needs) (λ c. search needs) returns
     (λ c. search needs) (λ c κs. search needs) (λ c. search needs) returns-2 (λ c κs. search needs)
-    (λ c κs. search needs) (λ c. search needs) returns-3)
+    begin-interval-requires (λ c. search needs) returns-3)

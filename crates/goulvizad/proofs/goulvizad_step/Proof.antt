@@ -1,12 +1,13 @@
 -- Each return is a case of a call: another length, an unknown letter, a step (wrong-values, letter-taken).
-use Rattle.goulvizad.specs.Call.{taken, wrong-values, letter-taken}
+use Rattle.goulvizad.specs.Call.{taken, call, wrong-values, letter-taken}
 use mathlib.Core.Path.{refl, sym, _∙_}
 use borrow.Author.Needs.{needs}
 use Rattle.goulvizad.proofs.goulvizad_step.Statement.{statement}
 use Rattle.goulvizad.proofs.goulvizad_step.Tie as tie
 
 returns : tie.Need-returns
-returns c = wrong-values _ _ _ _ _ _ _ _ (c .if1 .taken)
+unfolding call
+returns c = wrong-values _ _ _ _ (c .if1 .taken)
 
 enum-told : tie.Need-enum-told
 enum-told c = search needs

@@ -1,4 +1,4 @@
--- Each arm calls the function of its step, and the arm knows which command it has (by-command). Eight of them leave the ledger
+-- Each arm calls the function of its step, and the arm knows which command it has (by-command). Nine of them leave the ledger
 -- (left-beside).
 use Rattle.laws.specs.Answering.{left-beside, lent-as, by-command}
 use Rattle.rules.specs.Step.{perform}
@@ -36,6 +36,9 @@ crash-requires c κs = lent-as _ _ _ (c .before .before .before .before .before 
 
 hear-requires : tie.Need-hear-requires
 hear-requires c κs = lent-as _ _ _ (c .before .before .before .before .before .before .pre) (c .before .before .x10 .given .1) refl
+
+set-gap-requires : tie.Need-set-gap-requires
+set-gap-requires c κs = lent-as _ _ _ (c .before .before .before .before .before .before .pre) (c .before .before .x11 .given .1) refl
 
 returns : tie.Need-returns
 unfolding perform
@@ -77,6 +80,10 @@ returns-10 : tie.Need-returns-10
 unfolding perform
 returns-10 c = by-command _ _ _ _ _ (left-beside _ _ _ _ (c .before .before .hear .ensures)) (c .before .before .before .before .before .x10 .given .1)
 
+returns-11 : tie.Need-returns-11
+unfolding perform
+returns-11 c = by-command _ _ _ _ _ (left-beside _ _ _ _ (c .before .before .set-gap .ensures)) (c .before .before .before .before .before .x11 .given .1)
+
 pub perform-spec : {M : Type 1} → statement M
 perform-spec =
     tie.close
@@ -84,7 +91,7 @@ perform-spec =
     (λ c. search needs) open-requires (λ c. search needs) set-degree-requires (λ c. search needs) send-requires
     (λ c. search needs) release-requires (λ c. search needs) deliver-requires (λ c. search needs) log-requires
     (λ c. search needs) checkpoint-requires (λ c. search needs) tell-requires (λ c. search needs) crash-requires
-    (λ c. search needs) hear-requires (λ c. search needs) (λ c. search needs) returns (λ c. search needs) returns-2
+    (λ c. search needs) hear-requires (λ c. search needs) set-gap-requires (λ c. search needs) (λ c. search needs) returns (λ c. search needs) returns-2
     (λ c. search needs) returns-3 (λ c. search needs) (λ c. search needs) returns-4 (λ c. search needs) returns-5
     (λ c. search needs) returns-6 (λ c. search needs) returns-7 (λ c. search needs) returns-8 (λ c. search needs)
-    returns-9 (λ c. search needs) returns-10)
+    returns-9 (λ c. search needs) returns-10 (λ c. search needs) returns-11)

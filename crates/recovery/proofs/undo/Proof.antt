@@ -4,7 +4,7 @@ use native.Mathlib.Omega.{arith}
 use borrow.Author.Needs.{needs}
 use Rattle.table.specs.Words.{state}
 use Rattle.laws.specs.Found.{flagged-le}
-use Rattle.restart.specs.Anew.{replay-is}
+use Rattle.checkpoint.specs.Writes.{replay-is}
 use Rattle.recovery.specs.Rolling.{undo-done}
 use Rattle.recovery.proofs.undo.Statement.{statement}
 use Rattle.recovery.proofs.undo.Tie as tie

@@ -1,13 +1,16 @@
--- Held messages are dropped on the table of the new incarnation (starts).
+-- The start has its counts (begun-counts), so that it can be checkpointed; held messages are dropped on the table of that (starts).
 use borrow.Author.Needs.{needs}
-use Rattle.restart.specs.Anew.{starts}
+use Rattle.restart.specs.Anew.{begun-counts, starts}
 use Rattle.restart.proofs.start_anew.Statement.{statement}
 use Rattle.restart.proofs.start_anew.Tie as tie
 
+cap-requires : tie.Need-cap-requires
+cap-requires c κs = (search needs, search begun-counts)
+
 returns : tie.Need-returns
-returns c = search (needs, starts)
+returns c = search starts
 
 pub start-anew-spec : {M : Type 1} → statement M
 start-anew-spec =
     tie.close (tie.spec
-    (λ c κs. search needs) (λ c κs. search needs) (λ c. search needs) returns)
+    (λ c κs. search needs) cap-requires (λ c κs. search needs) (λ c. search needs) returns)

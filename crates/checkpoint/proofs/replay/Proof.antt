@@ -3,9 +3,9 @@ use native.Mathlib.Omega.{arith}
 use borrow.Author.Needs.{needs}
 use Rattle.table.specs.Words.{state}
 use Rattle.laws.specs.Found.{flagged-le}
-use Rattle.restart.specs.Anew.{replay-is}
-use Rattle.restart.proofs.replay.Statement.{statement}
-use Rattle.restart.proofs.replay.Tie as tie
+use Rattle.checkpoint.specs.Writes.{replay-is}
+use Rattle.checkpoint.proofs.replay.Statement.{statement}
+use Rattle.checkpoint.proofs.replay.Tie as tie
 
 sub-result : tie.Need-sub-result
 sub-result c = let s = c .before .before .before .args in omega (arith, c .latest-flagged .ensures, c .before .number-of .ensures, flagged-le (state (s .t .now)) (s .c) (s .k))

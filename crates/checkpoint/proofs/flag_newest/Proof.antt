@@ -1,8 +1,8 @@
 -- After the logging one word is put (writes-flag).
-use Rattle.controller.specs.Writes.{writes-flag}
+use Rattle.checkpoint.specs.Writes.{writes-flag}
 use borrow.Author.Needs.{needs}
-use Rattle.controller.proofs.flag_newest.Statement.{statement}
-use Rattle.controller.proofs.flag_newest.Tie as tie
+use Rattle.checkpoint.proofs.flag_newest.Statement.{statement}
+use Rattle.checkpoint.proofs.flag_newest.Tie as tie
 
 returns : tie.Need-returns
 returns c = search writes-flag

@@ -1,8 +1,8 @@
 -- Some are not yet stable, or none (logs-some, logs-none).
-use Rattle.controller.specs.Writes.{logs-some, logs-none}
+use Rattle.checkpoint.specs.Writes.{logs-some, logs-none}
 use borrow.Author.Needs.{needs}
-use Rattle.controller.proofs.log_rest.Statement.{statement}
-use Rattle.controller.proofs.log_rest.Tie as tie
+use Rattle.checkpoint.proofs.log_rest.Statement.{statement}
+use Rattle.checkpoint.proofs.log_rest.Tie as tie
 
 returns : tie.Need-returns
 returns c = search logs-some

@@ -1,10 +1,8 @@
 -- Two words are put, with what was read before (writes-logged).
-use Rattle.controller.specs.Writes.{writes-logged}
+use Rattle.checkpoint.specs.Writes.{writes-logged}
 use borrow.Author.Needs.{needs}
-use Rattle.controller.proofs.log_to.Statement.{statement}
-use Rattle.controller.proofs.log_to.Tie as tie
-
--- Two words are put, with what was read before (logs).
+use Rattle.checkpoint.proofs.log_to.Statement.{statement}
+use Rattle.checkpoint.proofs.log_to.Tie as tie
 
 returns : tie.Need-returns
 returns c = search writes-logged

@@ -1,0 +1,22 @@
+-- The buffer has another length (wrong-values), or the step was taken (right-values) beside whatever ledger.
+use Rattle.goulvizad.specs.Call.{gapCall, wrong-values, right-values, step-taken}
+use borrow.Author.Needs.{needs}
+use Rattle.goulvizad.proofs.goulvizad_set_gap.Statement.{statement}
+use Rattle.goulvizad.proofs.goulvizad_set_gap.Tie as tie
+
+returns : tie.Need-returns
+unfolding gapCall
+returns c = λ g. wrong-values _ g _ _ (c .if1 .taken)
+
+returns-2 : tie.Need-returns-2
+unfolding gapCall
+returns-2 c =
+    let given = c .before .before in
+    let done = given .before .before .before .before in
+    λ g. right-values _ g _ _ (done .before .before .if1 .left) (step-taken _ g _ _ (done .set-gap .ensures g) (given .give-answer .ensures .0) (given .give-answer .ensures .1))
+
+pub goulvizad-set-gap-spec : {M : Type 1} → statement M
+goulvizad-set-gap-spec =
+    tie.close
+    (tie.spec
+    returns (λ c κs. search needs) (λ c κs. search needs) (λ c. search needs) (λ c. search needs) returns-2)
