@@ -1,7 +1,7 @@
 /*
- * A crash in a library of four controllers, what follows from it, and readings that go out to be cited,
- * told in words. It comes across every answer, and shows two refusals and the two returns that are no
- * answers.
+ * A crash in a library of four controllers, what follows from it, readings that go out to be cited, and
+ * a ceiling on replay, told in words. It comes across every answer, and shows two refusals and the two
+ * returns that are no answers.
  *
  *     rt staticlib goulvizad
  *     cc examples/recovery.c -Iinclude -Ltarget/staticlib -lgoulvizad -o recovery
@@ -103,7 +103,7 @@ static const char *refusal(uint32_t number)
     case GOULVIZAD_MESSAGE:
         return "no such message";
     case GOULVIZAD_DEGREE:
-        return "not 1 to 8 controllers, or a degree above their number";
+        return "not 1 to 8 controllers, a degree above their number, or a gap above 64";
     case GOULVIZAD_SAME_CONTROLLER:
         return "the two controllers are equal";
     case GOULVIZAD_STATE:
@@ -173,6 +173,17 @@ static uint32_t step(const char *what, char letter, uint32_t a, uint32_t b, uint
     printf("%s: ", what);
     print_answer(answer, values);
     return answer;
+}
+
+/* Sets the gap of the house, and says what came of it. */
+static void set_gap(const char *what, uint32_t gap)
+{
+    uint32_t values[GOULVIZAD_VALUE_WORDS];
+    uint32_t answer;
+
+    answer = goulvizad_set_gap(table, GOULVIZAD_TABLE_WORDS, gap, values, GOULVIZAD_VALUE_WORDS);
+    printf("%s: ", what);
+    print_answer(answer, values);
 }
 
 /* The drive works on from two messages that it hasn't written to stable storage. */
@@ -258,6 +269,16 @@ static void publish(void)
     step("drive crashes", 'X', DRIVE, 0, 0);
 }
 
+/* That crash replayed four intervals. A gap has the next one checkpointed as it begins. */
+static void bound_replay(void)
+{
+    set_gap("set a gap of 2", 2);
+    step("bench sends 5 to drive", 'S', BENCH, DRIVE, 5);
+    step("release 12", 'R', 12, 0, 0);
+    step("deliver 12", 'D', 12, 0, 0);
+    step("drive crashes", 'X', DRIVE, 0, 0);
+}
+
 /* The ledger for the printed filmography, in the order of publishing. */
 static void cite(void)
 {
@@ -291,6 +312,7 @@ int main(void)
     work();
     crash();
     publish();
+    bound_replay();
     cite();
     no_steps();
     return 0;

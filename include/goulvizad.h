@@ -1,7 +1,8 @@
 /*
- * The house recovery machine: one step function over a lent table and a lent ledger. README.md says what
- * it is for, examples/recovery.c shows a crash, all that follows, and two readings that go out,
- * docs/GUIDE.md leads through the rules, and crates/rules/specs has them.
+ * The house recovery machine: one step function over a lent table and a lent ledger, and a step beside
+ * it that sets the gap. README.md says what it is for, examples/recovery.c shows a crash, all that
+ * follows, two readings that go out, and a gap, docs/GUIDE.md leads through the rules, and
+ * crates/rules/specs has them.
  *
  * The caller owns both buffers and lends them for one call at a time. All that the machine knows stands
  * in them; nothing is kept between calls.
@@ -10,8 +11,9 @@
  * - each pointer is to as many words, aligned for uint32_t, as the length beside it says; with length 0
  *   it may be null;
  * - the table, the ledger and the value buffer must not overlap;
- * - nobody else writes the table or the ledger, nor reads them during goulvizad_step. Different houses,
- *   each with a table, a ledger and a value buffer of its own, may be used from several threads at once.
+ * - nobody else writes the table or the ledger, nor reads them during goulvizad_step, nor the table
+ *   during goulvizad_set_gap. Different houses, each with a table, a ledger and a value buffer of its
+ *   own, may be used from several threads at once.
  *
  * A table and its ledger that are saved or moved between calls are the same house. They belong together
  * and are saved together, as the same step left them. A ledger that is older than its table lacks what
@@ -70,6 +72,22 @@ extern "C" {
  */
 
 /*
+ * The gap, a ceiling on replay. After a crash or a rollback a controller replays from the latest
+ * checkpoint that it keeps; `replayed` is how many numbers the newest interval kept stands above it. The
+ * gap Q, 0 to 64, is one for the whole house. 0 means off, and an 'O' that is done makes it 0. No letter
+ * sets it, but goulvizad_set_gap; word 11 of the table has it.
+ *
+ * A new interval, of a delivery or the first one after a crash or a rollback, that would stand Q or more
+ * numbers above the latest checkpoint of its controller is checkpointed as it begins. As with 'C' this
+ * logs all before it and itself, and the answer to the step is the same.
+ *
+ * So the longest restart is known beforehand: in a house where the first step after 'O' set the gap to
+ * at least 1 and it was never 0 again, and whose table only steps have written, `replayed` is below the
+ * largest gap set so far. Where the gap was set later, or was 0 in between, nothing is promised: what
+ * began while it was off may stand any number above its checkpoint.
+ */
+
+/*
  * The desk and the ledger. A message to GOULVIZAD_DESK is held until nobody could revoke it, whatever
  * the degree of its sender: its release answers GOULVIZAD_RELEASED with mask 0, or GOULVIZAD_HELD with
  * those who could. If the work that it was sent from is lost or undone meanwhile, it is dropped. Once it
@@ -86,17 +104,18 @@ extern "C" {
  * All words past the last pair are 0. An 'O' that is done makes every word 0, and an 'R' that publishes
  * appends a pair; nothing else writes the ledger, and the caller mustn't either. Every 'R', whatever the
  * receiver of its message, looks at the count and at the words past the last pair. No step looks at the
- * pairs themselves: one that somebody else has put there is not found out. The other eight steps don't
- * look at the ledger at all, and take one of any length and content, null with length 0 too.
+ * pairs themselves: one that somebody else has put there is not found out. The other eight letters don't
+ * look at the ledger at all, and take one of any length and content, null with length 0 too. The step
+ * that sets the gap has none.
  */
 
 /*
- * What goulvizad_step returns, and the values that it writes. Zeros follow them, up to the sixth word.
- * A mask has 2 to the power c for each controller c that it names. Kept is the highest number that is
- * kept.
+ * What goulvizad_step and goulvizad_set_gap return, and the values that they write. Zeros follow them,
+ * up to the sixth word. A mask has 2 to the power c for each controller c that it names. Kept is the
+ * highest number that is kept.
  */
 enum {
-    GOULVIZAD_DONE = 0,      /* no values: to O, K, L, C and T */
+    GOULVIZAD_DONE = 0,      /* no values: to O, K, L, C and T, and to the gap */
     GOULVIZAD_SENT = 1,      /* message: the number given to it */
     GOULVIZAD_RELEASED = 2,  /* message, mask: let out; who could still revoke it, nobody at the desk */
     GOULVIZAD_HELD = 3,      /* message, mask: kept back; who could revoke it, more than the degree, or
@@ -135,7 +154,7 @@ enum {
     /* The caller naming things: */
     GOULVIZAD_CONTROLLER = 3,      /* a controller not below n; a receiver may be GOULVIZAD_DESK */
     GOULVIZAD_MESSAGE = 4,         /* message number 0, or above the messages sent */
-    GOULVIZAD_DEGREE = 5,          /* n not 1 to 8, or a degree above n */
+    GOULVIZAD_DEGREE = 5,          /* n not 1 to 8, a degree above n, or a gap above 64 */
     GOULVIZAD_SAME_CONTROLLER = 6, /* the two controllers of S or T are equal */
 
     /* The order of steps: */
@@ -165,6 +184,13 @@ uint32_t goulvizad_step(uint32_t *table, size_t table_words, uint32_t *ledger, s
 
 /* 1 where the table has GOULVIZAD_TABLE_WORDS words and is in form, else 0. Writes nothing. */
 uint32_t goulvizad_in_form(const uint32_t *table, size_t table_words);
+
+/*
+ * The step that sets the gap, on a table of any length and content. Returns GOULVIZAD_DONE;
+ * GOULVIZAD_REFUSED, by GOULVIZAD_LENGTH, GOULVIZAD_FORM or GOULVIZAD_DEGREE; or GOULVIZAD_WRONG_VALUES.
+ */
+uint32_t goulvizad_set_gap(uint32_t *table, size_t table_words, uint32_t gap, uint32_t *values,
+                           size_t values_words);
 
 #ifdef __cplusplus
 }

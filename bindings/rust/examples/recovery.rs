@@ -1,6 +1,6 @@
-//! A crash in a library of four controllers, what follows from it, and readings that go out to be cited,
-//! told in words: `examples/recovery.c` in Rust. There a caller can also ask for what is no step; here
-//! it can't.
+//! A crash in a library of four controllers, what follows from it, readings that go out to be cited, and
+//! a ceiling on replay, told in words: `examples/recovery.c` in Rust. There a caller can also ask for what
+//! is no step; here it can't.
 //!
 //!     rt staticlib goulvizad
 //!     cargo run --example recovery
@@ -94,6 +94,16 @@ impl Story {
     /// Does a step and says what came of it.
     fn step(&mut self, what: &str, step: Step) -> Told {
         let answer = self.table.step(step);
+        self.say(what, answer)
+    }
+
+    /// Sets the gap of the house, and says what came of it.
+    fn set_gap(&mut self, gap: u32) -> Told {
+        let answer = self.table.set_gap(gap).map(|()| Answer::Done);
+        self.say(&format!("set a gap of {gap}"), answer)
+    }
+
+    fn say(&mut self, what: &str, answer: Told) -> Told {
         let told = answer.map_or_else(
             |refusal| format!("refused {}, {refusal}", refusal.number()),
             told,
@@ -231,6 +241,16 @@ fn publish(story: &mut Story) -> Result<(), Refusal> {
     Ok(())
 }
 
+/// That crash replayed four intervals. A gap has the next one checkpointed as it begins.
+fn bound_replay(story: &mut Story) -> Result<(), Refusal> {
+    story.set_gap(2)?;
+    story.send(BENCH, DRIVE, 5)?;
+    story.release(12)?;
+    story.deliver(12)?;
+    story.crash(DRIVE)?;
+    Ok(())
+}
+
 /// The ledger for the printed filmography, in the order of publishing.
 fn cite(story: &mut Story) {
     for Citation { message, payload } in story.table.citations() {
@@ -245,6 +265,7 @@ fn tell() -> Result<String, Refusal> {
     work(&mut story)?;
     crash(&mut story)?;
     publish(&mut story)?;
+    bound_replay(&mut story)?;
     cite(&mut story);
     Ok(story.text)
 }

@@ -6,7 +6,7 @@ use crate::Refusal;
 /// The answer to a step that is not refused.
 #[derive(Clone, Copy, Debug, PartialEq, Eq, Hash)]
 pub enum Answer {
-    /// To an opening, a degree set, a log, a checkpoint and a telling.
+    /// To an opening, a degree set, a log, a checkpoint and a telling; a gap set has no other.
     Done,
     /// The message is held.
     Sent {

@@ -2,7 +2,7 @@
 //! by the C interface of its static library (`include/goulvizad.h`).
 //!
 //! A [`Table`] is a house that owns its words and its ledger. Words that live elsewhere, as in a mapped
-//! file, are lent to [`step`] for one step at a time. A [`Step`] has an [`Answer`] or a [`Refusal`],
+//! file, are lent to [`step()`] or [`set_gap()`] for one step at a time. A [`Step`] has an [`Answer`] or a [`Refusal`],
 //! which changes no word. Nothing is kept between calls, and different houses may be used from several
 //! threads at once.
 //!
@@ -60,6 +60,31 @@
 //! assert!(table.citations().eq([Citation { message: 2, payload: 24 }]));
 //! # Ok::<(), Refusal>(())
 //! ```
+//!
+//! How much a crash or a rollback has to replay can be known beforehand: a house whose first step after its
+//! opening sets the gap to at least 1 ([`Table::set_gap`]), and in which the gap is never 0 again, replays
+//! less than the largest gap set so far.
+//!
+//! ```
+//! use goulvizad::{Answer, Refusal, Step, Table};
+//!
+//! const ARM: u32 = 0;
+//! const DRIVE: u32 = 1;
+//!
+//! let mut table = Table::new();
+//! table.step(Step::Open { n: 2, degree: 2 })?;
+//! table.set_gap(2)?;
+//! for message in 1..=4 {
+//!     table.step(Step::Send { sender: ARM, receiver: DRIVE, payload: message })?;
+//!     table.step(Step::Release { message })?;
+//!     table.step(Step::Deliver { message })?;
+//! }
+//!
+//! // The second and the fourth delivery were checkpoints, and nobody had to ask for them.
+//! let crashed = table.step(Step::Crash { controller: DRIVE })?;
+//! assert!(matches!(crashed, Answer::Crashed { kept: 5, lost: 0, replayed: 0, .. }));
+//! # Ok::<(), Refusal>(())
+//! ```
 
 #![deny(missing_docs)]
 
@@ -102,6 +127,33 @@ pub fn step(words: &mut [u32], ledger: &mut [u32], step: Step) -> Result<Answer,
     let number = raw::call(words, ledger, letter.into(), numbers, &mut values);
     answer::read(number, values)
         .unwrap_or_else(|| panic!("no answer to {step:?}: {number} with {values:?}"))
+}
+
+/// Sets the gap of the house in the lent words, 0 to 64: how many numbers above its latest checkpoint a
+/// controller's new interval is checkpointed as it begins, which logs all before it. 0 turns it off, as
+/// every opening does. Intervals that have begun are left as they are. No ledger is looked at.
+///
+/// ```
+/// use goulvizad::{set_gap, step, Answer, Refusal, Step, LEDGER_WORDS, TABLE_WORDS};
+///
+/// let (mut words, mut ledger) = (vec![0; TABLE_WORDS], [0; LEDGER_WORDS]);
+/// assert_eq!(set_gap(&mut words, 3), Err(Refusal::Form));
+/// let open = Step::Open { n: 3, degree: 1 };
+/// assert_eq!(step(&mut words, &mut ledger, open), Ok(Answer::Done));
+/// assert_eq!(set_gap(&mut words, 3), Ok(()));
+/// assert_eq!(set_gap(&mut words, 65), Err(Refusal::Degree));
+/// ```
+///
+/// # Panics
+/// If what comes back is no answer: the linked library is of another version then.
+pub fn set_gap(words: &mut [u32], gap: u32) -> Result<(), Refusal> {
+    let mut values = [u32::MAX; raw::VALUE_WORDS];
+    let number = raw::set_gap(words, gap, &mut values);
+    match answer::read(number, values) {
+        Some(Ok(Answer::Done)) => Ok(()),
+        Some(Err(refusal)) => Err(refusal),
+        _ => panic!("no answer to a gap of {gap}: {number} with {values:?}"),
+    }
 }
 
 /// Whether these are [`TABLE_WORDS`] words, and in form as a house is: each in its range, and all that

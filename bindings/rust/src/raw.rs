@@ -1,5 +1,6 @@
-//! The C interface as it is, numbers in and numbers out. Both functions are safe, since a slice
-//! carries its length; [`step`](crate::step()) and [`in_form`](crate::in_form()) stand on them.
+//! The C interface as it is, numbers in and numbers out. All functions are safe, since a slice carries its
+//! length; [`step`](crate::step()), [`set_gap`](crate::set_gap()) and [`in_form`](crate::in_form()) stand on
+//! them.
 
 /// The words of a table.
 pub const TABLE_WORDS: usize = 15_152;
@@ -13,7 +14,7 @@ pub const VALUE_WORDS: usize = 6;
 /// What [`in_form`] returns for a table in form; otherwise it is 0.
 pub const FORMED: u32 = 1;
 
-/// What [`call`] returns, by the names of the header, and the values that it writes.
+/// What [`call`] and [`set_gap`] return, by the names of the header, and the values that they write.
 pub mod returned {
     /// No values.
     pub const DONE: u32 = 0;
@@ -60,6 +61,13 @@ extern "C" {
         values_words: usize,
     ) -> u32;
     fn goulvizad_in_form(table: *const u32, table_words: usize) -> u32;
+    fn goulvizad_set_gap(
+        table: *mut u32,
+        table_words: usize,
+        gap: u32,
+        values: *mut u32,
+        values_words: usize,
+    ) -> u32;
 }
 
 /// One call with any letter, any numbers and buffers of any length: what it returns is in
@@ -97,6 +105,23 @@ pub fn call(
             b,
             c,
             d,
+            values.as_mut_ptr(),
+            values.len(),
+        )
+    }
+}
+
+/// Sets the gap of a table: [`DONE`](returned::DONE), [`REFUSED`](returned::REFUSED) or
+/// [`WRONG_VALUES`](returned::WRONG_VALUES). It takes no ledger.
+pub fn set_gap(table: &mut [u32], gap: u32, values: &mut [u32]) -> u32 {
+    // SAFETY: as in `call`: the pointers come with the lengths of their slices, which are borrowed
+    // mutably until the call returns. It keeps no pointer.
+    #[allow(unsafe_code)]
+    unsafe {
+        goulvizad_set_gap(
+            table.as_mut_ptr(),
+            table.len(),
+            gap,
             values.as_mut_ptr(),
             values.len(),
         )
@@ -193,6 +218,28 @@ mod tests {
         assert_eq!(without(b'T'), (returned::DONE, 0));
         assert_eq!(without(b'X'), (returned::CRASHED, 1));
         assert_eq!(without(b'H'), refused(Refusal::NoSuchCrash));
+    }
+
+    /// A gap of 3, set with buffers that may be null.
+    fn gap_of_3(table: Lent, values: Lent) -> u32 {
+        let (table, table_words) = parts(table);
+        let (values, values_words) = parts(values);
+        // SAFETY: as in `lent`.
+        #[allow(unsafe_code)]
+        unsafe {
+            goulvizad_set_gap(table, table_words, 3, values, values_words)
+        }
+    }
+
+    #[test]
+    fn a_gap_takes_null_buffers_of_no_words() {
+        let mut table = vec![UNTOUCHED; TABLE_WORDS];
+        let mut values = [UNTOUCHED; VALUE_WORDS];
+        assert_eq!(gap_of_3(None, None), returned::WRONG_VALUES);
+        assert_eq!(gap_of_3(Some(&mut table), None), returned::WRONG_VALUES);
+        assert!(table.iter().all(|&word| word == UNTOUCHED));
+        assert_eq!(gap_of_3(None, Some(&mut values)), returned::REFUSED);
+        assert_eq!(values, [Refusal::Length.number(), 0, 0, 0, 0, 0]);
     }
 
     #[test]

@@ -20,7 +20,7 @@ pub enum Refusal {
     Controller = 3,
     /// The message number is 0, or above the messages sent.
     Message = 4,
-    /// The controllers aren't 1 to 8, or a degree is above their number.
+    /// The controllers aren't 1 to 8, a degree is above their number, or a gap is above 64.
     Degree = 5,
     /// The two controllers of a sending or a telling are equal.
     SameController = 6,
@@ -86,7 +86,9 @@ impl Display for Refusal {
             Refusal::Ledger => "the ledger has another length or is not in order",
             Refusal::Controller => "no such controller",
             Refusal::Message => "no such message",
-            Refusal::Degree => "not 1 to 8 controllers, or a degree above their number",
+            Refusal::Degree => {
+                "not 1 to 8 controllers, a degree above their number, or a gap above 64"
+            }
             Refusal::SameController => "the two controllers are equal",
             Refusal::State => "the message is not held, or not released",
             Refusal::LogCount => "not so many intervals to log, or none asked for",

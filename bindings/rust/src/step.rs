@@ -1,4 +1,4 @@
-//! The ten steps, and what the C interface is given for each.
+//! The ten steps that have a letter, and what the C interface is given for each.
 
 /// The receiver that is no controller: the desk, where readings leave the house. It is the same
 /// however many controllers there are.

@@ -56,6 +56,11 @@ impl Table {
         crate::step(&mut self.words[..], &mut self.ledger[..], step)
     }
 
+    /// Sets the gap, as [`set_gap`](crate::set_gap()) does on lent words.
+    pub fn set_gap(&mut self, gap: u32) -> Result<(), Refusal> {
+        crate::set_gap(&mut self.words[..], gap)
+    }
+
     /// Whether a house is in the words: true after an opening and the steps that follow it.
     pub fn is_in_form(&self) -> bool {
         in_form(&self.words[..])

@@ -47,11 +47,13 @@ const DEFINED: [(&str, u32); 4] = [
 ];
 
 /// The calls that `raw.rs` declares.
-const CALLS: [&str; 2] = [
+const CALLS: [&str; 3] = [
     "uint32_t goulvizad_step(uint32_t *table, size_t table_words, uint32_t *ledger, \
      size_t ledger_words, uint32_t letter, uint32_t a, uint32_t b, uint32_t c, uint32_t d, \
      uint32_t *values, size_t values_words)",
     "uint32_t goulvizad_in_form(const uint32_t *table, size_t table_words)",
+    "uint32_t goulvizad_set_gap(uint32_t *table, size_t table_words, uint32_t gap, \
+     uint32_t *values, size_t values_words)",
 ];
 
 /// One step of each kind, with its numbers in the order of the names that the header has for them.

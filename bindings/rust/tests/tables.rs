@@ -106,6 +106,58 @@ fn lent_words_are_the_same_house() {
     assert_eq!(cut, Err(Refusal::Length));
 }
 
+/// The position of the gap in the words.
+const GAP: usize = 11;
+
+#[test]
+fn a_gap_is_kept_with_the_house() {
+    let mut table = working();
+    assert_eq!(table.set_gap(65), Err(Refusal::Degree));
+    assert_eq!(table, working());
+    assert_eq!(table.set_gap(2), Ok(()));
+    assert_eq!(table.words()[GAP], 2);
+    let restored = Table::restore(table.words(), table.ledger()).expect("a house");
+    assert_eq!(table, restored);
+    let (mut words, mut ledger) = (table.words().to_vec(), *table.ledger());
+    assert_eq!(goulvizad::set_gap(&mut words, 0), Ok(()));
+    assert_eq!(words, working().words());
+    assert_eq!(goulvizad::set_gap(&mut words[1..], 0), Err(Refusal::Length));
+    // Only an opening mends a gap that is too wide.
+    words[GAP] = 65;
+    assert_eq!(goulvizad::set_gap(&mut words, 3), Err(Refusal::Form));
+    assert_eq!(Table::restore(&words, &ledger), Err(Refusal::Form));
+    let open = Step::Open { n: 2, degree: 2 };
+    assert_eq!(step(&mut words, &mut ledger, open), Ok(Answer::Done));
+    assert_eq!(words[GAP], 0);
+}
+
+/// The next interval stands two above the only checkpoint: it is another one, and nothing is lost.
+#[test]
+fn a_gap_takes_checkpoints() {
+    let mut table = working();
+    assert_eq!(table.set_gap(2), Ok(()));
+    let sending = Step::Send {
+        sender: 0,
+        receiver: 1,
+        payload: 0,
+    };
+    for step in [
+        sending,
+        Step::Release { message: 3 },
+        Step::Deliver { message: 3 },
+    ] {
+        assert!(table.step(step).is_ok());
+    }
+    let crashed = Answer::Crashed {
+        controller: 1,
+        incarnation: 0,
+        kept: 3,
+        lost: 0,
+        replayed: 0,
+    };
+    assert_eq!(table.step(CRASH), Ok(crashed));
+}
+
 /// A reading for the desk.
 fn reading(sender: u32, payload: u32) -> Step {
     Step::Send {
