@@ -10,10 +10,15 @@
 //!
 //! The ledger is judged with it, where its words are shown: in a house just opened it has the messages
 //! that the list's releases let out to the desk, in their order, with the payloads of their sends.
+//!
+//! And so is the ceiling on replay, by what the answers say of it.
 
-use crate::history::{History, IntervalId, Unreadable};
+mod ceiling;
+
+use crate::history::{History, IntervalId, Misreading, Unreadable};
 use crate::ledger;
 use crate::machine::{Answer, Command};
+use ceiling::Ceiling;
 
 /// Where demand 3 doesn't hold. Positions count the steps of the list from 0.
 #[derive(Clone, Copy, Debug, PartialEq, Eq)]
@@ -67,6 +72,15 @@ pub enum Breach {
         /// The first position after those steps.
         position: usize,
     },
+    /// A crash or a rollback replayed more than the gaps set since the opening allow.
+    AboveCeiling {
+        /// The crash or the hearing.
+        position: usize,
+        /// How many intervals it replayed.
+        replayed: u32,
+        /// The ceiling.
+        most: u32,
+    },
     /// The history has no sentence for this answer. No claim of demand 3 but the ground of all.
     Unreadable {
         /// The step.
@@ -89,7 +103,9 @@ pub fn check(list: &[(Command, Answer)]) -> Vec<Breach> {
 /// A judge who is told the steps one by one.
 #[derive(Debug, Default)]
 pub struct Judge {
+    misreading: Misreading,
     position: usize,
+    ceiling: Ceiling,
     history: Option<History>,
     releases: Vec<Release>,
     breaches: Vec<Breach>,
@@ -105,6 +121,14 @@ struct Release {
 }
 
 impl Judge {
+    /// A judge who misreads the steps.
+    pub fn misreading(misreading: Misreading) -> Self {
+        Judge {
+            misreading,
+            ..Judge::default()
+        }
+    }
+
     /// The history of the house since the latest opening, if there was one.
     pub fn history(&self) -> Option<&History> {
         self.history.as_ref()
@@ -117,6 +141,11 @@ impl Judge {
         history.map_or_else(|| ledger::words_of(&[]), History::ledger)
     }
 
+    /// The most that the next crash or rollback may replay, if anything is claimed of it.
+    pub fn ceiling(&self) -> Option<u32> {
+        self.ceiling.most()
+    }
+
     /// Looks at the ledger that the steps so far have left.
     pub fn see_ledger(&mut self, words: &[u32]) {
         if self.history.is_some() && self.ledger() != words {
@@ -127,6 +156,8 @@ impl Judge {
 
     /// Takes the next step with its answer.
     pub fn feed(&mut self, command: Command, answer: Answer) {
+        self.ceiling.feed(self.misreading, command, answer);
+        self.judge_replay(answer);
         let read = match (command, answer) {
             (Command::Open { .. }, Answer::Refused { .. }) => Ok(()),
             (Command::Open { n, degree }, _) => self.open(n, degree, answer),
@@ -151,7 +182,8 @@ impl Judge {
             return Err(Unreadable);
         }
         self.end_list();
-        self.history = Some(History::open(n, degree)?);
+        self.history = Some(History::open(n, degree, self.misreading)?);
+        self.ceiling = Ceiling::Opened;
         Ok(())
     }
 
@@ -178,6 +210,20 @@ impl Judge {
             _ => history.feed(command, answer)?,
         }
         Ok(())
+    }
+
+    /// What a crash or a rollback says of its replay is held to the ceiling, if there is one.
+    fn judge_replay(&mut self, answer: Answer) {
+        let (Answer::Crashed { replayed, .. } | Answer::Rolled { replayed, .. }) = answer else {
+            return;
+        };
+        if let Some(most) = self.ceiling.most().filter(|&most| replayed > most) {
+            self.breaches.push(Breach::AboveCeiling {
+                position: self.position,
+                replayed,
+                most,
+            });
+        }
     }
 
     /// "A hearing is judged by the intervals live just before it and the crashes its controller has
@@ -251,6 +297,7 @@ impl Judge {
     /// The claims that only the end of a list can settle.
     fn end_list(&mut self) {
         let releases = std::mem::take(&mut self.releases);
+        self.ceiling = Ceiling::default();
         let Some(history) = self.history.take() else {
             return;
         };

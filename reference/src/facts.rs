@@ -4,6 +4,7 @@
 //! the two meet.
 
 use crate::history::{Controller, Crash, History, Interval, IntervalId};
+use crate::machine::Answer;
 use crate::table::{in_form, state, Table, CONTROLLERS, INCARNATIONS};
 use crate::vector::{Pair, Row, Vector};
 use std::array;
@@ -29,6 +30,29 @@ pub fn check(words: &[u32], ledger: &[u32], history: &History) -> Result<(), &'s
     broken.map_or(Ok(()), |&(name, _)| Err(name))
 }
 
+/// Whether an answer says of its replay what the history before its step does: "k minus the highest
+/// flagged number on the chain that is at most k".
+pub fn replayed_agrees(history: &History, answer: Answer) -> bool {
+    let (Answer::Crashed {
+        controller,
+        kept,
+        replayed,
+        ..
+    }
+    | Answer::Rolled {
+        controller,
+        kept,
+        replayed,
+        ..
+    }) = answer
+    else {
+        return true;
+    };
+    let named = (controller as usize) < history.controllers().len();
+    let latest = named.then(|| history.latest_flagged(controller as usize, kept));
+    latest.flatten().map(|latest| kept - latest) == Some(replayed)
+}
+
 /// A table in form beside the history of its house, with the same number of controllers.
 struct Facts<'a> {
     table: Table<&'a [u32]>,
@@ -42,7 +66,8 @@ struct Facts<'a> {
 type Fact<'a> = (&'static str, fn(&Facts<'a>) -> bool);
 
 impl<'a> Facts<'a> {
-    const ALL: [Fact<'a>; 15] = [
+    const ALL: [Fact<'a>; 17] = [
+        ("the gaps agree", Self::gaps_agree),
         ("the chains agree", Self::chains_agree),
         ("the messages agree", Self::messages_agree),
         (
@@ -57,6 +82,7 @@ impl<'a> Facts<'a> {
             "what isn't stable is of this incarnation",
             Self::volatile_is_present,
         ),
+        ("what is flagged is stable", Self::flagged_is_stable),
         ("what is known stable is stable", Self::known_is_stable),
         ("the end words are the crashes heard", Self::ends_are_heard),
         (
@@ -88,7 +114,12 @@ impl Facts<'_> {
         &self.history.intervals()[id]
     }
 
-    /// A chain is the live places, and its place p is stable exactly when p is below the stable count.
+    fn gaps_agree(&self) -> bool {
+        self.table.gap() == self.history.gap()
+    }
+
+    /// A chain is the live places, with their flags, and its place p is stable exactly when p is below the
+    /// stable count.
     fn chains_agree(&self) -> bool {
         self.controllers().all(|(c, controller)| {
             let counts = self.table.controller(c);
@@ -99,7 +130,10 @@ impl Facts<'_> {
                     let record = self.table.place(c, place);
                     let name = Pair::new(record.incarnation, record.number);
                     let stable = place < counts.stable as usize;
-                    name == name_of(self.interval(id)) && stable == self.interval(id).stable
+                    let interval = self.interval(id);
+                    name == name_of(interval)
+                        && stable == interval.stable
+                        && (record.flag == 1) == interval.flagged
                 })
         })
     }
@@ -150,6 +184,12 @@ impl Facts<'_> {
             (counts.stable.min(counts.live - 1)..counts.live)
                 .all(|place| self.table.place(c, place as usize).incarnation == counts.incarnation)
         })
+    }
+
+    /// A checkpoint logs all up to it, whether it was asked for or forced.
+    fn flagged_is_stable(&self) -> bool {
+        let mut intervals = self.history.intervals().iter();
+        intervals.all(|interval| interval.stable || !interval.flagged)
     }
 
     /// Nobody knows more of an owner than itself, and what it knows of itself is stable.

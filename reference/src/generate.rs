@@ -1,6 +1,7 @@
 //! Random lists of steps, lent tables and ledgers, and scripts, all from a seed.
 
 mod choose;
+mod gaps;
 mod ledgers;
 mod lists;
 mod named;
@@ -9,6 +10,7 @@ mod random;
 mod scripts;
 mod tables;
 
+pub use gaps::{damaged_gap, gap, gapped_table};
 pub use ledgers::{damaged_ledger, sound_ledger};
 pub use lists::{senseless, Walk};
 pub use named::named;

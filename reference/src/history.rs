@@ -3,8 +3,11 @@
 //!
 //! There are no vectors here. What an interval rests on is kept as the plain set of intervals.
 
+mod fits;
+mod misreading;
 mod set;
 
+pub use misreading::Misreading;
 pub use set::{IntervalId, IntervalSet};
 
 use crate::ledger::{self, Entry};
@@ -35,6 +38,8 @@ pub struct Interval {
     pub rests_on: IntervalSet,
     /// "*Stable* means once written to stable storage."
     pub stable: bool,
+    /// Whether a checkpoint was taken in it.
+    pub flagged: bool,
     /// The crash it was lost in, if any.
     pub lost_in: Option<Crash>,
 }
@@ -71,6 +76,8 @@ pub struct Unreadable;
 /// All that happened in a house since its opening.
 #[derive(Clone, Debug)]
 pub struct History {
+    misreading: Misreading,
+    gap: u32,
     controllers: Vec<Controller>,
     messages: BTreeMap<u32, Message>,
     intervals: Vec<Interval>,
@@ -79,6 +86,11 @@ pub struct History {
 
 /// Reading.
 impl History {
+    /// The gap Q.
+    pub fn gap(&self) -> u32 {
+        self.gap
+    }
+
     /// The controllers, in order.
     pub fn controllers(&self) -> &[Controller] {
         &self.controllers
@@ -109,6 +121,14 @@ impl History {
         ledger::words_of(&entries.collect::<Vec<_>>())
     }
 
+    /// The highest number at most the given one of a controller's live intervals that are flagged.
+    pub fn latest_flagged(&self, controller: usize, most: u32) -> Option<u32> {
+        let chain = self.controllers[controller].chain.iter().rev();
+        let live = chain.map(|&id| &self.intervals[id]);
+        let mut flagged = live.filter(|interval| interval.flagged && interval.number <= most);
+        flagged.next().map(|interval| interval.number)
+    }
+
     /// Those of the given intervals that rest on one lost in a crash that the controller has heard:
     /// its orphans, as far as it can know.
     pub fn orphans(&self, controller: usize, among: &[IntervalId]) -> Vec<IntervalId> {
@@ -129,13 +149,16 @@ impl History {
 
 /// Feeding.
 impl History {
-    /// "O: each chain is (0,1), stable, resting on itself; all degrees are k."
-    pub fn open(n: u32, degree: u32) -> Result<Self, Unreadable> {
+    /// "O: each chain is (0,1), stable, resting on itself; all degrees are k." It is flagged, and the gap
+    /// is off. What is misread from here on is nothing but in tests.
+    pub fn open(n: u32, degree: u32, misreading: Misreading) -> Result<Self, Unreadable> {
         let n = usize::try_from(n).map_err(|_| Unreadable)?;
         if !(1..=CONTROLLERS).contains(&n) {
             return Err(Unreadable);
         }
         let mut history = History {
+            misreading,
+            gap: 0,
             controllers: Vec::new(),
             messages: BTreeMap::new(),
             intervals: Vec::new(),
@@ -149,6 +172,7 @@ impl History {
                 heard: BTreeSet::new(),
             });
             history.join(owner, 1, true, IntervalSet::default());
+            history.flag_newest(owner);
         }
         Ok(history)
     }
@@ -156,7 +180,7 @@ impl History {
     /// "The history is fed each step, in order, with its numbers and its answer." An opening that was
     /// done is the beginning of another history, and unreadable here.
     pub fn feed(&mut self, command: Command, answer: Answer) -> Result<(), Unreadable> {
-        if !fits(command, answer) {
+        if !fits::fits(command, answer) {
             return Err(Unreadable);
         }
         match (command, answer) {
@@ -174,8 +198,7 @@ impl History {
             (Command::Release { message }, Answer::Released { .. }) => self.release(message),
             (Command::Deliver { message }, Answer::Delivered { .. }) => self.deliver(message),
             (Command::Log { controller, count }, _) => self.log(controller, count as usize),
-            // "C: all of them do."
-            (Command::Checkpoint { controller }, _) => self.log(controller, usize::MAX),
+            (Command::Checkpoint { controller }, _) => self.checkpoint(controller),
             (Command::Crash { controller }, _) => self.crash(controller),
             (
                 Command::Hear {
@@ -185,6 +208,10 @@ impl History {
                 },
                 answer,
             ) => self.hear(hearer, crashed, incarnation, answer),
+            (Command::SetGap { gap }, _) => {
+                self.gap = gap;
+                Ok(())
+            }
             _ => Ok(()),
         }
     }
@@ -247,7 +274,7 @@ impl History {
         let mut rests_on = before.rests_on.clone();
         rests_on.extend_from(&self.intervals[sent.sending_interval].rests_on);
         self.join(receiver, number, false, rests_on);
-        Ok(())
+        self.keep_to_the_gap(receiver)
     }
 
     /// "L: the q oldest live ones of c not yet stable become stable."
@@ -261,6 +288,38 @@ impl History {
         for id in self.volatile(c).into_iter().take(count) {
             self.intervals[id].stable = true;
         }
+    }
+
+    /// "C: all of them do." The newest is flagged.
+    fn checkpoint(&mut self, controller: u32) -> Result<(), Unreadable> {
+        let c = self.controller(controller)?;
+        self.make_stable(c, usize::MAX);
+        self.flag_newest(c);
+        Ok(())
+    }
+
+    fn flag_newest(&mut self, c: usize) {
+        if let Some(&newest) = self.controllers[c].chain.last() {
+            self.intervals[newest].flagged = true;
+        }
+    }
+
+    /// "When a new interval of any cause would stand Q or more numbers above the latest flagged one on
+    /// its chain, it is checkpointed as it begins, which logs all before it. .. Forced checkpoints, with
+    /// all that they log, count as stable for all rules, the history's too."
+    fn keep_to_the_gap(&mut self, c: usize) -> Result<(), Unreadable> {
+        let newest = self.intervals[self.newest(c)?].number;
+        let latest = self.latest_flagged(c, newest - 1).ok_or(Unreadable)?;
+        if self.gap == 0 || newest - latest < self.gap {
+            return Ok(());
+        }
+        if self.misreading.makes_forced_stable() {
+            self.make_stable(c, usize::MAX);
+        }
+        if self.misreading.flags_forced() {
+            self.flag_newest(c);
+        }
+        Ok(())
     }
 
     /// The live intervals of c that are not stable, the oldest first.
@@ -320,7 +379,7 @@ impl History {
         let rests_on = left.rests_on.clone();
         self.controllers[c].incarnation += 1;
         self.join(c, number, true, rests_on);
-        Ok(())
+        self.keep_to_the_gap(c)
     }
 
     /// Begins an interval in its owner's incarnation; `rests_on` lacks only the interval itself.
@@ -335,38 +394,8 @@ impl History {
             number,
             rests_on,
             stable,
+            flagged: false,
             lost_in: None,
         });
-    }
-}
-
-/// Whether the answer is one that this step gives, and speaks of what the step named.
-fn fits(command: Command, answer: Answer) -> bool {
-    match (command, answer) {
-        (_, Answer::Refused { .. })
-        | (
-            Command::SetDegree { .. }
-            | Command::Log { .. }
-            | Command::Checkpoint { .. }
-            | Command::Tell { .. },
-            Answer::Done,
-        )
-        | (Command::Send { .. }, Answer::Sent { .. }) => true,
-        (
-            Command::Release { message: named },
-            Answer::Released { message, .. } | Answer::Held { message, .. },
-        )
-        | (
-            Command::Deliver { message: named },
-            Answer::Delivered { message, .. }
-            | Answer::Dropped { message }
-            | Answer::Waits { message },
-        ) => message == named,
-        (Command::Crash { controller: named }, Answer::Crashed { controller, .. })
-        | (
-            Command::Hear { hearer: named, .. },
-            Answer::Heard { controller } | Answer::Rolled { controller, .. },
-        ) => controller == named,
-        _ => false,
     }
 }

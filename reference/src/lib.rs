@@ -9,9 +9,10 @@
 //! - [`machine`]: the step function, and planted faults.
 //! - [`lines`]: the text lines of the program `house`.
 //! - [`history`]: the history of a house, read off the steps and their answers alone.
-//! - [`demand`]: demand 3, judged by that history.
+//! - [`demand`]: demand 3, the ledger and the ceiling on replay, judged by that history.
 //! - [`facts`]: what ties a table to its history after each step of the sound machine.
 //! - [`causes`]: what became of the causes of lost and undone intervals, in words.
+//! - [`forced`]: which new intervals the gap asked a checkpoint of, in words.
 //! - [`rollbacks`]: from which checkpoint a rollback replays, in words.
 //! - [`generate`]: random lists of steps, lent tables and scripts.
 //!
@@ -20,6 +21,7 @@
 pub mod causes;
 pub mod demand;
 pub mod facts;
+pub mod forced;
 pub mod generate;
 pub mod history;
 pub mod ledger;

@@ -57,9 +57,10 @@ fn number(digits: &[u8]) -> Option<u32> {
     u32::try_from(value).ok()
 }
 
-/// Writes a command as its line, without a line feed; [`parse`] reads it back.
-pub fn write(command: Command) -> String {
-    match command {
+/// Writes a command as its line, without a line feed; [`parse`] reads it back. "New steps get a line in
+/// `house` only where a request names the letter": setting the gap has none.
+pub fn write(command: Command) -> Option<String> {
+    let line = match command {
         Command::Open { n, degree } => format!("O {n} {degree}"),
         Command::SetDegree { controller, degree } => format!("K {controller} {degree}"),
         Command::Send {
@@ -78,7 +79,9 @@ pub fn write(command: Command) -> String {
             crashed,
             incarnation,
         } => format!("H {hearer} {crashed} {incarnation}"),
-    }
+        Command::SetGap { .. } => return None,
+    };
+    Some(line)
 }
 
 /// Writes an answer as its line, without a line feed.

@@ -76,12 +76,17 @@ pub enum Command {
         /// The incarnation which that crash ended.
         incarnation: u32,
     },
+    /// Set the house-wide gap Q, 0 to turn it off. The program has no line for it.
+    SetGap {
+        /// How many numbers above its latest checkpoint a controller's new interval is checkpointed.
+        gap: u32,
+    },
 }
 
 /// The answer to a step.
 #[derive(Clone, Copy, Debug, PartialEq, Eq)]
 pub enum Answer {
-    /// `done`, to O, K, L, C and T.
+    /// `done`, to O, K, L, C, T and a gap set.
     Done,
     /// `sent m`.
     Sent {

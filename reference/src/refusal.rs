@@ -20,7 +20,7 @@ pub const LEDGER: Refusal = 14;
 pub const CONTROLLER: Refusal = 3;
 /// "Message number 0 or above the messages sent."
 pub const MESSAGE: Refusal = 4;
-/// "n not 1 to 8, or a degree above n."
+/// "n not 1 to 8, or a degree above n"; and "a Q above 64 is refused with 5".
 pub const DEGREE: Refusal = 5;
 /// "The two controllers of S or T are equal."
 pub const SAME_CONTROLLER: Refusal = 6;

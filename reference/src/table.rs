@@ -31,6 +31,8 @@ pub const LAST_INCARNATION: u32 = INCARNATIONS as u32 - 1;
 pub const LAST_NUMBER: u32 = PLACES as u32;
 /// The highest message number.
 pub const LAST_MESSAGE: u32 = MESSAGES as u32;
+/// The highest gap: "Q, 0 to 64".
+pub const LAST_GAP: u32 = 64;
 
 /// "States: 0 unused, 1 held, 2 released, 3 delivered, 4 lost, 5 dropped"; and "6, published".
 pub mod state {
@@ -52,7 +54,9 @@ pub mod state {
 
 const N_AT: usize = 0;
 const SENT_AT: usize = 1;
-const RESERVED: Range<usize> = 2..16;
+const GAP_AT: usize = 11;
+/// The words of the head that have no meaning.
+const RESERVED: [Range<usize>; 2] = [2..GAP_AT, GAP_AT + 1..CONTROLLERS_AT];
 
 const CONTROLLERS_AT: usize = 16;
 const CONTROLLER_WORDS: usize = 4;
@@ -71,7 +75,7 @@ const MESSAGE_WORDS: usize = 6 + VECTOR_WORDS;
 
 // The parts stand one after the other and fill the table.
 const _: () = {
-    assert!(RESERVED.end == CONTROLLERS_AT);
+    assert!(N_AT + 1 == SENT_AT && SENT_AT + 1 == RESERVED[0].start);
     assert!(CONTROLLERS_AT + CONTROLLERS * CONTROLLER_WORDS == KNOWN_AT);
     assert!(KNOWN_AT + CONTROLLERS * ROW_WORDS == ENDS_AT);
     assert!(ENDS_AT + CONTROLLERS * ROW_WORDS == PLACES_AT);
@@ -226,9 +230,14 @@ impl<W: Deref<Target = [u32]>> Table<W> {
         self.0[SENT_AT]
     }
 
-    /// "Words 2 to 15 are 0."
-    fn reserved(&self) -> &[u32] {
-        &self.0[RESERVED]
+    /// The house-wide gap Q, "kept in word 11 of the table", 0 where it is off.
+    pub fn gap(&self) -> u32 {
+        self.0[GAP_AT]
+    }
+
+    /// "Words 2 to 15 are 0", but for the gap.
+    fn reserved(&self) -> [&[u32]; 2] {
+        RESERVED.map(|range| &self.0[range])
     }
 
     /// The counts of a controller.
@@ -291,6 +300,11 @@ impl<W: DerefMut<Target = [u32]>> Table<W> {
     /// Sets how many messages were sent.
     pub fn set_sent(&mut self, sent: u32) {
         self.0[SENT_AT] = sent;
+    }
+
+    /// Sets the gap.
+    pub fn set_gap(&mut self, gap: u32) {
+        self.0[GAP_AT] = gap;
     }
 
     /// Writes the counts of a controller.

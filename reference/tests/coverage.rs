@@ -1,11 +1,13 @@
 //! The generators reach every answer, every refusal, the limits of a house, all that becomes of the
-//! causes of lost and undone intervals, all checkpoints that a rollback goes back to, and all that becomes
-//! of messages for the desk.
+//! causes of lost and undone intervals, all checkpoints that a rollback goes back to, all that becomes of
+//! messages for the desk, and all checkpoints that the gap forces or doesn't.
 
 use reference::causes::{self, Offers};
+use reference::demand::Judge;
+use reference::forced;
 use reference::generate::{
-    damaged, damaged_ledger, in_form_table, named, senseless, sound_ledger, wrong_length, Profile,
-    Random, Walk,
+    damaged, damaged_gap, damaged_ledger, gap, gapped_table, in_form_table, named, senseless,
+    sound_ledger, wrong_length, Profile, Random, Walk,
 };
 use reference::lines;
 use reference::machine::{step, Answer, Command};
@@ -14,8 +16,11 @@ use reference::rollbacks;
 use reference::table::{state, Table, DESK};
 use std::collections::{BTreeMap, BTreeSet};
 
+/// Stands for the step that sets the gap, which has no letter.
+const SET_GAP: char = 'q';
+
 /// The answers without their numbers, but a refusal with its own and the letter of its step; and how
-/// often each case of causes, of rollbacks and of the desk came up.
+/// often each case of causes, of rollbacks, of the desk and of the gap came up.
 #[derive(Default)]
 struct Seen {
     answers: BTreeSet<String>,
@@ -23,11 +28,13 @@ struct Seen {
     causes: BTreeMap<String, u64>,
     rollbacks: BTreeMap<String, u64>,
     desk: BTreeMap<&'static str, u64>,
+    forced: BTreeMap<String, u64>,
 }
 
 impl Seen {
     fn note(&mut self, command: Command, answer: Answer) {
-        let letter = lines::write(command).chars().next();
+        let line = lines::write(command);
+        let letter = line.map_or(Some(SET_GAP), |line| line.chars().next());
         match answer {
             Answer::Refused { number } => {
                 self.refusals.extend(letter.map(|letter| (number, letter)));
@@ -50,6 +57,19 @@ impl Seen {
         if let Some(case) = case {
             *self.rollbacks.entry(case).or_default() += 1;
         }
+    }
+
+    fn note_forced(&mut self, cases: impl IntoIterator<Item = String>) {
+        for case in cases {
+            *self.forced.entry(case).or_default() += 1;
+        }
+    }
+
+    /// These cases of the gap came up, and no other.
+    fn assert_forced(&self, expected: &[&[&str]]) {
+        let expected: BTreeSet<&str> = expected.concat().into_iter().collect();
+        println!("by the gap: {:#?}", self.forced);
+        assert!(self.forced.keys().eq(expected), "{:?}", self.forced.keys());
     }
 
     /// What a step made of messages for the desk, and whether the ledger was full before it.
@@ -129,7 +149,7 @@ const ANSWERS: [&str; 10] = [
 const REFUSED: [(Refusal, &str); 11] = [
     (refusal::CONTROLLER, "CHKLSTX"),
     (refusal::MESSAGE, "DR"),
-    (refusal::DEGREE, "KO"),
+    (refusal::DEGREE, "KOq"),
     (refusal::SAME_CONTROLLER, "ST"),
     (refusal::STATE, "DR"),
     (refusal::LOG_COUNT, "L"),
@@ -151,12 +171,16 @@ fn lists_reach_everything() {
             let mut walk = Walk::new(seed, profile);
             let mut before = walk.table().to_vec();
             let mut offers = Offers::default();
+            let mut judge = Judge::default();
             while let Some((command, answer)) = walk.next() {
                 seen.note(command, answer);
                 seen.note_causes(causes::cases(&before, command, answer, walk.table()));
                 seen.note_causes(offers.feed(&before, command, answer, walk.table()));
                 seen.note_rollback(rollbacks::case(&before, answer));
                 seen.note_desk(&before, false, answer, walk.table());
+                seen.note_forced(forced::cases(&before, command, answer, walk.table()));
+                seen.note_forced(forced::beside_ceiling(judge.ceiling(), &before, answer));
+                judge.feed(command, answer);
                 before.copy_from_slice(walk.table());
                 let table = Table::new(walk.table()).expect("the right length");
                 sizes.insert(table.n());
@@ -192,6 +216,7 @@ fn lists_reach_everything() {
     assert!(seen.causes.keys().eq(&causes::IN_LISTS));
     assert!(seen.rollbacks.keys().eq(&rollbacks::CASES));
     assert!(seen.desk.keys().eq(&DESK_IN_LISTS));
+    seen.assert_forced(&[&forced::IN_LISTS, &forced::BESIDE_THE_CEILING]);
     assert_eq!((incarnation, live, sent, published), (15, 64, 128, 128));
     assert!(sizes.iter().eq(&[1, 2, 3, 4, 5, 6, 7, 8]), "{sizes:?}");
     assert!(degrees_released.into_iter().eq(0..=8));
@@ -207,14 +232,19 @@ fn lent_tables_reach_everything() {
         let mut words = match random.below(8) {
             0 => wrong_length(&mut random),
             1 => damaged(&mut random).0,
-            _ => in_form_table(&mut random),
+            2 => damaged_gap(&mut random),
+            3 => in_form_table(&mut random),
+            _ => gapped_table(&mut random),
         };
         let mut ledger = match random.below(4) {
             0 => damaged_ledger(&mut random),
             _ => sound_ledger(&mut random),
         };
         for _ in 0..10 {
-            let sensible = named(&mut random, &words);
+            let mut sensible = named(&mut random, &words);
+            sensible.push(Command::SetGap {
+                gap: gap(&mut random),
+            });
             let sensible = random.pick(&sensible).filter(|_| random.chance(50));
             let command = sensible.unwrap_or_else(|| senseless(&mut random));
             let before = words.clone();
@@ -224,6 +254,7 @@ fn lent_tables_reach_everything() {
             seen.note_causes(causes::cases(&before, command, answer, &words));
             seen.note_rollback(rollbacks::case(&before, answer));
             seen.note_desk(&before, full, answer, &words);
+            seen.note_forced(forced::cases(&before, command, answer, &words));
         }
     }
     println!(
@@ -233,9 +264,10 @@ fn lent_tables_reach_everything() {
     assert!(seen.causes.keys().eq(&causes::on_lent_tables()));
     assert!(seen.rollbacks.keys().eq(&rollbacks::CASES));
     assert!(seen.desk.keys().eq(&DESK_ON_LENT));
+    seen.assert_forced(&[&forced::IN_LISTS, &forced::ON_LENT_TOO]);
     assert!(seen.answers.iter().eq(&ANSWERS), "{:?}", seen.answers);
-    assert_eq!(seen.refused(refusal::LENGTH), "CDHKLORSTX");
-    assert_eq!(seen.refused(refusal::FORM), "CDHKLRSTX");
+    assert_eq!(seen.refused(refusal::LENGTH), "CDHKLORSTXq");
+    assert_eq!(seen.refused(refusal::FORM), "CDHKLRSTXq");
     assert_eq!(seen.refused(refusal::LEDGER), "OR");
     assert_eq!(seen.refused(refusal::LEDGER_USED_UP), "R");
     for (refusal, letters) in REFUSED {

@@ -1,107 +1,159 @@
 //! Every planted fault is found, and by which means.
 
 use reference::demand::{Breach, Judge};
+use reference::facts;
 use reference::generate::{
-    damaged, damaged_ledger, in_form_table, named, senseless, sound_ledger, Profile, Random, Walk,
+    damaged, damaged_gap, damaged_ledger, gap, gapped_table, named, senseless, sound_ledger,
+    Profile, Random, Walk,
 };
+use reference::history::Misreading;
 use reference::machine::{step, step_with, Command, Fault};
+
+/// A check, in the order of the printed table.
+#[derive(Clone, Copy, Debug, PartialEq, Eq)]
+enum By {
+    /// Demand 3 on hearings, live intervals and releases, by the steps and answers of a list alone.
+    Demand,
+    /// Its claim on what was published, by the same.
+    Published,
+    /// Its claim on the ledger, by the words of the ledger beside them.
+    Ledger,
+    /// The ceiling on replay, by the steps and answers alone.
+    Ceiling,
+    /// The history's checkpoints, by what an answer says is replayed.
+    Replayed,
+    /// The history, by answers that it can't read.
+    Unreadable,
+    /// The sound machine, by another answer, table or ledger to a step of a list.
+    Lists,
+    /// The same to a single step on a lent table and a lent ledger.
+    Lent,
+}
+
+use By::{Ceiling, Demand, Ledger, Lent, Lists, Published, Replayed, Unreadable};
+
+const CHECKS: [By; 8] = [
+    Demand, Published, Ledger, Ceiling, Replayed, Unreadable, Lists, Lent,
+];
 
 /// In how many lists, and in how many single steps, of one machine each check finds a fault.
 #[derive(Clone, Copy, Debug, Default, PartialEq, Eq)]
-struct Found {
-    /// Demand 3 on hearings, live intervals and releases, by the steps and answers of a list alone.
-    demand: usize,
-    /// Its claim on what was published, by the same.
-    published: usize,
-    /// Its claim on the ledger, by the words of the ledger beside them.
-    ledger: usize,
-    /// The history, by answers that it can't read.
-    unreadable: usize,
-    /// The sound machine, by another answer, table or ledger to a step of a list.
-    lists: usize,
-    /// The same to a single step on a lent table and a lent ledger.
-    lent: usize,
-}
-
-/// Which of the checks find a fault.
-type Means = [bool; 6];
+struct Found([usize; CHECKS.len()]);
 
 impl Found {
-    fn counts(self) -> [usize; 6] {
-        [
-            self.demand,
-            self.published,
-            self.ledger,
-            self.unreadable,
-            self.lists,
-            self.lent,
-        ]
+    fn add(&mut self, by: By, found: bool) {
+        self.0[by as usize] += usize::from(found);
     }
 
-    fn means(self) -> Means {
-        self.counts().map(|count| count > 0)
+    /// Each check counts once for a list.
+    fn add_breaches(&mut self, breaches: &[Breach]) {
+        for by in CHECKS {
+            self.add(by, breaches.iter().any(|breach| finder(breach) == by));
+        }
+    }
+
+    /// The checks that find it.
+    fn means(self) -> Vec<By> {
+        let found = |by: &By| self.0[*by as usize] > 0;
+        CHECKS.into_iter().filter(found).collect()
     }
 }
 
-const BY_DEMAND: Means = [true, false, false, false, true, true];
-const BY_DEMAND_AND_PUBLISHED: Means = [true, true, false, false, true, true];
-const BY_DEMAND_OR_UNREADABLE: Means = [true, false, false, true, true, true];
-const BY_PUBLISHED: Means = [false, true, false, false, true, true];
-const BY_LEDGER: Means = [false, false, true, false, true, true];
-const BY_LEDGER_OR_UNREADABLE: Means = [false, false, true, true, true, true];
-const BY_COMPARISON_ONLY: Means = [false, false, false, false, true, true];
-const ON_LENT_ONLY: Means = [false, false, false, false, false, true];
-
-const EXPECTED: [(Fault, Means); 36] = [
-    (Fault::LargerAcrossIncarnations, BY_DEMAND),
-    (Fault::NumbersWithoutIncarnations, BY_DEMAND_AND_PUBLISHED),
-    (Fault::StoredPairsCounted, BY_COMPARISON_ONLY),
-    (Fault::EndWordOnRollback, BY_DEMAND),
-    (Fault::KeptNotLogged, BY_DEMAND_AND_PUBLISHED),
-    (Fault::KnownNotRaised, BY_COMPARISON_ONLY),
-    (Fault::HeldKept, BY_COMPARISON_ONLY),
+/// By which checks each fault is found. One that lists show is found on what is lent, too.
+const EXPECTED: [(Fault, &[By]); Fault::PLANTED.len()] = [
+    (Fault::LargerAcrossIncarnations, &[Demand, Lists, Lent]),
+    (
+        Fault::NumbersWithoutIncarnations,
+        &[Demand, Published, Lists, Lent],
+    ),
+    (Fault::StoredPairsCounted, &[Lists, Lent]),
+    (Fault::EndWordOnRollback, &[Demand, Lists, Lent]),
+    (
+        Fault::KeptNotLogged,
+        &[Demand, Published, Replayed, Lists, Lent],
+    ),
+    (Fault::KnownNotRaised, &[Lists, Lent]),
+    (Fault::HeldKept, &[Lists, Lent]),
     // Whatever is offered again, a delivery drops what is condemned: demand 3 sees no difference.
-    (Fault::LostGiven, BY_COMPARISON_ONLY),
-    (Fault::EndsBeforeCrash, BY_COMPARISON_ONLY),
-    (Fault::CondemnedOffered, BY_COMPARISON_ONLY),
-    (Fault::RefusesAll, BY_COMPARISON_ONLY),
+    (Fault::LostGiven, &[Lists, Lent]),
+    (Fault::EndsBeforeCrash, &[Lists, Lent]),
+    (Fault::CondemnedOffered, &[Lists, Lent]),
+    (Fault::RefusesAll, &[Lists, Lent]),
     // It says that it opened, and leaves the ledger as it was.
-    (Fault::DoneToAll, BY_LEDGER_OR_UNREADABLE),
-    (Fault::WritesNoWord, BY_LEDGER),
-    (Fault::EchoesAfterFirst, BY_DEMAND),
-    (Fault::InventsLost, BY_COMPARISON_ONLY),
-    (Fault::InventsUndone, BY_COMPARISON_ONLY),
-    (Fault::InventsReplayed, BY_COMPARISON_ONLY),
-    (Fault::WaitsBeforeLooking, BY_COMPARISON_ONLY),
-    (Fault::HeldBeforeLooking, BY_COMPARISON_ONLY),
+    (Fault::DoneToAll, &[Ledger, Unreadable, Lists, Lent]),
+    (Fault::WritesNoWord, &[Ledger, Lists, Lent]),
+    (Fault::EchoesAfterFirst, &[Demand, Lists, Lent]),
+    (Fault::InventsLost, &[Lists, Lent]),
+    (Fault::InventsUndone, &[Lists, Lent]),
+    (Fault::InventsReplayed, &[Ceiling, Replayed, Lists, Lent]),
+    (Fault::WaitsBeforeLooking, &[Lists, Lent]),
+    (Fault::HeldBeforeLooking, &[Lists, Lent]),
     // It hears even controllers that the house doesn't have.
-    (Fault::HeardBeforeLooking, BY_DEMAND_OR_UNREADABLE),
-    (Fault::NeverHears, BY_COMPARISON_ONLY),
+    (
+        Fault::HeardBeforeLooking,
+        &[Demand, Unreadable, Lists, Lent],
+    ),
+    (Fault::NeverHears, &[Lists, Lent]),
     // What went out is lost or undone later.
-    (Fault::PublishedByTheDegree, BY_PUBLISHED),
-    (Fault::PublishedWithoutEntry, BY_LEDGER),
-    (Fault::LedgerWrittenOnHeld, BY_LEDGER),
-    (Fault::LedgerNotCleared, BY_LEDGER),
-    (Fault::EntryOutOfOrder, BY_LEDGER),
+    (Fault::PublishedByTheDegree, &[Published, Lists, Lent]),
+    (Fault::PublishedWithoutEntry, &[Ledger, Lists, Lent]),
+    (Fault::LedgerWrittenOnHeld, &[Ledger, Lists, Lent]),
+    (Fault::LedgerNotCleared, &[Ledger, Lists, Lent]),
+    (Fault::EntryOutOfOrder, &[Ledger, Lists, Lent]),
     // From an opening a ledger is full only once no message is left to be held.
-    (Fault::FullBeforeHeld, ON_LENT_ONLY),
-    (Fault::PublishedElsewhereInForm, ON_LENT_ONLY),
-    (Fault::DeskChangedAsCause, ON_LENT_ONLY),
-    (Fault::FourteenOnlyForTheDesk, ON_LENT_ONLY),
-    (Fault::LedgerLookedAtByAll, ON_LENT_ONLY),
-    (Fault::DegreeBeforeLedger, ON_LENT_ONLY),
-    // The history doesn't know of checkpoints: what is replayed says nothing to demand 3.
-    (Fault::FigureOfThePlaceItself, BY_COMPARISON_ONLY),
-    (Fault::FigureNotRaised, BY_COMPARISON_ONLY),
-    (Fault::FirstPlaceLeftOut, BY_COMPARISON_ONLY),
+    (Fault::FullBeforeHeld, &[Lent]),
+    (Fault::PublishedElsewhereInForm, &[Lent]),
+    (Fault::DeskChangedAsCause, &[Lent]),
+    (Fault::FourteenOnlyForTheDesk, &[Lent]),
+    (Fault::LedgerLookedAtByAll, &[Lent]),
+    (Fault::DegreeBeforeLedger, &[Lent]),
+    (Fault::FigureOfThePlaceItself, &[Replayed, Lists, Lent]),
+    (Fault::FigureNotRaised, &[Ceiling, Replayed, Lists, Lent]),
+    (Fault::FirstPlaceLeftOut, &[Ceiling, Replayed, Lists, Lent]),
     // It leaves an interval live that rests on lost work.
-    (Fault::CondemnedPlacePassedOver, BY_DEMAND),
+    (Fault::CondemnedPlacePassedOver, &[Demand, Lists, Lent]),
+    // What the history takes for stable is lost, from here on.
+    (
+        Fault::FlaggedWithoutLogging,
+        &[Demand, Published, Replayed, Lists, Lent],
+    ),
+    (Fault::LoggedOnlyBefore, &[Demand, Replayed, Lists, Lent]),
+    (Fault::ForcedNotKnown, &[Lists, Lent]),
+    (
+        Fault::CrashStartNotCounted,
+        &[Demand, Ceiling, Replayed, Lists, Lent],
+    ),
+    (
+        Fault::RollbackStartNotCounted,
+        &[Demand, Published, Ceiling, Replayed, Lists, Lent],
+    ),
+    (
+        Fault::MoreThanTheGap,
+        &[Demand, Published, Ceiling, Replayed, Lists, Lent],
+    ),
+    (
+        Fault::ForcedWhenOff,
+        &[Demand, Published, Replayed, Lists, Lent],
+    ),
+    // In lists all that is flagged is stable.
+    (Fault::StableFlagsOnly, &[Lent]),
+    (
+        Fault::RemovedFlagsCounted,
+        &[Demand, Ceiling, Replayed, Lists, Lent],
+    ),
+    (Fault::GapOf65Taken, &[Lists, Lent]),
+    // No step leaves such a table.
+    (Fault::GapOf65InForm, &[Lent]),
+    (Fault::GapOutOfForm, &[Lists, Lent]),
+    (Fault::GapNotCleared, &[Demand, Replayed, Lists, Lent]),
 ];
 
-const PROFILES: [(&Profile, u64); 3] = [
+const PROFILES: [(&Profile, u64); 5] = [
     (&Profile::CRASHES, 50),
     (&Profile::PARTIAL, 30),
     (&Profile::WORN, 15),
+    (&Profile::GAPS, 40),
+    (&Profile::CEILING, 40),
 ];
 
 /// Walks one list of a faulty machine, and holds each step against the sound one.
@@ -109,8 +161,10 @@ fn inspect_list(fault: Fault, profile: &'static Profile, seed: u64, found: &mut 
     let mut walk = Walk::with_fault(seed, profile, fault);
     let mut judge = Judge::default();
     let (mut table, mut ledger) = (walk.table().to_vec(), walk.ledger().to_vec());
-    let mut differs = false;
+    let (mut differs, mut replays) = (false, true);
     while let Some((command, answer)) = walk.next() {
+        let before_it = judge.history();
+        replays &= before_it.is_none_or(|history| facts::replayed_agrees(history, answer));
         judge.feed(command, answer);
         judge.see_ledger(walk.ledger());
         differs |= step(&mut table, &mut ledger, command) != answer;
@@ -118,26 +172,23 @@ fn inspect_list(fault: Fault, profile: &'static Profile, seed: u64, found: &mut 
         table.copy_from_slice(walk.table());
         ledger.copy_from_slice(walk.ledger());
     }
-    let breaches = judge.finish();
-    let any = |is: fn(&Breach) -> bool| usize::from(breaches.iter().any(is));
-    found.demand += any(is_of_the_base);
-    found.published += any(|breach| matches!(breach, Breach::PublishedRevoked { .. }));
-    found.ledger += any(|breach| matches!(breach, Breach::LedgerDiffers { .. }));
-    found.unreadable += any(|breach| matches!(breach, Breach::Unreadable { .. }));
-    found.lists += usize::from(differs);
+    found.add_breaches(&judge.finish());
+    found.add(Replayed, !replays);
+    found.add(Lists, differs);
 }
 
-/// Whether demand 3 is broken as it was before there was a desk.
-fn is_of_the_base(breach: &Breach) -> bool {
+/// The check that finds this breach. Demand 3 is meant as it was before there was a desk.
+fn finder(breach: &Breach) -> By {
     match breach {
         Breach::NotUndone { .. }
         | Breach::UndoneWithoutCause { .. }
         | Breach::LiveOrphan { .. }
         | Breach::TooManyNamed { .. }
-        | Breach::OwnerNotNamed { .. } => true,
-        Breach::PublishedRevoked { .. }
-        | Breach::LedgerDiffers { .. }
-        | Breach::Unreadable { .. } => false,
+        | Breach::OwnerNotNamed { .. } => Demand,
+        Breach::PublishedRevoked { .. } => Published,
+        Breach::LedgerDiffers { .. } => Ledger,
+        Breach::AboveCeiling { .. } => Ceiling,
+        Breach::Unreadable { .. } => Unreadable,
     }
 }
 
@@ -154,11 +205,19 @@ fn inspect_lists(fault: Fault) -> Found {
 /// How many single steps are tried on what is lent.
 const LENT_STEPS: usize = 2_500;
 
-/// A table, a ledger and a step, often a release or a hearing, which have the most rules.
+fn has_most_rules(command: Command) -> bool {
+    matches!(
+        command,
+        Command::Release { .. } | Command::Deliver { .. } | Command::Hear { .. }
+    )
+}
+
+/// A table, a ledger and a step.
 fn lent(random: &mut Random) -> (Vec<u32>, Vec<u32>, Command) {
-    let table = match random.below(3) {
-        0 => damaged(random).0,
-        _ => in_form_table(random),
+    let table = match random.below(8) {
+        0 => damaged_gap(random),
+        1 | 2 => damaged(random).0,
+        _ => gapped_table(random),
     };
     let ledger = match random.below(3) {
         0 => damaged_ledger(random),
@@ -166,10 +225,12 @@ fn lent(random: &mut Random) -> (Vec<u32>, Vec<u32>, Command) {
     };
     let steps = named(random, &table);
     let mut often = steps.clone();
-    often.retain(|step| matches!(step, Command::Release { .. } | Command::Hear { .. }));
-    let chosen = match random.below(8) {
-        0..=2 => random.pick(&often),
-        3..=5 => random.pick(&steps),
+    often.retain(|step| has_most_rules(*step));
+    let gap = gap(random);
+    let chosen = match random.below(16) {
+        0..=6 => random.pick(&often),
+        7..=12 => random.pick(&steps),
+        13 => Some(Command::SetGap { gap }),
         _ => None,
     };
     (table, ledger, chosen.unwrap_or_else(|| senseless(random)))
@@ -198,37 +259,72 @@ fn inspect_lent(faults: &[Fault]) -> Vec<usize> {
 fn every_fault_is_found_by_these_means() {
     let lent = inspect_lent(&Fault::PLANTED);
     let lists: u64 = PROFILES.iter().map(|(_, lists)| lists).sum();
-    let names = [
-        "demand 3",
-        "published",
-        "ledger",
-        "unreadable",
-        "lists",
-        "lent",
-    ];
     println!("of {lists} lists and {LENT_STEPS} steps on what is lent:");
-    println!(
-        "{:<26}{}",
-        "",
-        names.map(|name| format!("{name:>12}")).concat()
-    );
+    print_row("", CHECKS.map(|by| format!("{by:?}")));
     let mut found = EXPECTED.map(|(fault, _)| (fault, inspect_lists(fault)));
     for ((fault, found), lent) in found.iter_mut().zip(lent) {
-        found.lent = lent;
-        let counts = found.counts().map(|count| format!("{count:>12}")).concat();
-        println!("{:<26}{counts}", format!("{fault:?}"));
+        found.0[Lent as usize] = lent;
+        print_row(
+            &format!("{fault:?}"),
+            found.0.map(|count| count.to_string()),
+        );
     }
-    assert_eq!(found.map(|(fault, found)| (fault, found.means())), EXPECTED);
+    for ((fault, found), (_, expected)) in found.into_iter().zip(EXPECTED) {
+        assert_eq!(found.means(), expected, "{fault:?}");
+    }
+}
+
+fn print_row(name: &str, columns: [String; CHECKS.len()]) {
+    let columns = columns.map(|column| format!("{column:>11}")).concat();
+    println!("{name:<26}{columns}");
 }
 
 #[test]
 fn no_fault_is_left_out() {
     assert_eq!(EXPECTED.map(|(fault, _)| fault), Fault::PLANTED);
-    let in_lists = EXPECTED.map(|(_, [.., lists, _])| lists);
+    let in_lists = EXPECTED.map(|(_, by)| by.contains(&Lists));
     assert_eq!(in_lists, Fault::PLANTED.map(Fault::shows_in_lists));
 }
 
 #[test]
 fn the_sound_machine_is_not_accused() {
     assert_eq!(inspect_lists(Fault::None), Found::default());
+}
+
+/// What accuses the sound machine if its steps are misread: breaches, replay figures, and whether its tables
+/// agree with the history.
+fn misread(misreading: Misreading) -> (Vec<By>, bool) {
+    let (mut found, mut agrees) = (Found::default(), true);
+    for seed in 0..60 {
+        let mut walk = Walk::new(seed, &Profile::CEILING);
+        let mut judge = Judge::misreading(misreading);
+        while let Some((command, answer)) = walk.next() {
+            let before_it = judge.history();
+            let replays = before_it.is_none_or(|history| facts::replayed_agrees(history, answer));
+            found.add(Replayed, !replays);
+            judge.feed(command, answer);
+            let history = judge.history().expect("a list begins with an opening");
+            agrees &= facts::check(walk.table(), walk.ledger(), history).is_ok();
+        }
+        found.add_breaches(&judge.finish());
+    }
+    (found.means(), agrees)
+}
+
+/// The judge of a machine can be at fault, too, and is found out by accusing the sound one.
+#[test]
+fn every_misreading_accuses_the_sound_machine() {
+    let by_history: &[By] = &[Demand, Published, Replayed];
+    let expected = [
+        (Misreading::ForcedForgotten, by_history, false),
+        (Misreading::ForcedNotStable, by_history, false),
+        // Its next intervals are forced too early then, and so taken for stable.
+        (Misreading::ForcedNotFlagged, by_history, false),
+        (Misreading::CeilingOfTheNewestGap, &[Ceiling], true),
+    ];
+    assert_eq!(expected.map(|row| row.0), Misreading::PLANTED);
+    for (misreading, by, agrees) in expected {
+        assert_eq!(misread(misreading), (by.to_vec(), agrees), "{misreading:?}");
+    }
+    assert_eq!(misread(Misreading::None), (vec![], true));
 }

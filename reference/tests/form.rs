@@ -4,8 +4,8 @@ mod common;
 
 use common::House;
 use reference::generate::{
-    damaged, damaged_ledger, in_form_table, noise, sound_ledger, wrong_length, Profile, Random,
-    Walk,
+    damaged, damaged_gap, damaged_ledger, gapped_table, in_form_table, noise, sound_ledger,
+    wrong_length, Profile, Random, Walk,
 };
 use reference::ledger::is_sound;
 use reference::machine::{step, Answer, Command};
@@ -23,6 +23,7 @@ fn range(words: &[u32], position: usize) -> RangeInclusive<u32> {
     match position {
         0 => 1..=8,
         1 => 0..=128,
+        11 => 0..=64,
         2..=15 => 0..=0,
         16..=47 => {
             let (c, field) = ((position - 16) / 4, (position - 16) % 4);
@@ -128,6 +129,35 @@ fn one_damaged_word() {
         spoilt += usize::from(!expected);
     }
     assert!((500..2_500).contains(&spoilt), "{spoilt} of 3000 damaged");
+}
+
+/// "Kept in word 11 of the table, in form up to 64." The other words that are 0 stay so.
+#[test]
+fn gaps() {
+    let mut random = Random::new(7);
+    for _ in 0..200 {
+        let words = gapped_table(&mut random);
+        assert!(in_form(&words) && in_form_by_position(&words));
+        let words = damaged_gap(&mut random);
+        assert!(!in_form(&words) && !in_form_by_position(&words));
+    }
+    let mut house = House::after("O 3 1");
+    for (gap, expected) in [
+        (0, true),
+        (1, true),
+        (64, true),
+        (65, false),
+        (u32::MAX, false),
+    ] {
+        house.words[11] = gap;
+        assert_eq!(in_form(&house.words), expected, "a gap of {gap}");
+    }
+    house.words[11] = 5;
+    for other in (2..=10).chain(12..=15) {
+        let mut words = house.words.clone();
+        words[other] = 5;
+        assert!(!in_form(&words), "word {other}");
+    }
 }
 
 /// Every receiver with every state, in houses of every size.

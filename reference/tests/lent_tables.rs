@@ -1,8 +1,10 @@
 //! Any steps on random lent tables in form, beside ledgers sound and damaged: none panics, refusals
-//! change no word, the table stays in form and a sound ledger sound, and each step writes only the
-//! words that its rule names.
+//! change no word, the table stays in form and a sound ledger sound, each step writes only the words that
+//! its rule names, and checkpoints are forced where the gap asks for them.
 
-use reference::generate::{damaged_ledger, in_form_table, named, senseless, sound_ledger, Random};
+use reference::generate::{
+    damaged_ledger, gap, gapped_table, named, senseless, sound_ledger, Random,
+};
 use reference::ledger::is_sound;
 use reference::machine::{step, Answer, Command};
 use reference::table::{in_form, state, Message, Place, Table, DESK, INCARNATIONS};
@@ -38,6 +40,7 @@ impl Copier<'_> {
     fn step(&mut self, command: Command, answer: Answer) {
         match command {
             Command::SetDegree { controller, .. } => self.degree(controller as usize),
+            Command::SetGap { gap } => self.to.set_gap(gap),
             Command::Log { controller, .. } | Command::Checkpoint { controller } => {
                 self.logging(controller as usize);
             }
@@ -110,13 +113,19 @@ impl Copier<'_> {
         }
     }
 
-    /// What a delivery writes of its receiver: the next place and the live count.
+    /// What a delivery writes of its receiver: the next place and the live count. If the place is flagged,
+    /// its checkpoint was forced, and has logged it and all before it.
     fn new_interval(&mut self, receiver: usize) {
         let mut counts = self.to.controller(receiver);
         let place = counts.live as usize;
         counts.live += 1;
-        self.to.set_controller(receiver, counts);
         let record = self.from.place(receiver, place);
+        if record.flag == 1 {
+            counts.stable = counts.live;
+            let (incarnation, stable) = (counts.incarnation, counts.stable);
+            self.to.set_known(receiver, receiver, incarnation, stable);
+        }
+        self.to.set_controller(receiver, counts);
         self.to.set_place(receiver, place, &record);
     }
 
@@ -206,11 +215,27 @@ fn any_ledger(random: &mut Random) -> Vec<u32> {
     }
 }
 
-/// A senseless step, and one of each kind that names what is there.
+/// A senseless step, a gap set, and one of each kind that names what is there.
 fn commands(random: &mut Random, words: &[u32]) -> Vec<Command> {
-    let mut commands = vec![senseless(random)];
+    let gap = gap(random);
+    let mut commands = vec![senseless(random), Command::SetGap { gap }];
     commands.extend(named(random, words));
     commands
+}
+
+/// Whether a step forced a checkpoint where the gap asks for one, and nowhere else: of the interval that it
+/// began, if it did, by the flags of the places before it.
+fn keeps_to_the_gap(table: Table<&[u32]>, command: Command, answer: Answer) -> bool {
+    let controller = match (command, answer) {
+        (_, Answer::Delivered { message, .. }) => table.message(message).receiver,
+        (_, Answer::Crashed { controller, .. } | Answer::Rolled { controller, .. }) => controller,
+        _ => return true,
+    };
+    let live = table.controller(controller as usize).live;
+    let is_flagged = |&place: &u32| table.place(controller as usize, place as usize).flag == 1;
+    let latest = (0..live - 1).rev().find(is_flagged);
+    let above = live - 1 - latest.expect("place 0 is flagged");
+    is_flagged(&(live - 1)) == (table.gap() > 0 && above >= table.gap())
 }
 
 #[test]
@@ -218,12 +243,14 @@ fn steps_keep_the_form_and_write_only_what_they_name() {
     let mut random = Random::new(11);
     let (mut accepted, mut refused, mut published) = (0, 0, 0);
     for _ in 0..1_500 {
-        let mut words = in_form_table(&mut random);
+        let mut words = gapped_table(&mut random);
         let mut ledger = any_ledger(&mut random);
         for command in commands(&mut random, &words) {
             let (before, ledger_before) = (words.clone(), ledger.clone());
             let answer = step(&mut words, &mut ledger, command);
             assert!(in_form(&words), "{command:?} {answer:?}");
+            let table = Table::new(&words[..]).expect("the right length");
+            assert!(keeps_to_the_gap(table, command, answer), "{command:?}");
             let expected = if matches!(answer, Answer::Refused { .. }) {
                 refused += 1;
                 assert!(ledger == ledger_before, "{command:?} {answer:?}");
@@ -251,7 +278,7 @@ fn steps_keep_the_form_and_write_only_what_they_name() {
 fn only_a_release_and_an_opening_look_at_the_ledger() {
     let mut random = Random::new(14);
     for _ in 0..300 {
-        let words = in_form_table(&mut random);
+        let words = gapped_table(&mut random);
         for command in commands(&mut random, &words) {
             let looks = matches!(command, Command::Release { .. } | Command::Open { .. });
             let mut outcomes = Vec::new();
@@ -278,7 +305,7 @@ fn only_a_release_and_an_opening_look_at_the_ledger() {
 fn the_same_table_and_ledger_give_the_same_answer() {
     let mut random = Random::new(12);
     for _ in 0..200 {
-        let words = in_form_table(&mut random);
+        let words = gapped_table(&mut random);
         let ledger = any_ledger(&mut random);
         for command in commands(&mut random, &words) {
             let [one, two] = [0, 1].map(|_| {
@@ -298,7 +325,7 @@ fn no_step_gives_state_lost() {
     let mut random = Random::new(13);
     let (mut kept, mut settled) = (0, 0);
     for _ in 0..1_500 {
-        let words = in_form_table(&mut random);
+        let words = gapped_table(&mut random);
         for command in commands(&mut random, &words) {
             let mut after = words.clone();
             let answer = step(&mut after, &mut sound_ledger(&mut random), command);

@@ -21,12 +21,20 @@ fn every_letter_is_read_and_written() {
     ];
     for line in lines {
         let command = parse(line.as_bytes()).expect(line);
-        assert_eq!(write(command), line);
+        assert_eq!(write(command).as_deref(), Some(line));
         let longer = format!("{line} 0");
         let shorter = line.rsplit_once(' ').expect("a number").0;
         assert_eq!(parse(longer.as_bytes()), None, "{longer}");
         assert_eq!(parse(shorter.as_bytes()), None, "{shorter}");
     }
+}
+
+/// "New steps get a line in `house` only where a request names the letter."
+#[test]
+fn a_gap_has_no_line() {
+    assert_eq!(write(Command::SetGap { gap: 3 }), None);
+    assert_eq!(parse(b"Q 3"), None);
+    assert_eq!(parse(b"G 3"), None);
 }
 
 #[test]

@@ -1,5 +1,6 @@
-//! Random lists of the sound machine: demand 3 holds, the table and the ledger agree with their history
-//! after each step, and a refused step changes no word of either.
+//! Random lists of the sound machine: demand 3 and the ceiling on replay hold, the table and the ledger
+//! agree with their history after each step, so do the replay figures, and a refused step changes no word
+//! of either.
 
 use reference::demand::Judge;
 use reference::facts;
@@ -26,6 +27,9 @@ fn walk_list(profile: &'static Profile, seed: u64) -> usize {
             before.copy_from_slice(walk.table());
             ledger_before.copy_from_slice(walk.ledger());
         }
+        let before_it = judge.history();
+        let replayed = before_it.is_none_or(|history| facts::replayed_agrees(history, answer));
+        assert!(replayed, "{}: replayed otherwise", label());
         judge.feed(command, answer);
         judge.see_ledger(walk.ledger());
         let history = judge.history().expect("a list begins with an opening");
@@ -65,6 +69,21 @@ fn worn() {
 #[test]
 fn desk() {
     assert!(walk_lists(&Profile::DESK, 120) > 30_000);
+}
+
+#[test]
+fn gaps() {
+    assert!(walk_lists(&Profile::GAPS, 3_000) > 300_000);
+}
+
+#[test]
+fn ceiling() {
+    assert!(walk_lists(&Profile::CEILING, 3_000) > 400_000);
+}
+
+#[test]
+fn long() {
+    assert!(walk_lists(&Profile::LONG, 120) > 50_000);
 }
 
 #[test]

@@ -1,10 +1,11 @@
 //! Random lists of steps: sensible ones, chosen by looking at the table, and senseless ones.
 
 use super::choose::{opening, Chooser};
-use super::{noise, sound_ledger, Profile, Random};
+use super::{gap, noise, sound_ledger, Profile, Random};
 use crate::ledger;
 use crate::machine::{step_with, Answer, Command, Fault};
-use crate::table::{in_form, Table, CONTROLLERS, WORDS};
+use crate::table::{in_form, Table, CONTROLLERS, LAST_GAP, WORDS};
+use std::ops::RangeInclusive;
 
 /// A random list in the doing: each item is the next step and its answer, and the table and the ledger
 /// stand as the last one left them.
@@ -15,6 +16,8 @@ pub struct Walk {
     table: Vec<u32>,
     ledger: Vec<u32>,
     first: bool,
+    /// Whether the last step was an opening that was done.
+    opened: bool,
     left: u32,
 }
 
@@ -40,6 +43,7 @@ impl Walk {
             table,
             ledger,
             first: true,
+            opened: false,
             left,
         }
     }
@@ -58,11 +62,35 @@ impl Walk {
         if std::mem::take(&mut self.first) {
             return opening(&mut self.random, self.profile);
         }
+        if let Some(gap) = self.gap() {
+            return Command::SetGap { gap };
+        }
         if self.random.chance(self.profile.senseless) {
             return senseless(&mut self.random);
         }
         self.sensible()
             .unwrap_or_else(|| senseless(&mut self.random))
+    }
+
+    /// The gap, where it is to be set now.
+    fn gap(&mut self) -> Option<u32> {
+        let gaps = self.profile.gaps.as_ref()?;
+        let narrowest = u32::from(gaps.first.is_some());
+        match &gaps.first {
+            Some(first) if self.opened => Some(self.first_gap(first.clone())),
+            _ if self.random.chance(gaps.percent) => Some(gap(&mut self.random).max(narrowest)),
+            _ => None,
+        }
+    }
+
+    /// Often one of the widest, where these are allowed: it takes a long chain to see them forced.
+    fn first_gap(&mut self, range: RangeInclusive<u32>) -> u32 {
+        let widest = *range.end() == LAST_GAP;
+        if widest && self.random.chance(30) {
+            self.random.within(LAST_GAP - 2..=LAST_GAP)
+        } else {
+            self.random.within(range)
+        }
     }
 
     /// A sensible step, if the table is in form, as the sound machine leaves it after an opening.
@@ -91,6 +119,7 @@ impl Iterator for Walk {
         self.left = self.left.checked_sub(1)?;
         let command = self.command();
         let answer = step_with(self.fault, &mut self.table, &mut self.ledger, command);
+        self.opened = matches!((command, answer), (Command::Open { .. }, Answer::Done));
         Some((command, answer))
     }
 }
@@ -104,7 +133,7 @@ fn left_ledger(random: &mut Random) -> Vec<u32> {
     }
 }
 
-/// A step with any numbers: small ones, those at the edges of ranges, and wild ones.
+/// A lettered step with any numbers: small ones, those at the edges of ranges, and wild ones.
 pub fn senseless(random: &mut Random) -> Command {
     const EDGES: [u32; 10] = [7, 8, 9, 15, 16, 63, 64, 65, 128, 129];
     let mut number = || match random.below(8) {

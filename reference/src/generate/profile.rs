@@ -17,6 +17,16 @@ pub(super) enum Kind {
     Hear,
 }
 
+/// How the gap is set in a house.
+#[derive(Debug)]
+pub(super) struct Gaps {
+    /// How many of a hundred steps set it.
+    pub(super) percent: u32,
+    /// What the first step after an opening sets it to, if it does. No other step turns it off then, so
+    /// that there is a ceiling on replay.
+    pub(super) first: Option<RangeInclusive<u32>>,
+}
+
 /// What a house is like and what is done in it most.
 #[derive(Debug)]
 pub struct Profile {
@@ -34,6 +44,8 @@ pub struct Profile {
     pub(super) to_desk: u32,
     /// How often a step is of each kind, among the sensible ones.
     pub(super) weights: [(Kind, u32); 10],
+    /// How the gap is set, if at all. The program has no line for it.
+    pub(super) gaps: Option<Gaps>,
 }
 
 /// Weights in the order of the letters O K S R D L C T X H.
@@ -62,6 +74,7 @@ impl Profile {
         to_last: 0,
         to_desk: 20,
         weights: weights([1, 6, 50, 60, 70, 12, 4, 14, 6, 14]),
+        gaps: None,
     };
     /// Few controllers that crash often and hear late.
     pub const CRASHES: Profile = Profile {
@@ -72,6 +85,7 @@ impl Profile {
         to_last: 0,
         to_desk: 20,
         weights: weights([0, 2, 50, 60, 80, 8, 2, 6, 9, 16]),
+        gaps: None,
     };
     /// Little is stable and little is known, so that most work hangs on other work.
     pub const PARTIAL: Profile = Profile {
@@ -82,6 +96,7 @@ impl Profile {
         to_last: 0,
         to_desk: 20,
         weights: weights([0, 2, 60, 70, 90, 6, 0, 6, 5, 10]),
+        gaps: None,
     };
     /// One controller's chain and the messages fill up.
     pub const FULL: Profile = Profile {
@@ -92,6 +107,7 @@ impl Profile {
         to_last: 85,
         to_desk: 2,
         weights: weights([0, 2, 60, 60, 70, 30, 12, 10, 2, 4]),
+        gaps: None,
     };
     /// Incarnations run out.
     pub const WORN: Profile = Profile {
@@ -102,6 +118,7 @@ impl Profile {
         to_last: 30,
         to_desk: 10,
         weights: weights([0, 3, 40, 50, 70, 2, 1, 4, 14, 30]),
+        gaps: None,
     };
     /// Mostly nonsense.
     pub const WILD: Profile = Profile {
@@ -112,6 +129,7 @@ impl Profile {
         to_last: 0,
         to_desk: 20,
         weights: weights([3, 10, 30, 30, 30, 10, 10, 10, 10, 10]),
+        gaps: None,
     };
     /// All goes to the desk, until the ledger is full: it takes every message of a house.
     pub const DESK: Profile = Profile {
@@ -122,9 +140,52 @@ impl Profile {
         to_last: 0,
         to_desk: 100,
         weights: weights([0, 2, 60, 60, 4, 4, 2, 4, 2, 4]),
+        gaps: None,
     };
-    /// All of them.
-    pub const ALL: [&'static Profile; 7] = [
+    /// As [`CRASHES`](Profile::CRASHES), where the gap is set anew while work goes on, and turned off.
+    pub const GAPS: Profile = Profile {
+        name: "gaps",
+        controllers: 2..=4,
+        steps: 60..=200,
+        senseless: 2,
+        to_last: 30,
+        to_desk: 10,
+        weights: weights([1, 2, 50, 60, 80, 8, 3, 6, 9, 16]),
+        gaps: Some(Gaps {
+            percent: 6,
+            first: None,
+        }),
+    };
+    /// A narrow gap from the opening on, and crashes that follow each other closely.
+    pub const CEILING: Profile = Profile {
+        name: "ceiling",
+        controllers: 2..=4,
+        steps: 80..=240,
+        senseless: 1,
+        to_last: 30,
+        to_desk: 10,
+        weights: weights([0, 2, 40, 50, 70, 8, 1, 6, 12, 20]),
+        gaps: Some(Gaps {
+            percent: 2,
+            first: Some(1..=6),
+        }),
+    };
+    /// Any gap from the opening on, with one controller's chain filling up.
+    pub const LONG: Profile = Profile {
+        name: "long",
+        controllers: 2..=3,
+        steps: 400..=600,
+        senseless: 0,
+        to_last: 85,
+        to_desk: 2,
+        weights: weights([0, 2, 60, 60, 70, 30, 0, 10, 2, 4]),
+        gaps: Some(Gaps {
+            percent: 0,
+            first: Some(1..=64),
+        }),
+    };
+    /// Those whose lists are lines of the program: the gap is never set.
+    pub const LETTERED: [&'static Profile; 7] = [
         &Profile::MIXED,
         &Profile::CRASHES,
         &Profile::PARTIAL,
@@ -132,5 +193,18 @@ impl Profile {
         &Profile::WORN,
         &Profile::WILD,
         &Profile::DESK,
+    ];
+    /// All of them.
+    pub const ALL: [&'static Profile; 10] = [
+        &Profile::MIXED,
+        &Profile::CRASHES,
+        &Profile::PARTIAL,
+        &Profile::FULL,
+        &Profile::WORN,
+        &Profile::WILD,
+        &Profile::DESK,
+        &Profile::GAPS,
+        &Profile::CEILING,
+        &Profile::LONG,
     ];
 }

@@ -3,12 +3,14 @@
 use super::{Profile, Random, Walk};
 use crate::lines;
 
-/// The input of one run of the program. Its last line may lack its line feed.
+/// The input of one run of the program. Its last line may lack its line feed. A step that has no line is
+/// left out.
 pub fn script(seed: u64, profile: &'static Profile) -> Vec<u8> {
     let mut random = Random::new(!seed);
     let mut input = Vec::new();
-    for (command, _) in Walk::new(seed, profile) {
-        let mut line = lines::write(command).into_bytes();
+    let steps = Walk::new(seed, profile);
+    for line in steps.filter_map(|(command, _)| lines::write(command)) {
+        let mut line = line.into_bytes();
         if random.chance(15) {
             spoil(&mut random, &mut line);
         }

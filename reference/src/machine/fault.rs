@@ -1,15 +1,19 @@
 //! Machines with one planted fault each, to show that a check finds it.
 //!
 //! The rules ask for a fault in one place each; what the faulty machine does instead is here, so that
-//! the sound rules can be read without it.
+//! the sound rules can be read without it. What a rule asks for is in [`asked`]; what is only bent after a
+//! sound step is in [`bent`], and in [`gap`] where it concerns the gap.
 
-use super::rules::can_open;
+mod asked;
+mod bent;
+mod gap;
+
+pub(super) use asked::{
+    condemned_by_number, in_form, larger_of_each, ledger_fits, most_gap, replayed_by_hearing,
+};
+
 use super::{Answer, Command};
-use crate::ledger::{self, Entry, Ledger};
 use crate::refusal;
-use crate::table::{in_form, state, Controller, Message, Table, DESK, INCARNATIONS, LAST_MESSAGE};
-use crate::vector::{is_condemned, Pair, Row, Vector};
-use std::array;
 
 /// What is wrong with a machine.
 #[derive(Clone, Copy, Debug, PartialEq, Eq)]
@@ -91,11 +95,38 @@ pub enum Fault {
     FirstPlaceLeftOut,
     /// Looking for the lowest condemned place from place 2 on.
     CondemnedPlacePassedOver,
+    /// Flagging an interval that the gap asks a checkpoint of, and logging nothing.
+    FlaggedWithoutLogging,
+    /// Logging only what stands before it, and not that interval itself.
+    LoggedOnlyBefore,
+    /// Logging in the stable count alone, and not in the known word.
+    ForcedNotKnown,
+    /// Asking no checkpoint of the start after a crash.
+    CrashStartNotCounted,
+    /// Asking none of the start after a rollback.
+    RollbackStartNotCounted,
+    /// Asking one only of intervals that stand more than the gap above the latest flagged one.
+    MoreThanTheGap,
+    /// Taking a gap of 0 for the narrowest one instead of none.
+    ForcedWhenOff,
+    /// Measuring from the latest flagged interval that is stable.
+    StableFlagsOnly,
+    /// Measuring a start from the latest flagged interval of the chain as it was, also from one that was
+    /// just taken off it.
+    RemovedFlagsCounted,
+    /// Taking a gap of 65.
+    GapOf65Taken,
+    /// Taking a table with a gap of 65 for in form.
+    GapOf65InForm,
+    /// Taking no table with a gap for in form.
+    GapOutOfForm,
+    /// Opening without clearing the gap.
+    GapNotCleared,
 }
 
 impl Fault {
     /// Every planted fault.
-    pub const PLANTED: [Fault; 36] = [
+    pub const PLANTED: [Fault; 49] = [
         Fault::LargerAcrossIncarnations,
         Fault::NumbersWithoutIncarnations,
         Fault::StoredPairsCounted,
@@ -132,6 +163,19 @@ impl Fault {
         Fault::FigureNotRaised,
         Fault::FirstPlaceLeftOut,
         Fault::CondemnedPlacePassedOver,
+        Fault::FlaggedWithoutLogging,
+        Fault::LoggedOnlyBefore,
+        Fault::ForcedNotKnown,
+        Fault::CrashStartNotCounted,
+        Fault::RollbackStartNotCounted,
+        Fault::MoreThanTheGap,
+        Fault::ForcedWhenOff,
+        Fault::StableFlagsOnly,
+        Fault::RemovedFlagsCounted,
+        Fault::GapOf65Taken,
+        Fault::GapOf65InForm,
+        Fault::GapOutOfForm,
+        Fault::GapNotCleared,
     ];
 
     /// Whether some list in a house just opened shows the fault. The others need a table or a ledger
@@ -146,6 +190,28 @@ impl Fault {
                 | Fault::FourteenOnlyForTheDesk
                 | Fault::LedgerLookedAtByAll
                 | Fault::DegreeBeforeLedger
+                | Fault::StableFlagsOnly
+                | Fault::GapOf65InForm
+        )
+    }
+
+    /// Whether it takes a gap in the table to show the fault: no script of the program does then, since it
+    /// has no line to set one.
+    pub fn needs_a_gap(self) -> bool {
+        matches!(
+            self,
+            Fault::FlaggedWithoutLogging
+                | Fault::LoggedOnlyBefore
+                | Fault::ForcedNotKnown
+                | Fault::CrashStartNotCounted
+                | Fault::RollbackStartNotCounted
+                | Fault::MoreThanTheGap
+                | Fault::StableFlagsOnly
+                | Fault::RemovedFlagsCounted
+                | Fault::GapOf65Taken
+                | Fault::GapOf65InForm
+                | Fault::GapOutOfForm
+                | Fault::GapNotCleared
         )
     }
 
@@ -164,6 +230,16 @@ impl Fault {
                 | Fault::LedgerWrittenOnHeld
                 | Fault::LedgerNotCleared
                 | Fault::EntryOutOfOrder
+                | Fault::FlaggedWithoutLogging
+                | Fault::LoggedOnlyBefore
+                | Fault::ForcedNotKnown
+                | Fault::CrashStartNotCounted
+                | Fault::RollbackStartNotCounted
+                | Fault::MoreThanTheGap
+                | Fault::ForcedWhenOff
+                | Fault::StableFlagsOnly
+                | Fault::RemovedFlagsCounted
+                | Fault::GapNotCleared
         )
     }
 }
@@ -185,8 +261,9 @@ pub(super) fn around(
     }
     let (table_before, ledger_before) = (table.to_vec(), ledger.to_vec());
     let answer = step(table, ledger);
-    bend_table(fault, &table_before, table, answer);
-    bend_ledger(fault, &ledger_before, ledger, table, answer);
+    bent::bend_table(fault, &table_before, table, answer);
+    gap::bend(fault, &table_before, table, command, answer);
+    bent::bend_ledger(fault, &ledger_before, ledger, table, answer);
     answer
 }
 
@@ -228,213 +305,4 @@ fn invented(fault: Fault, mut answer: Answer) -> Answer {
         _ => {}
     }
     answer
-}
-
-/// What a faulty machine says of the ledger before the step, where it looks at another time.
-pub(super) fn ledger_fits(
-    fault: Fault,
-    table: &[u32],
-    words: &[u32],
-    command: Command,
-) -> Option<bool> {
-    match (fault, command) {
-        (Fault::FourteenOnlyForTheDesk, Command::Release { message }) => {
-            (!is_for_desk(table, message)).then_some(true)
-        }
-        (Fault::DegreeBeforeLedger, Command::Open { n, degree }) => {
-            (!can_open(n, degree)).then_some(true)
-        }
-        (Fault::LedgerLookedAtByAll, Command::Open { .. }) => None,
-        (Fault::LedgerLookedAtByAll, _) => Some(ledger::is_sound(words)),
-        _ => None,
-    }
-}
-
-/// Whether this is a message sent, and for the desk. The table is in form.
-fn is_for_desk(words: &[u32], message: u32) -> bool {
-    Table::new(words).is_some_and(|table| {
-        let sent = (1..=table.sent()).contains(&message);
-        sent && table.message(message).receiver == DESK
-    })
-}
-
-/// Whether a faulty machine takes words for a table in form that aren't: with state published in form
-/// for all receivers, they would be.
-pub(super) fn in_form_too(fault: Fault, words: &[u32]) -> bool {
-    if fault != Fault::PublishedElsewhereInForm {
-        return false;
-    }
-    let mut words = words.to_vec();
-    let Some(mut table) = Table::new(&mut words[..]) else {
-        return false;
-    };
-    for message in 1..=table.sent().min(LAST_MESSAGE) {
-        let record = table.message(message);
-        if record.state == state::PUBLISHED && record.receiver != DESK {
-            table.set_state(message, state::DROPPED);
-        }
-    }
-    in_form(&words)
-}
-
-/// A pair taken for condemned by its number alone: any end of its owner will do.
-pub(super) fn condemned_by_number(vector: &Vector, ends: &Row) -> bool {
-    vector.iter().enumerate().any(|(owner, pair)| {
-        (0..INCARNATIONS as u32)
-            .map(|incarnation| ends.word(owner, incarnation))
-            .any(|end| end != 0 && pair.number > end)
-    })
-}
-
-/// The lexicographically larger of each two pairs: a later incarnation hides an earlier one.
-pub(super) fn larger_of_each(ours: &Vector, theirs: &Vector) -> Vector {
-    array::from_fn(|owner: usize| Pair::max(ours[owner], theirs[owner]))
-}
-
-/// What a faulty hearing says is replayed after `kept`, where it counts from the latest checkpoint of
-/// other places than those below the condemned one.
-pub(super) fn replayed_by_hearing(
-    fault: Fault,
-    words: &[u32],
-    hearer: usize,
-    kept: u32,
-) -> Option<u32> {
-    let looked_at = match fault {
-        Fault::FigureOfThePlaceItself => 0..kept + 1,
-        Fault::FigureNotRaised => 0..1,
-        Fault::FirstPlaceLeftOut => 1..kept,
-        _ => return None,
-    };
-    let table = Table::new(words)?;
-    let places = looked_at.map(|place| table.place(hearer, place as usize));
-    let flagged = places.filter(|record| record.flag == 1);
-    let latest = flagged.map(|record| record.number).max();
-    // The checkpoint of the condemned place has a number above the kept one.
-    Some(kept.saturating_sub(latest.unwrap_or(0)))
-}
-
-/// Makes of the table that the sound step left the one that the faulty machine would leave.
-fn bend_table(fault: Fault, before: &[u32], after: &mut [u32], answer: Answer) {
-    if fault == Fault::WritesNoWord {
-        return after.copy_from_slice(before);
-    }
-    let (Some(before), Some(mut after)) = (Table::new(before), Table::new(after)) else {
-        return;
-    };
-    match (fault, answer) {
-        (Fault::HeldKept, Answer::Crashed { .. } | Answer::Rolled { .. }) => {
-            keep_held(&before, &mut after);
-        }
-        (
-            Fault::LostGiven | Fault::EndsBeforeCrash | Fault::CondemnedOffered,
-            Answer::Crashed {
-                controller, kept, ..
-            },
-        )
-        | (
-            Fault::CondemnedOffered,
-            Answer::Rolled {
-                controller, kept, ..
-            },
-        ) => bend_causes(fault, &before, &mut after, controller as usize, kept),
-        (
-            Fault::EndWordOnRollback | Fault::KeptNotLogged | Fault::KnownNotRaised,
-            Answer::Rolled {
-                controller, kept, ..
-            },
-        ) => bend_rollback(fault, &before, &mut after, controller as usize, kept),
-        _ => {}
-    }
-}
-
-/// Makes of the ledger that the sound step left the one that the faulty machine would leave.
-fn bend_ledger(fault: Fault, before: &[u32], after: &mut [u32], table: &[u32], answer: Answer) {
-    match (fault, answer) {
-        (Fault::WritesNoWord, _)
-        | (Fault::LedgerNotCleared, Answer::Done)
-        | (Fault::PublishedWithoutEntry, Answer::Released { .. }) => after.copy_from_slice(before),
-        (Fault::LedgerWrittenOnHeld, Answer::Held { message, .. })
-        | (Fault::EntryOutOfOrder, Answer::Released { message, .. })
-            if is_for_desk(table, message) =>
-        {
-            bend_entry(fault, after, table, message);
-        }
-        _ => {}
-    }
-}
-
-/// One entry too many, if there is room, or the newest one with its words exchanged.
-fn bend_entry(fault: Fault, ledger: &mut [u32], table: &[u32], message: u32) {
-    let (Some(mut ledger), Some(table)) = (Ledger::new(ledger), Table::new(table)) else {
-        return;
-    };
-    let Message { payload, .. } = table.message(message);
-    let count = ledger.count();
-    if fault == Fault::EntryOutOfOrder {
-        let exchanged = Entry {
-            message: payload,
-            payload: message,
-        };
-        ledger.set_entry(count - 1, exchanged);
-    } else if count < ledger::ENTRIES {
-        ledger.append(Entry { message, payload });
-    }
-}
-
-/// A rollback of the hearer to `kept` that wrote one word too many or too few.
-fn bend_rollback(
-    fault: Fault,
-    before: &Table<&[u32]>,
-    after: &mut Table<&mut [u32]>,
-    hearer: usize,
-    kept: u32,
-) {
-    let Controller {
-        incarnation,
-        stable,
-        ..
-    } = before.controller(hearer);
-    if fault == Fault::EndWordOnRollback {
-        after.set_end(hearer, hearer, incarnation, kept);
-    } else if stable < kept {
-        let known = before.known(hearer).word(hearer, incarnation);
-        after.set_known(hearer, hearer, incarnation, known);
-        if fault == Fault::KeptNotLogged {
-            let counts = after.controller(hearer);
-            after.set_controller(hearer, Controller { stable, ..counts });
-        }
-    }
-}
-
-/// A crash or a rollback to `kept` that made something else of the causes of the intervals above it.
-fn bend_causes(
-    fault: Fault,
-    before: &Table<&[u32]>,
-    after: &mut Table<&mut [u32]>,
-    controller: usize,
-    kept: u32,
-) {
-    let ends = before.ends(controller);
-    for place in kept..before.controller(controller).live {
-        let cause = before.place(controller, place as usize).cause;
-        if cause != 0 && before.message(cause).receiver != DESK {
-            let state = match fault {
-                Fault::LostGiven => state::LOST,
-                Fault::EndsBeforeCrash if is_condemned(&before.message(cause).vector, &ends) => {
-                    state::DROPPED
-                }
-                _ => state::RELEASED,
-            };
-            after.set_state(cause, state);
-        }
-    }
-}
-
-/// Holds again what the step dropped.
-fn keep_held(before: &Table<&[u32]>, after: &mut Table<&mut [u32]>) {
-    for message in 1..=before.sent() {
-        if before.message(message).state == state::HELD {
-            after.set_state(message, state::HELD);
-        }
-    }
 }

@@ -47,6 +47,7 @@ pub(super) fn perform(
             crashed,
             incarnation,
         } => house.hear(hearer, crashed, incarnation),
+        Command::SetGap { gap } => house.set_gap(gap),
     }
 }
 
@@ -89,7 +90,8 @@ impl House<'_> {
     }
 
     fn in_form(&self) -> bool {
-        in_form(self.table.words()) || fault::in_form_too(self.fault, self.table.words())
+        let words = self.table.words();
+        fault::in_form(self.fault, words).unwrap_or_else(|| in_form(words))
     }
 
     fn controller(&self, controller: u32) -> Result<usize, Refusal> {
@@ -257,6 +259,7 @@ impl House<'_> {
         let live = self.table.controller(receiver).live;
         ensure(live < LAST_NUMBER, refusal::PLACES_USED_UP)?;
         let interval = self.begin_next(receiver, message, vector);
+        self.keep_to_the_gap(receiver);
         self.table.set_state(message, state::DELIVERED);
         Ok(Answer::Delivered {
             message,
@@ -275,16 +278,10 @@ impl House<'_> {
         Ok(Answer::Done)
     }
 
-    /// "Log all not yet stable, if any, as by L; flag the newest place."
+    /// "Checkpoint: log all not yet stable, if any, as by L; flag the newest place."
     fn checkpoint(&mut self, controller: u32) -> Outcome {
         let c = self.controller(controller)?;
-        let live = self.table.controller(c).live;
-        self.log_up_to(c, live);
-        let newest = Place {
-            flag: 1,
-            ..self.table.newest(c)
-        };
-        self.table.set_place(c, live as usize - 1, &newest);
+        self.checkpoint_newest(c);
         Ok(Answer::Done)
     }
 
@@ -350,5 +347,13 @@ impl House<'_> {
             },
             Some(kept) => self.roll_back(hearer, kept),
         })
+    }
+
+    /// "A new step sets a house-wide gap Q, 0 to 64. .. A Q above 64 is refused with 5." It touches only
+    /// intervals that begin later.
+    fn set_gap(&mut self, gap: u32) -> Outcome {
+        ensure(gap <= fault::most_gap(self.fault), refusal::DEGREE)?;
+        self.table.set_gap(gap);
+        Ok(Answer::Done)
     }
 }

@@ -1,8 +1,8 @@
 //! "A table is *in form* when every word is in its range."
 
 use super::{
-    state, Controller, Message, Place, Table, CONTROLLERS, DESK, LAST_INCARNATION, LAST_MESSAGE,
-    LAST_NUMBER,
+    state, Controller, Message, Place, Table, CONTROLLERS, DESK, LAST_GAP, LAST_INCARNATION,
+    LAST_MESSAGE, LAST_NUMBER,
 };
 use crate::vector::{Pair, Row, Vector};
 
@@ -33,11 +33,13 @@ impl Form<'_> {
             && self.messages()
     }
 
-    /// "n (1 to 8); word 1: messages sent (0 to 128); words 2 to 15 are 0."
+    /// "n (1 to 8); word 1: messages sent (0 to 128); words 2 to 15 are 0", but for the gap, which is
+    /// "in form up to 64".
     fn head(&self) -> bool {
         (1..=CONTROLLERS as u32).contains(&self.n)
             && self.sent <= LAST_MESSAGE
-            && are_zero(self.table.reserved())
+            && self.table.gap() <= LAST_GAP
+            && self.table.reserved().into_iter().all(are_zero)
     }
 
     fn has(&self, controller: usize) -> bool {

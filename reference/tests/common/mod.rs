@@ -60,6 +60,14 @@ impl House {
         answer
     }
 
+    /// Sets the gap, which has no line; it must be done, and write word 11 alone.
+    pub fn set_gap(&mut self, gap: u32) {
+        let mut expected = self.words.clone();
+        expected[11] = gap;
+        assert_eq!(self.answer(Command::SetGap { gap }), "done");
+        assert!(self.words == expected, "a gap of {gap} wrote another word");
+    }
+
     /// Changes the table by hand; it must stay in form.
     pub fn lend(&mut self, change: impl FnOnce(&mut Table<&mut [u32]>)) {
         let mut table = Table::new(&mut self.words[..]).expect("the right length");

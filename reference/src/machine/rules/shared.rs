@@ -47,6 +47,29 @@ impl House<'_> {
         interval
     }
 
+    /// "When a new interval of any cause would stand Q or more numbers above the latest flagged one on
+    /// its chain, it is checkpointed as it begins, which logs all before it." Each interval that has
+    /// just begun comes here, but for those of an opening. "0 means off."
+    pub(super) fn keep_to_the_gap(&mut self, c: usize) {
+        let gap = self.table.gap();
+        let newest = self.table.newest(c).number;
+        let above = newest - self.latest_flagged(c, newest - 1);
+        if gap != 0 && above >= gap {
+            self.checkpoint_newest(c);
+        }
+    }
+
+    /// "Log all not yet stable, if any, as by L; flag the newest place."
+    pub(super) fn checkpoint_newest(&mut self, c: usize) {
+        let live = self.table.controller(c).live;
+        self.log_up_to(c, live);
+        let newest = Place {
+            flag: 1,
+            ..self.table.newest(c)
+        };
+        self.table.set_place(c, live as usize - 1, &newest);
+    }
+
     /// Logs all up to a number that isn't stable yet, if any.
     pub(super) fn log_up_to(&mut self, c: usize, number: u32) {
         if self.table.controller(c).stable < number {
@@ -130,17 +153,23 @@ impl House<'_> {
 
     /// "*Replayed* = k minus the highest flagged number on the chain that is at most k."
     pub(super) fn replayed(&self, c: usize, kept: u32) -> u32 {
-        let flagged = (0..kept)
+        kept - self.latest_flagged(c, kept)
+    }
+
+    /// "The highest flagged number on the chain that is at most" the given one, stable or not.
+    fn latest_flagged(&self, c: usize, most: u32) -> u32 {
+        let flagged = (0..most)
             .map(|place| self.table.place(c, place as usize))
             .filter(|record| record.flag == 1)
             .map(|record| record.number);
-        kept - flagged.max().unwrap_or(0)
+        flagged.max().unwrap_or(0)
     }
 
     /// "*Starting anew* at c after kept number k: freed places become 0. Place k gets the controller's
     /// incarnation plus 1, number k + 1, cause 0, flag 0, and the kept vector filtered for c with c's
     /// own pair set to the new interval. .. Live and stable counts become k + 1 and the controller's
-    /// incarnation is the new one. Known for c by c gets k + 1 at it."
+    /// incarnation is the new one. Known for c by c gets k + 1 at it." The gap may flag the new place then;
+    /// all is stable already.
     pub(super) fn start_anew(&mut self, c: usize, kept: u32) {
         let mut counts = self.table.controller(c);
         for freed in kept..counts.live {
@@ -153,6 +182,7 @@ impl House<'_> {
         let vector = filtered(&kept_vector, &self.table.known(c));
         let interval = self.begin_next(c, 0, vector);
         self.set_stable(c, interval.number);
+        self.keep_to_the_gap(c);
         self.drop_held_above(c, kept);
     }
 
