@@ -23,13 +23,16 @@ const ANSWERS: [&str; 10] = [
     "waits",
 ];
 
+/// Stands for the step that sets the gap, which has no letter.
+pub const SET_GAP: char = 'q';
+
 /// Which steps can be given each refusal, in the order of their letters.
 const REFUSED: [(Refusal, &str); 15] = [
-    (refusal::LENGTH, "CDHKLORSTX"),
-    (refusal::FORM, "CDHKLRSTX"),
+    (refusal::LENGTH, "CDHKLORSTXq"),
+    (refusal::FORM, "CDHKLRSTXq"),
     (refusal::CONTROLLER, "CHKLSTX"),
     (refusal::MESSAGE, "DR"),
-    (refusal::DEGREE, "KO"),
+    (refusal::DEGREE, "KOq"),
     (refusal::SAME_CONTROLLER, "ST"),
     (refusal::STATE, "DR"),
     (refusal::LOG_COUNT, "L"),
@@ -100,7 +103,7 @@ pub struct Seen {
     answers: BTreeSet<String>,
     /// The refusals, each with the letter of its step.
     refusals: BTreeSet<(Refusal, char)>,
-    /// How often each case of causes, of rollbacks and of the desk came up.
+    /// How often each case of causes, of rollbacks, of the desk and of the gap came up.
     cases: BTreeMap<String, u64>,
     /// How far the houses went.
     pub extent: Extent,
@@ -111,7 +114,8 @@ impl Seen {
     pub fn note(&mut self, command: Command, answer: Answer) {
         self.steps += 1;
         if let Answer::Refused { number } = answer {
-            let letter = lines::write(command).chars().next();
+            let line = lines::write(command);
+            let letter = line.map_or(Some(SET_GAP), |line| line.chars().next());
             self.refusals.extend(letter.map(|letter| (number, letter)));
         } else {
             let line = lines::render(&answer);
@@ -120,8 +124,9 @@ impl Seen {
         }
     }
 
-    /// Takes note of what became of causes, of rollbacks and of readings for the desk, by the words of
-    /// [`reference::causes`], [`reference::rollbacks`] and [`desk`](crate::desk).
+    /// Takes note of what became of causes, of rollbacks, of readings for the desk and of new intervals by
+    /// the gap, in the words of [`reference::causes`], [`reference::rollbacks`], [`desk`](crate::desk) and
+    /// [`reference::forced`].
     pub fn note_cases(&mut self, cases: impl IntoIterator<Item = String>) {
         for case in cases {
             *self.cases.entry(case).or_default() += 1;

@@ -4,13 +4,13 @@
 use crate::agreement::Lent;
 use crate::effort;
 use reference::generate::{
-    damaged, damaged_ledger, in_form_table, named, noise, senseless, sound_ledger, wrong_length,
-    Profile, Random,
+    damaged, damaged_gap, damaged_ledger, gap, gapped_table, in_form_table, named, noise,
+    senseless, sound_ledger, wrong_length, Profile, Random,
 };
 use reference::machine::Command;
 
-/// How many lists of each profile.
-pub const LISTS: [(&Profile, u64); 7] = [
+/// How many lists of each profile. In the first seven no gap is set.
+pub const LISTS: [(&Profile, u64); 10] = [
     (&Profile::MIXED, 1_600),
     (&Profile::CRASHES, 700),
     (&Profile::PARTIAL, 500),
@@ -18,6 +18,9 @@ pub const LISTS: [(&Profile, u64); 7] = [
     (&Profile::WORN, 120),
     (&Profile::WILD, 1_500),
     (&Profile::DESK, 60),
+    (&Profile::GAPS, 700),
+    (&Profile::CEILING, 700),
+    (&Profile::LONG, 100),
 ];
 
 /// Random lent tables of one kind.
@@ -31,6 +34,8 @@ pub struct Tables {
     count: u64,
     /// Makes one.
     make: fn(&mut Random) -> Vec<u32>,
+    /// Whether gaps are set, too. In tables where they aren't the gap is off, or the form is damaged.
+    gaps: bool,
 }
 
 impl Tables {
@@ -40,6 +45,7 @@ impl Tables {
         seed: 1,
         count: 4_000,
         make: in_form_table,
+        gaps: false,
     };
     /// The same with one word changed. Many of them are in form still.
     pub const DAMAGED: Tables = Tables {
@@ -47,6 +53,7 @@ impl Tables {
         seed: 2,
         count: 3_000,
         make: |random| damaged(random).0,
+        gaps: false,
     };
     /// Words of another length, and noise.
     pub const NOISE: Tables = Tables {
@@ -57,9 +64,35 @@ impl Tables {
             0 => noise(random),
             _ => wrong_length(random),
         },
+        gaps: false,
+    };
+    /// Tables in form with any gap.
+    pub const GAPPED: Tables = Tables {
+        name: "lent tables with a gap",
+        seed: 7,
+        count: 4_000,
+        make: gapped_table,
+        gaps: true,
+    };
+    /// Tables with a gap that is too wide, and others that are refused; some are in form still.
+    pub const GAP_DAMAGED: Tables = Tables {
+        name: "lent gaps damaged",
+        seed: 8,
+        count: 1_000,
+        make: |random| match random.below(5) {
+            0 => gapped_table(random),
+            _ => damaged_gap(random),
+        },
+        gaps: true,
     };
     /// All of them.
-    pub const ALL: [Tables; 3] = [Tables::IN_FORM, Tables::DAMAGED, Tables::NOISE];
+    pub const ALL: [Tables; 5] = [
+        Tables::IN_FORM,
+        Tables::DAMAGED,
+        Tables::NOISE,
+        Tables::GAPPED,
+        Tables::GAP_DAMAGED,
+    ];
 
     /// Each table with a ledger, and the steps for it.
     pub fn with_steps(self) -> impl Iterator<Item = (Lent, Vec<Command>)> {
@@ -69,13 +102,22 @@ impl Tables {
                 table: (self.make)(&mut random),
                 ledger: any_ledger(&mut random),
             };
-            let steps = steps(&mut random, &lent.table);
+            let mut steps = steps(&mut random, &lent.table);
+            if self.gaps {
+                steps.extend(gaps_set(&mut random));
+            }
             (lent, steps)
         })
     }
 }
 
-/// A step of each letter with sensible numbers, where the table has its length, and ten with any.
+/// Gaps that are set, with any numbers.
+pub fn gaps_set(random: &mut Random) -> [Command; 2] {
+    [0, 1].map(|_| Command::SetGap { gap: gap(random) })
+}
+
+/// A step of each letter with sensible numbers, where the table has its length, and ten with any. None
+/// sets the gap.
 pub fn steps(random: &mut Random, words: &[u32]) -> Vec<Command> {
     let mut steps = named(random, words);
     steps.extend((0..10).map(|_| senseless(random)));

@@ -10,12 +10,13 @@ use reference::refusal;
 /// # Panics
 /// If what comes back is no answer: a number that none has, or values that aren't zero after its own.
 pub fn step(table: &mut [u32], ledger: &mut [u32], command: Command) -> Answer {
-    match goulvizad::step(table, ledger, asked(command)) {
-        Ok(answer) => answered(answer),
-        Err(refusal) => Answer::Refused {
-            number: number(refusal),
-        },
-    }
+    let answer = match asked(command) {
+        Call::Step(step) => goulvizad::step(table, ledger, step).map(answered),
+        Call::SetGap(gap) => goulvizad::set_gap(table, gap).map(|()| Answer::Done),
+    };
+    answer.unwrap_or_else(|refusal| Answer::Refused {
+        number: number(refusal),
+    })
 }
 
 /// Whether these words are a table in form, as the proved machine sees it.
@@ -30,8 +31,17 @@ pub fn in_form(table: &[u32]) -> bool {
     }
 }
 
-fn asked(command: Command) -> Step {
-    match command {
+/// A step, by the function that does it.
+enum Call {
+    /// One that has a letter.
+    Step(Step),
+    /// One that has none, and takes no ledger.
+    SetGap(u32),
+}
+
+fn asked(command: Command) -> Call {
+    let step = match command {
+        Command::SetGap { gap } => return Call::SetGap(gap),
         Command::Open { n, degree } => Step::Open { n, degree },
         Command::SetDegree { controller, degree } => Step::SetDegree { controller, degree },
         Command::Send {
@@ -58,7 +68,8 @@ fn asked(command: Command) -> Step {
             crashed,
             incarnation,
         },
-    }
+    };
+    Call::Step(step)
 }
 
 fn answered(answer: goulvizad::Answer) -> Answer {

@@ -1,5 +1,6 @@
 //! The C interface itself: letters that are no steps, value buffers of another length, numbers that
-//! aren't looked at, what stands in the values, and that nothing else is written.
+//! aren't looked at, what stands in the values, and that nothing else is written. The call that sets the
+//! gap has its own tests.
 
 use compare::agreement::Lent;
 use compare::effort;
@@ -58,9 +59,9 @@ impl Call {
 }
 
 impl From<Command> for Call {
-    /// Read off the line of the step.
+    /// Read off the line of the step, which must have one.
     fn from(command: Command) -> Self {
-        let line = lines::write(command);
+        let line = lines::write(command).expect("a step with a letter");
         let mut fields = line.split(' ');
         let letter = fields.next().map(str::as_bytes);
         let &[letter] = letter.expect("a first field") else {
@@ -224,7 +225,7 @@ fn with_idle_numbers(random: &mut Random, command: Command) -> Call {
 fn the_fourth_number_is_not_looked_at() {
     let mut random = Random::new(7);
     let mut accepted = BTreeSet::new();
-    for profile in Profile::ALL {
+    for profile in Profile::LETTERED {
         for seed in 0..effort(6) {
             let walk = Walk::new(seed, profile);
             let mut lent = Lent::by(&walk);
@@ -247,7 +248,7 @@ fn the_fourth_number_is_not_looked_at() {
 fn values_are_those_of_the_line() {
     let mut random = Random::new(4);
     let mut numbers = BTreeSet::new();
-    for profile in Profile::ALL {
+    for profile in Profile::LETTERED {
         for seed in 0..effort(12) {
             let mut walk = Walk::new(seed, profile);
             let mut lent = Lent::by(&walk);

@@ -1,6 +1,6 @@
 //! Random lists of steps: after each step the answer and every word of the table and of the ledger
-//! agree, the table is in form, the ledger is the one that the steps say, and demand 3 holds of the
-//! proved machine's own answers.
+//! agree, the table is in form, the ledger is the one that the steps say, and demand 3 and the ceiling on
+//! replay hold of the proved machine's own answers.
 
 use compare::agreement::{beside, Buffer, Difference, Lent, Parting};
 use compare::coverage::{Extent, Seen};
@@ -10,7 +10,7 @@ use reference::causes::{self, Offers};
 use reference::demand::Judge;
 use reference::generate::{Profile, Walk};
 use reference::machine::{Answer, Command, Fault};
-use reference::{refusal, rollbacks};
+use reference::{facts, forced, refusal, rollbacks};
 use std::thread;
 
 fn compare_list(profile: &'static Profile, seed: u64, seen: &mut Seen) {
@@ -26,6 +26,11 @@ fn compare_list(profile: &'static Profile, seed: u64, seen: &mut Seen) {
         if let Answer::Refused { .. } = answer {
             assert!(*lent == before, "{}: words changed", label());
         }
+        let before_it = judge.history();
+        let replayed = before_it.is_none_or(|history| facts::replayed_agrees(history, answer));
+        assert!(replayed, "{}: not what the history has", label());
+        let beside = forced::beside_ceiling(judge.ceiling(), &before.table, answer);
+        seen.note_cases(beside);
         judge.feed(command, answer);
         judge.see_ledger(&lent.ledger);
         seen.note(command, answer);
@@ -34,6 +39,7 @@ fn compare_list(profile: &'static Profile, seed: u64, seen: &mut Seen) {
         seen.note_cases(offers.feed(before_it, command, answer, after_it));
         seen.note_cases(rollbacks::case(before_it, answer));
         seen.note_cases(desk::case(&before, command, answer));
+        seen.note_cases(forced::cases(before_it, command, answer, after_it));
         seen.note_extent(lent);
         before.clone_from(lent);
     });
@@ -63,13 +69,27 @@ fn the_machines_agree_on_every_step() {
     seen.assert_all(refusal::CONTROLLER..=refusal::INCARNATIONS_USED_UP);
     assert_eq!(seen.refused(refusal::LEDGER), "");
     assert_eq!(seen.refused(refusal::LEDGER_USED_UP), "");
-    seen.assert_cases(&causes::IN_LISTS, &[&rollbacks::CASES, &desk::IN_LISTS]);
+    seen.assert_cases(
+        &causes::IN_LISTS,
+        &[
+            &rollbacks::CASES,
+            &desk::IN_LISTS,
+            &forced::IN_LISTS,
+            &forced::BESIDE_THE_CEILING,
+        ],
+    );
     assert_eq!(seen.extent, Extent::UTMOST);
 }
 
 /// Where the proved machine parts from a faulty one, if it does in one of these lists.
 fn parting(fault: Fault) -> Option<Parting> {
-    let profiles = [&Profile::CRASHES, &Profile::PARTIAL, &Profile::WORN];
+    let profiles = [
+        &Profile::CRASHES,
+        &Profile::PARTIAL,
+        &Profile::WORN,
+        &Profile::GAPS,
+        &Profile::CEILING,
+    ];
     profiles.into_iter().find_map(|profile| {
         (0..20).find_map(|seed| {
             let walk = Walk::with_fault(seed, profile, fault);
@@ -99,6 +119,8 @@ fn faults_are_found_by_answers_and_by_words() {
     assert!(matches!(by_answer, Some(Difference::Answer { .. })));
     for (fault, place) in [
         (Fault::KnownNotRaised, Buffer::Table),
+        (Fault::FlaggedWithoutLogging, Buffer::Table),
+        (Fault::CrashStartNotCounted, Buffer::Table),
         (Fault::PublishedWithoutEntry, Buffer::Ledger),
         (Fault::EntryOutOfOrder, Buffer::Ledger),
     ] {

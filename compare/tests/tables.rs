@@ -3,13 +3,15 @@
 
 use compare::agreement::{on_lent, on_lent_with, Lent};
 use compare::coverage::Seen;
-use compare::inputs::{any_ledger, steps, Tables};
+use compare::inputs::{any_ledger, gaps_set, steps, Tables};
 use compare::{desk, effort, in_form};
-use reference::generate::{damaged, in_form_table, Profile, Random, Walk};
+use reference::generate::{
+    damaged, damaged_gap, gapped_table, in_form_table, Profile, Random, Walk,
+};
 use reference::machine::{self, Answer, Command, Fault};
 use reference::table::state::{DROPPED, HELD, PUBLISHED};
 use reference::table::{self, Message, Table, DESK, WORDS};
-use reference::{causes, ledger, refusal, rollbacks};
+use reference::{causes, forced, ledger, refusal, rollbacks};
 
 /// Does each of many steps on the table and the ledger as they were lent.
 fn compare_table(lent: &Lent, steps: Vec<Command>, seen: &mut Seen) {
@@ -25,6 +27,7 @@ fn compare_table(lent: &Lent, steps: Vec<Command>, seen: &mut Seen) {
         seen.note_cases(causes::cases(&lent.table, command, answer, &after.table));
         seen.note_cases(rollbacks::case(&lent.table, answer));
         seen.note_cases(desk::case(lent, command, answer));
+        seen.note_cases(forced::cases(&lent.table, command, answer, &after.table));
     }
 }
 
@@ -40,18 +43,28 @@ fn compare_tables(tables: Tables) -> Seen {
 fn tables_in_form() {
     let seen = compare_tables(Tables::IN_FORM);
     assert!(seen.steps >= 80_000);
-    seen.assert_all(refusal::CONTROLLER..);
     seen.assert_cases(
         &causes::on_lent_tables(),
-        &[&rollbacks::CASES, &desk::ON_LENT],
+        &[&rollbacks::CASES, &desk::ON_LENT, &forced::WITHOUT_A_GAP],
     );
+    let gapped = compare_tables(Tables::GAPPED);
+    assert!(gapped.steps >= 80_000);
+    let by_the_gap: [&[&str]; 2] = [&forced::IN_LISTS, &forced::ON_LENT_TOO];
+    gapped.assert_cases(
+        &causes::on_lent_tables(),
+        &[&rollbacks::CASES, &desk::ON_LENT, &by_the_gap.concat()],
+    );
+    seen.join(gapped).assert_all(refusal::CONTROLLER..);
 }
 
 #[test]
 fn damaged_tables() {
     let seen = compare_tables(Tables::DAMAGED);
     assert!(seen.steps >= 60_000);
-    seen.assert_all(refusal::FORM..);
+    let gaps = compare_tables(Tables::GAP_DAMAGED);
+    assert!(gaps.steps >= 20_000);
+    assert_eq!(gaps.refused(refusal::LENGTH), "CDHKLORSTXq");
+    seen.join(gaps).assert_all(refusal::FORM..);
 }
 
 #[test]
@@ -82,12 +95,13 @@ fn every_wrong_length_is_refused() {
             ledger: any_ledger(&mut random),
         };
         for _ in 0..10 {
-            let steps = steps(&mut random, &lent.table);
+            let mut steps = steps(&mut random, &lent.table);
+            steps.extend(gaps_set(&mut random));
             compare_table(&lent, steps, &mut seen);
         }
         assert!(!in_form(&lent.table), "{length} words");
     }
-    assert_eq!(seen.refused(refusal::LENGTH), "CDHKLORSTX");
+    assert_eq!(seen.refused(refusal::LENGTH), "CDHKLORSTXq");
     assert!(in_form(&whole[..WORDS]));
 }
 
@@ -100,8 +114,10 @@ fn every_planted_fault_that_no_list_shows_is_found() {
     left.retain(|fault| !fault.shows_in_lists());
     assert!(!left.is_empty());
     for round in 0..1_000 {
-        let table = match round % 2 {
+        let table = match round % 4 {
             0 => in_form_table(&mut random),
+            1 => gapped_table(&mut random),
+            2 => damaged_gap(&mut random),
             _ => damaged(&mut random).0,
         };
         let ledger = any_ledger(&mut random);

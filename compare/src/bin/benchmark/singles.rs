@@ -1,0 +1,151 @@
+//! Single steps that are timed, each in a copy of a house that has many live intervals.
+
+use compare::agreement::{on_lent, Lent};
+use compare::proved;
+use reference::lines;
+use reference::machine::{self, Command};
+use reference::table::LAST_NUMBER;
+use std::hint::black_box;
+use std::io::{self, ErrorKind};
+use std::time::{Duration, Instant};
+
+use crate::mixes::{led_to, passed};
+use crate::{medians, row, Machine};
+
+/// The steps in a round.
+const TIMES: usize = 3_000;
+
+/// A step, and the house that it is done in.
+pub struct Single {
+    name: &'static str,
+    house: Lent,
+    command: Command,
+    /// The line of its answer.
+    answer: &'static str,
+}
+
+/// Hearings of controller 0 in the house that [`crowded`] leads to.
+pub fn hearings() -> [Single; 3] {
+    let house = led_to(&crowded());
+    [
+        ("nothing to undo", 1, "heard 0"),
+        ("all above place 0 to undo", 2, "rolled 0 1 63 0"),
+        ("the newest to undo", 3, "rolled 0 63 1 62"),
+    ]
+    .map(|(name, crashed, answer)| Single {
+        name,
+        house: house.clone(),
+        command: Command::Hear {
+            hearer: 0,
+            crashed,
+            incarnation: 0,
+        },
+        answer,
+    })
+}
+
+/// Steps to a house of eight where controller 0 has 64 live intervals and no checkpoint but that of place
+/// 0, and 1, 2 and 3 have crashed. Of work that was lost, all its places above 0 rest on 2's, its newest
+/// one on 3's, and none on 1's.
+fn crowded() -> Vec<Command> {
+    let mut steps = vec![Command::Open { n: 8, degree: 8 }];
+    // A delivery that isn't logged gives 2 and 3 something to lose.
+    let senders = [(4, 2), (2, 0)].into_iter();
+    let senders = senders.chain((0..61).map(|sender| (4 + sender % 4, 0)));
+    let senders = senders.chain([(4, 3), (3, 0)]);
+    for (message, (sender, receiver)) in (1..).zip(senders) {
+        steps.extend(passed(message, sender, receiver));
+    }
+    steps.extend([1, 2, 3].map(|controller| Command::Crash { controller }));
+    steps
+}
+
+/// Deliveries and crashes of controller 0, whose number 64 begins 63 above its only checkpoint, without a
+/// gap and on both sides of one; and a gap that is set.
+pub fn by_the_gap() -> [Single; 7] {
+    let last = LAST_NUMBER - 1;
+    let deliver = Command::Deliver { message: last };
+    let crash = Command::Crash { controller: 0 };
+    let set = Command::SetGap { gap: 3 };
+    let (delivered, crashed) = ("delivered 63 0 64", "crashed 0 0 63 0 62");
+    [
+        ("a delivery without a gap", 0, deliver, delivered),
+        ("a delivery one below the gap", last + 1, deliver, delivered),
+        ("a delivery at the gap", last, deliver, delivered),
+        ("a crash without a gap", 0, crash, crashed),
+        (
+            "a crash, its start one below the gap",
+            last + 1,
+            crash,
+            crashed,
+        ),
+        ("a crash, its start at the gap", last, crash, crashed),
+        ("a gap set", 0, set, "done"),
+    ]
+    .map(|(name, gap, command, answer)| Single {
+        name,
+        house: led_to(&long(gap, command == crash)),
+        command,
+        answer,
+    })
+}
+
+/// Steps to a house of eight where controller 0 has 63 live intervals, stable or not, no checkpoint but
+/// that of place 0, and another message to take; then the gap is set.
+fn long(gap: u32, stable: bool) -> Vec<Command> {
+    let mut steps = vec![Command::Open { n: 8, degree: 8 }];
+    for message in 1..LAST_NUMBER {
+        steps.extend(passed(message, 1 + message % 7, 0));
+    }
+    steps.pop();
+    if stable {
+        steps.push(Command::Log {
+            controller: 0,
+            count: LAST_NUMBER - 2,
+        });
+    }
+    steps.push(Command::SetGap { gap });
+    steps
+}
+
+impl Single {
+    /// Prints its times by both machines.
+    ///
+    /// # Panics
+    /// If they differ, or answer something else: there is nothing to be timed then.
+    pub fn time(&self) {
+        let Single { name, answer, .. } = self;
+        let agreed = on_lent(&self.house, self.command);
+        let (answered, _) = agreed.unwrap_or_else(|difference| panic!("{name}: {difference:?}"));
+        assert_eq!(lines::render(&answered), *answer, "{name}");
+        let times = medians(|| self.play(proved::step), || self.play(machine::step));
+        row(name, TIMES, times);
+    }
+
+    /// The time of all steps of a round with a machine, each in a copy of the house. Only the steps are
+    /// timed.
+    fn play(&self, machine: Machine) -> Duration {
+        let step = |_| {
+            let Lent {
+                mut table,
+                mut ledger,
+            } = self.house.clone();
+            let start = Instant::now();
+            black_box(machine(&mut table, &mut ledger, black_box(self.command)));
+            start.elapsed()
+        };
+        (0..TIMES).map(step).sum()
+    }
+}
+
+/// Does the step of this name so many times with the proved machine, each in a copy of its house.
+pub fn repeat(name: &str, times: &str) -> io::Result<()> {
+    let mut singles = hearings().into_iter().chain(by_the_gap());
+    let single = singles.find(|single| single.name == name);
+    let single = single.ok_or(ErrorKind::InvalidInput)?;
+    let times: usize = times.parse().map_err(io::Error::other)?;
+    for _ in 0..times {
+        black_box(single.house.clone().step(single.command));
+    }
+    Ok(())
+}
