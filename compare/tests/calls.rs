@@ -2,10 +2,13 @@
 //! aren't looked at, what stands in the values, and that nothing else is written. The call that sets the
 //! gap has its own tests.
 
+mod margins;
+
 use compare::agreement::Lent;
 use compare::effort;
 use goulvizad::raw::returned::{DONE, REFUSED, UNKNOWN_LETTER, WRONG_VALUES};
 use goulvizad::raw::{call, VALUE_WORDS};
+use margins::{inner, within_margins, UNTOUCHED};
 use reference::generate::{
     in_form_table, senseless, sound_ledger, wrong_length, Profile, Random, Walk,
 };
@@ -30,9 +33,6 @@ const NAMES: [&str; 11] = [
     "rolled",
     "refused",
 ];
-
-/// What stands in a value buffer before a call; no answer has it.
-const UNTOUCHED: u32 = 0xA5A5_A5A5;
 
 /// What a call asks for.
 #[derive(Clone, Copy, Debug)]
@@ -262,21 +262,6 @@ fn values_are_those_of_the_line() {
         }
     }
     assert!(numbers.into_iter().eq(DONE..=REFUSED));
-}
-
-/// How many words stand before and after a lent buffer.
-const MARGIN: usize = 2_000;
-
-/// These words within a larger buffer.
-fn within_margins(words: &[u32]) -> Vec<u32> {
-    let margin = [UNTOUCHED; MARGIN];
-    [&margin, words, &margin].concat()
-}
-
-/// All but the margins.
-fn inner(buffer: &mut [u32]) -> &mut [u32] {
-    let end = buffer.len() - MARGIN;
-    &mut buffer[MARGIN..end]
 }
 
 /// A table, a ledger and values lent out of larger buffers: what stands beside them stays.

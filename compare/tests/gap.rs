@@ -1,10 +1,13 @@
 //! The gap through its own call: what it returns and writes, what comes before what, and for every gap which
 //! intervals of a long chain are checkpointed as they begin.
 
+mod margins;
+
 use compare::agreement::{on_lent, Lent};
 use compare::{effort, in_form};
 use goulvizad::raw::returned::{DONE, REFUSED, WRONG_VALUES};
 use goulvizad::raw::{set_gap, VALUE_WORDS};
+use margins::{inner, within_margins, UNTOUCHED};
 use reference::generate::{damaged_gap, gap, gapped_table, noise, Profile, Random, Walk};
 use reference::machine::{Answer, Command};
 use reference::table::{self, Table, LAST_GAP, LAST_INCARNATION, LAST_NUMBER, WORDS};
@@ -12,9 +15,6 @@ use reference::{ledger, refusal};
 
 /// The position of the gap.
 const GAP: usize = 11;
-
-/// What stands in a buffer where nobody shall write; no answer has it.
-const UNTOUCHED: u32 = 0xA5A5_A5A5;
 
 /// A house in which much has been done.
 fn house() -> Vec<u32> {
@@ -110,19 +110,6 @@ fn refusals_come_in_their_order() {
             assert!(table == before || expected.0 == DONE, "a gap of {gap}");
         }
     }
-}
-
-/// How many words stand before and after a lent buffer.
-const MARGIN: usize = 2_000;
-
-fn within_margins(words: &[u32]) -> Vec<u32> {
-    let margin = [UNTOUCHED; MARGIN];
-    [&margin, words, &margin].concat()
-}
-
-fn inner(buffer: &mut [u32]) -> &mut [u32] {
-    let end = buffer.len() - MARGIN;
-    &mut buffer[MARGIN..end]
 }
 
 /// A table and values lent out of larger buffers: what stands beside them stays.
