@@ -21,7 +21,7 @@ use Rattle.rules.specs.Ledger.{countAt, ledgerWords, countOf, appended, 
 use Rattle.rules.specs.Shared.{placeRecord, logged, loggedTo, checkpointed, forced, capped, causing, causedIn, causesIn, causes, offeredAgain, newVector, placed, entered, restarted, heldOrDropped, dropHeld, startAnew, removed, latestFlagged, replayed}
 use Rattle.rules.specs.Steps.{refusing, refusingBoth, openHouse, stepOpen, stepGap, letOut, mayGo, release, intervalAdded, intervalBegins, deliver, crashed, noted, lowestCondemned, rolledBack, hear}
 use Rattle.rules.specs.Report.{report}
-use Rattle.rules.specs.Starred.{Row, _is_, no, yes, truth, answer}
+use Rattle.rules.specs.Starred.{Row, _is_by_, rows-hold, no, yes, truth, answer}
 use Rattle.rules.specs.declared.Answer.the-variants.{Done, Released, Held, Rolled, Refused}
 
 -- message 1, in record 0, is from controller 0, of degree 0, and has the pair (0,2) of controller 1, which controller 0 knows to be stable
@@ -84,71 +84,71 @@ in-head k x = put (put blank Size 1) (OfHead k) x
 abbrev stands : State → ℕ → ℕ → List ℕ
 stands σ p i = σ (Flag 0 p) ∷ σ (StableCount 0) ∷ σ (Known 0 0 i) ∷ []
 
-abbrev told-apart : List Row
+pub told-apart : List Row
+unfolding put same putPart clearPlaces putStates tab allb anyb numberOf used messageOf placeVector messageVector flat knownStable filterPair filtered condemnedPair condemned maskTo mask conflictPair conflict mergePair merged placeRecord logged loggedTo checkpointed forced capped causing causedIn causesIn causes offeredAgain newVector placed entered restarted heldOrDropped dropHeld startAnew removed latestFlagged replayed stateOk zeros headZeros headOk appended blankLedger splice allOf firstOf refusing refusingBoth openHouse stepOpen stepGap letOut mayGo release intervalAdded intervalBegins deliver crashed noted lowestCondemned rolledBack hear report first onesIn ones
 told-apart =
     -- "Counting stored pairs at release instead of filtered ones": it would be held.
-    (answer (release house since-logged [] 1 0 .answer) is answer (Released 1 0))
+    (answer (release house since-logged [] 1 0 .answer) is answer (Released 1 0) by refl)
     -- "Writing an end word for a rollback as if it were a crash": the own end word would be 2.
-    ∷ ((rolledBack two-unstable 0 2 (End 0 0 0) ∷ []) is (0 ∷ []))
+    ∷ ((rolledBack two-unstable 0 2 (End 0 0 0) ∷ []) is (0 ∷ []) by refl)
     -- "Not logging kept intervals on rollback": they would not be known to be stable.
-    ∷ ((rolledBack two-unstable 0 2 (Known 0 0 0) ∷ []) is (2 ∷ []))
+    ∷ ((rolledBack two-unstable 0 2 (Known 0 0 0) ∷ []) is (2 ∷ []) by refl)
     -- A start anew that leaves held messages held: what was sent from an undone interval could still be released.
-    ∷ ((rolledBack one-held 0 2 (MessageState 0) ∷ []) is (stateDropped ∷ []))
+    ∷ ((rolledBack one-held 0 2 (MessageState 0) ∷ []) is (stateDropped ∷ []) by refl)
     -- W1: a cause of a lost interval that is lost with it, and not "released again".
-    ∷ ((crashed one-taken 0 (MessageState 0) ∷ []) is (stateReleased ∷ []))
+    ∷ ((crashed one-taken 0 (MessageState 0) ∷ []) is (stateReleased ∷ []) by refl)
     -- W1: a cause released again though it is condemned, or judged by the ends before the crash.
-    ∷ ((crashed one-returned 0 (MessageState 0) ∷ []) is (stateDropped ∷ []))
+    ∷ ((crashed one-returned 0 (MessageState 0) ∷ []) is (stateDropped ∷ []) by refl)
     -- W2: a message to the desk let out by the degree, or published while it is held.
-    ∷ (answer (release house revocable cited-once 1 0 .answer) is answer (Held 1 2))
-    ∷ (release house revocable cited-once 1 0 .ledger is cited-once)
+    ∷ (answer (release house revocable cited-once 1 0 .answer) is answer (Held 1 2) by refl)
+    ∷ (release house revocable cited-once 1 0 .ledger is cited-once by refl)
     -- W2: a full ledger looked at before the mask; it is looked at where the message would be published.
-    ∷ (answer (release house revocable full 1 0 .answer) is answer (Held 1 2))
-    ∷ (answer (release house for-desk full 1 0 .answer) is answer (Refused LEDGER-USED-UP))
+    ∷ (answer (release house revocable full 1 0 .answer) is answer (Held 1 2) by refl)
+    ∷ (answer (release house for-desk full 1 0 .answer) is answer (Refused LEDGER-USED-UP) by refl)
     -- W2: "released m 0", "state 6, published", and one pair is appended behind the others.
-    ∷ (answer (release house for-desk cited-once 1 0 .answer) is answer (Released 1 0))
-    ∷ ((release house for-desk cited-once 1 0 .left (MessageState 0) ∷ []) is (statePublished ∷ []))
-    ∷ (release house for-desk cited-once 1 0 .ledger is (2 ∷ 5 ∷ 6 ∷ 1 ∷ 7 ∷ []))
+    ∷ (answer (release house for-desk cited-once 1 0 .answer) is answer (Released 1 0) by refl)
+    ∷ ((release house for-desk cited-once 1 0 .left (MessageState 0) ∷ []) is (statePublished ∷ []) by refl)
+    ∷ (release house for-desk cited-once 1 0 .ledger is (2 ∷ 5 ∷ 6 ∷ 1 ∷ 7 ∷ []) by refl)
     -- W2: a release that doesn't publish writes the ledger.
-    ∷ (release house since-logged cited-once 1 0 .ledger is cited-once)
+    ∷ (release house since-logged cited-once 1 0 .ledger is cited-once by refl)
     -- W2: an opening that leaves an old entry.
-    ∷ ((countOf (stepOpen house blank used-before 1 0 .ledger) ∷ []) is (0 ∷ []))
+    ∷ ((countOf (stepOpen house blank used-before 1 0 .ledger) ∷ []) is (0 ∷ []) by refl)
     -- W2: state 6 in form elsewhere, or another at the desk.
-    ∷ (truth (stateOk false statePublished) is no)
-    ∷ (truth (stateOk true statePublished) is yes)
-    ∷ (truth (stateOk true stateReleased) is no)
+    ∷ (truth (stateOk false statePublished) is no by refl)
+    ∷ (truth (stateOk true statePublished) is yes by refl)
+    ∷ (truth (stateOk true stateReleased) is no by refl)
     -- W2: a message to the desk changed as a cause.
-    ∷ ((crashed published-taken 0 (MessageState 0) ∷ []) is (statePublished ∷ []))
+    ∷ ((crashed published-taken 0 (MessageState 0) ∷ []) is (statePublished ∷ []) by refl)
     -- W3: replayed from the checkpoint of the condemned place itself, or from the first place's though a later one is kept.
-    ∷ (answer (hear one-orphan 0 1 0 .answer) is answer (Rolled 0 3 1 1))
+    ∷ (answer (hear one-orphan 0 1 0 .answer) is answer (Rolled 0 3 1 1) by refl)
     -- W3: the first place's checkpoint left out.
-    ∷ (answer (hear (put one-orphan (Flag 0 1) 0) 0 1 0 .answer) is answer (Rolled 0 3 1 2))
+    ∷ (answer (hear (put one-orphan (Flag 0 1) 0) 0 1 0 .answer) is answer (Rolled 0 3 1 2) by refl)
     -- W3: a condemned place passed over: the second interval rests on lost work, too.
-    ∷ (answer (hear (put one-orphan (PairNumber 0 1 1) 2) 0 1 0 .answer) is answer (Rolled 0 1 3 0))
+    ∷ (answer (hear (put one-orphan (PairNumber 0 1 1) 2) 0 1 0 .answer) is answer (Rolled 0 1 3 0) by refl)
     -- W4: message 1, in record 0, begins number 4, three above the checkpoint. With a gap of 3 it is flagged, and all is logged: "Q or
     -- more" and not more than Q, not flagged without logging, and the new one logged too.
-    ∷ (stands (deliver house (with-gap 3) 1 0 .left) 3 0 is (1 ∷ 4 ∷ 4 ∷ []))
+    ∷ (stands (deliver house (with-gap 3) 1 0 .left) 3 0 is (1 ∷ 4 ∷ 4 ∷ []) by refl)
     -- W4: one number less than the gap is not forced, and 0 is off.
-    ∷ (stands (deliver house (with-gap 4) 1 0 .left) 3 0 is (0 ∷ 2 ∷ 0 ∷ []))
-    ∷ (stands (deliver house (with-gap 0) 1 0 .left) 3 0 is (0 ∷ 2 ∷ 0 ∷ []))
+    ∷ (stands (deliver house (with-gap 4) 1 0 .left) 3 0 is (0 ∷ 2 ∷ 0 ∷ []) by refl)
+    ∷ (stands (deliver house (with-gap 0) 1 0 .left) 3 0 is (0 ∷ 2 ∷ 0 ∷ []) by refl)
     -- W4: a checkpoint counts though it isn't stable: the third interval's.
-    ∷ (stands (deliver house (put (with-gap 3) (Flag 0 2) 1) 1 0 .left) 3 0 is (0 ∷ 2 ∷ 0 ∷ []))
+    ∷ (stands (deliver house (put (with-gap 3) (Flag 0 2) 1) 1 0 .left) 3 0 is (0 ∷ 2 ∷ 0 ∷ []) by refl)
     -- W4: a start that is not counted: after a crash, and after a rollback, number 3 is two above the checkpoint.
-    ∷ (stands (crashed (with-gap 2) 0) 2 1 is (1 ∷ 3 ∷ 3 ∷ []))
-    ∷ (stands (rolledBack (with-gap 2) 0 2) 2 1 is (1 ∷ 3 ∷ 3 ∷ []))
-    ∷ (stands (crashed (with-gap 3) 0) 2 1 is (0 ∷ 3 ∷ 3 ∷ []))
+    ∷ (stands (crashed (with-gap 2) 0) 2 1 is (1 ∷ 3 ∷ 3 ∷ []) by refl)
+    ∷ (stands (rolledBack (with-gap 2) 0 2) 2 1 is (1 ∷ 3 ∷ 3 ∷ []) by refl)
+    ∷ (stands (crashed (with-gap 3) 0) 2 1 is (0 ∷ 3 ∷ 3 ∷ []) by refl)
     -- W4: a gap of 65 taken, or one of 64 refused; an old gap left by a step that sets 0, or by an opening.
-    ∷ (answer (stepGap blank (lastGap + 1) .answer) is answer (Refused DEGREE))
-    ∷ (answer (stepGap blank lastGap .answer) is answer Done)
-    ∷ ((stepGap blank lastGap .left Gap ∷ []) is (64 ∷ []))
-    ∷ ((stepGap (with-gap 2) 0 .left Gap ∷ []) is (0 ∷ []))
-    ∷ ((stepOpen house (with-gap 2) used-before 1 0 .left Gap ∷ []) is (0 ∷ []))
+    ∷ (answer (stepGap blank (lastGap + 1) .answer) is answer (Refused DEGREE) by refl)
+    ∷ (answer (stepGap blank lastGap .answer) is answer Done by refl)
+    ∷ ((stepGap blank lastGap .left Gap ∷ []) is (64 ∷ []) by refl)
+    ∷ ((stepGap (with-gap 2) 0 .left Gap ∷ []) is (0 ∷ []) by refl)
+    ∷ ((stepOpen house (with-gap 2) used-before 1 0 .left Gap ∷ []) is (0 ∷ []) by refl)
     -- W4: a gap of 65 in form, or one of 64 not; a word beside it, 10 or 12, that may be anything.
-    ∷ (truth (headOk house (in-head 11 64)) is yes)
-    ∷ (truth (headOk house (in-head 11 65)) is no)
-    ∷ (truth (headOk house (in-head 10 1)) is no)
-    ∷ (truth (headOk house (in-head 12 1)) is no)
+    ∷ (truth (headOk house (in-head 11 64)) is yes by refl)
+    ∷ (truth (headOk house (in-head 11 65)) is no by refl)
+    ∷ (truth (headOk house (in-head 10 1)) is no by refl)
+    ∷ (truth (headOk house (in-head 12 1)) is no by refl)
     ∷ []
 
 pub told-apart-hold : map (λ (x : Row). x .given) told-apart ≡ map (λ (x : Row). x .said) told-apart
-unfolding put same putPart clearPlaces putStates tab allb anyb numberOf used messageOf placeVector messageVector flat knownStable filterPair filtered condemnedPair condemned maskTo mask conflictPair conflict mergePair merged placeRecord logged loggedTo checkpointed forced capped causing causedIn causesIn causes offeredAgain newVector placed entered restarted heldOrDropped dropHeld startAnew removed latestFlagged replayed stateOk zeros headZeros headOk appended blankLedger splice allOf firstOf refusing refusingBoth openHouse stepOpen stepGap letOut mayGo release intervalAdded intervalBegins deliver crashed noted lowestCondemned rolledBack hear report first onesIn ones
-told-apart-hold = refl
+told-apart-hold = rows-hold told-apart

@@ -11,20 +11,27 @@ use Rattle.table.specs.Change.{blank, put, putPart}
 use Rattle.table.specs.Numbering.{numberOf}
 use Rattle.rules.specs.Limits.{house}
 use Rattle.rules.specs.Vector.{pair, noPair, pairOf, placeVector, messageVector, flat, knownStable, filterPair, filtered, condemnedPair, condemned, maskTo, mask, conflictPair, conflict, mergePair, merged}
-use Rattle.rules.specs.Shared.{placeRecord, latestFlagged, replayed, forced, capped}
+use Rattle.rules.specs.Shared.{placeRecord, latestFlagged, replayed, logged, loggedTo, checkpointed, forced, capped}
 use Rattle.rules.specs.Steps.{letOut, mayGo, release, intervalAdded, intervalBegins, deliver}
 use Rattle.rules.specs.Report.{report}
 use Rattle.rules.specs.declared.Answer.{Answer}
 use Rattle.rules.specs.declared.Answer.the-variants.{Released, Held, Delivered, Waits}
 
--- a row: what the definitions give, and what the paper says, as numbers
+-- a row: what the definitions give, and what the paper says, as numbers; and that it is the same. The last stands in each row, so that
+-- where it no longer holds the prover says of which row, and what it has computed.
 pub record Row : Type 0 where
   pub given : List ℕ
   pub said : List ℕ
+  pub same : given ≡ said
 
-infix 20 _is_
-abbrev pub _is_ : List ℕ → List ℕ → Row
-g is s = record { given = g; said = s }
+infix 20 _is_by_
+abbrev pub _is_by_ : (g s : List ℕ) → g ≡ s → Row
+g is s by e = record { given = g; said = s; same = e }
+
+-- the claim over a table: its rows give what is said
+pub rows-hold : (l : List Row) → map (λ (x : Row). x .given) l ≡ map (λ (x : Row). x .said) l
+rows-hold [] = refl
+rows-hold (x ∷ l) = λ d. x .same d ∷ rows-hold l d
 
 abbrev pub no : List ℕ
 no = 0 ∷ []
@@ -62,31 +69,31 @@ one-stable = put two-incarnations (Known 0 1 0) 9
 abbrev flagged : State
 flagged = put (put blank (Flag 0 0) 1) (Flag 0 3) 1
 
-abbrev starred : List Row
+pub starred : List Row
+unfolding put same putPart tab anyb numberOf placeVector messageVector flat knownStable filterPair filtered condemnedPair condemned maskTo mask conflictPair conflict mergePair merged placeRecord latestFlagged replayed logged loggedTo checkpointed forced capped letOut mayGo release intervalAdded intervalBegins deliver report onesIn ones
 starred =
     -- 1. Pair (0,4), end 4 in incarnation 0: not condemned.
-    (truth (condemnedPair ended 1 0 (pair 0 4)) is no)
+    (truth (condemnedPair ended 1 0 (pair 0 4)) is no by refl)
     -- 2. Pair (0,5), same end: condemned.
-    ∷ (truth (condemnedPair ended 1 0 (pair 0 5)) is yes)
+    ∷ (truth (condemnedPair ended 1 0 (pair 0 5)) is yes by refl)
     -- 3. Pair (1,5), same end: not condemned.
-    ∷ (truth (condemnedPair ended 1 0 (pair 1 5)) is no)
+    ∷ (truth (condemnedPair ended 1 0 (pair 1 5)) is no by refl)
     -- 4. Pair (0,2), known 2: empty after filtering; (0,3) stays.
-    ∷ (filterPair known 1 0 (pair 0 2) is noPair)
-    ∷ (filterPair known 1 0 (pair 0 3) is pair 0 3)
+    ∷ (filterPair known 1 0 (pair 0 2) is noPair by refl)
+    ∷ (filterPair known 1 0 (pair 0 3) is pair 0 3 by refl)
     -- 5. Mask 6 with K 1 is held; with K 2 released.
-    ∷ (answer (release house (two-named 1) [] 1 0 .answer) is answer (Held 1 6))
-    ∷ (answer (release house (two-named 2) [] 1 0 .answer) is answer (Released 1 6))
+    ∷ (answer (release house (two-named 1) [] 1 0 .answer) is answer (Held 1 6) by refl)
+    ∷ (answer (release house (two-named 2) [] 1 0 .answer) is answer (Released 1 6) by refl)
     -- 6. Mask 0 with K 0 is released.
-    ∷ (answer (release house blank [] 1 0 .answer) is answer (Released 1 0))
+    ∷ (answer (release house blank [] 1 0 .answer) is answer (Released 1 0) by refl)
     -- 7. Pairs (0,9) and (1,3) of one owner, neither known stable: waits.
-    ∷ (answer (deliver house two-incarnations 1 0 .answer) is answer (Waits 1))
+    ∷ (answer (deliver house two-incarnations 1 0 .answer) is answer (Waits 1) by refl)
     -- 8. The same with (0,9) known stable: merged pair (1,3).
-    ∷ (answer (deliver house one-stable 1 0 .answer) is answer (Delivered 1 0 2))
-    ∷ (pairOf (placeVector (deliver house one-stable 1 0 .left) 0 1) 1 is pair 1 3)
+    ∷ (answer (deliver house one-stable 1 0 .answer) is answer (Delivered 1 0 2) by refl)
+    ∷ (pairOf (placeVector (deliver house one-stable 1 0 .left) 0 1) 1 is pair 1 3 by refl)
     -- 9. k 5, flagged numbers 1 and 4: replayed 1.
-    ∷ ((replayed flagged 0 5 ∷ []) is (1 ∷ []))
+    ∷ ((replayed flagged 0 5 ∷ []) is (1 ∷ []) by refl)
     ∷ []
 
 pub starred-hold : map (λ (x : Row). x .given) starred ≡ map (λ (x : Row). x .said) starred
-unfolding put same putPart tab anyb numberOf placeVector messageVector flat knownStable filterPair filtered condemnedPair condemned maskTo mask conflictPair conflict mergePair merged placeRecord latestFlagged replayed forced capped letOut mayGo release intervalAdded intervalBegins deliver report onesIn ones
-starred-hold = refl
+starred-hold = rows-hold starred
