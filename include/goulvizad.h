@@ -74,12 +74,18 @@ extern "C" {
 /*
  * The gap, a ceiling on replay. After a crash or a rollback a controller replays from the latest
  * checkpoint that it keeps; `replayed` is how many numbers the newest interval kept stands above it. The
- * gap Q, 0 to 64, is one for the whole house. 0 means off, and an 'O' that is done makes it 0. No letter
- * sets it, but goulvizad_set_gap; word 11 of the table has it.
+ * gap Q, 0 to 64, is one for the whole house. 0 means off, and an 'O' that is done makes it 0. Only
+ * goulvizad_set_gap sets it, no letter does; word 11 of the table has it.
  *
  * A new interval, of a delivery or the first one after a crash or a rollback, that would stand Q or more
- * numbers above the latest checkpoint of its controller is checkpointed as it begins. As with 'C' this
- * logs all before it and itself, and the answer to the step is the same.
+ * numbers above the latest checkpoint among the intervals before it that are live is checkpointed as it
+ * begins. As with 'C' this logs all before it and itself. The answer to the step is the same as without
+ * a gap: whoever writes the checkpoint to stable storage knows by this rule that it is due, from the
+ * steps and their answers alone.
+ *
+ * Numbers end at 64 and the first interval is a checkpoint, so a gap of 64 asks for none. Where the 64th
+ * interval is checkpointed as it begins, all 64 are stable, and a crash of that controller is refused by
+ * GOULVIZAD_PLACES_USED_UP, as after a 'C' there.
  *
  * So the longest restart is known beforehand: in a house where the first step after 'O' set the gap to
  * at least 1 and it was never 0 again, and whose table only steps have written, `replayed` is below the

@@ -160,10 +160,15 @@ fn opened(gap: u32) -> Lent {
     lent
 }
 
+/// One step that both machines do alike: its answer, and what it leaves.
+fn alike(lent: &Lent, command: Command) -> (Answer, Lent) {
+    let agreed = on_lent(lent, command);
+    agreed.unwrap_or_else(|difference| panic!("{command:?}: {difference:?}"))
+}
+
 /// One step that both machines do alike, and don't refuse.
 fn go_on(lent: &mut Lent, command: Command) -> Answer {
-    let agreed = on_lent(lent, command);
-    let (answer, after) = agreed.unwrap_or_else(|difference| panic!("{command:?}: {difference:?}"));
+    let (answer, after) = alike(lent, command);
     assert!(!matches!(answer, Answer::Refused { .. }), "{command:?}");
     *lent = after;
     answer
@@ -197,9 +202,13 @@ fn spaced(gap: u32, last: u32) -> Vec<u32> {
     }
 }
 
-/// Every gap on a chain of 64 deliveries: only what is forced is stable.
+/// Every gap on a chain of 64 intervals, by deliveries: only what is forced is stable. The widest gap forces
+/// nothing. Where the last interval is forced all 64 are stable, and there alone a crash is refused.
 #[test]
 fn every_gap_on_a_chain_of_deliveries() {
+    let full = Answer::Refused {
+        number: refusal::PLACES_USED_UP,
+    };
     for gap in 0..=LAST_GAP {
         let mut lent = opened(gap);
         for message in 1..LAST_NUMBER {
@@ -208,6 +217,10 @@ fn every_gap_on_a_chain_of_deliveries() {
             let stable = flagged[flagged.len() - 1];
             assert_eq!(checkpoints(&lent), (flagged, stable), "a gap of {gap}");
         }
+        let (flagged, stable) = checkpoints(&lent);
+        assert!(gap < LAST_GAP || flagged == [1], "a gap of {gap}");
+        let (crashed, _) = alike(&lent, Command::Crash { controller: 1 });
+        assert_eq!(crashed == full, stable == LAST_NUMBER, "a gap of {gap}");
     }
 }
 

@@ -129,9 +129,10 @@ pub fn step(words: &mut [u32], ledger: &mut [u32], step: Step) -> Result<Answer,
         .unwrap_or_else(|| panic!("no answer to {step:?}: {number} with {values:?}"))
 }
 
-/// Sets the gap of the house in the lent words, 0 to 64: how many numbers above its latest checkpoint a
-/// controller's new interval is checkpointed as it begins, which logs all before it. 0 turns it off, as
-/// every opening does. Intervals that have begun are left as they are. No ledger is looked at.
+/// Sets the gap of the house in the lent words, 0 to 64: how many numbers above its controller's latest live
+/// checkpoint a new interval is checkpointed as it begins, which logs all before it, and itself. 0 turns it
+/// off, as every opening does; 64 asks for no checkpoint, since numbers end there. Intervals that have begun
+/// are left as they are. No ledger is looked at.
 ///
 /// ```
 /// use goulvizad::{set_gap, step, Answer, Refusal, Step, LEDGER_WORDS, TABLE_WORDS};
