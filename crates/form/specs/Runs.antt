@@ -15,7 +15,7 @@ use Rattle.table.specs.Words.{state}
 use Rattle.table.specs.Numbering.{used}
 use Rattle.rules.specs.Limits.{house}
 use Rattle.rules.specs.Form.{zeros, placeOk, messageOk}
-use Rattle.records.specs.Zeros.{zerosFrom, zeros-place, zeros-message}
+use Rattle.parts.specs.Zeros.{zerosFrom, zeros-place, zeros-message}
 
 -- m records of w words each, one after the other, are 0
 zeros-records : (t : List ℕ) (at w m : ℕ) → zerosFrom t at (m * w) ≡ allb m (λ (i : ℕ). zerosFrom t (at + i * w) w)

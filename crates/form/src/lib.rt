@@ -72,7 +72,7 @@ pub fn places_ok(t: &[u32], n: u32, c: usize) -> bool
         p += 1;
     }
     let free = (table::PLACES - live) * table::PLACE_WORDS;
-    ok & records::all_zero(t, table::place_at(c, live), free)
+    ok & parts::all_zero(t, table::place_at(c, live), free)
 }
 
 pub fn all_places_ok(t: &[u32], n: u32) -> bool
@@ -101,7 +101,7 @@ pub fn messages_ok(t: &[u32], n: u32) -> bool
         r += 1;
     }
     let free = (table::MESSAGES - sent) * table::MESSAGE_WORDS;
-    ok & records::all_zero(t, table::message_at(sent), free)
+    ok & parts::all_zero(t, table::message_at(sent), free)
 }
 
 pub fn in_form(t: &[u32]) -> bool

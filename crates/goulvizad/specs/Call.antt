@@ -3,10 +3,9 @@ use mathlib.Core.Path.{_≡_, sym, ap, _∙_}
 use mathlib.Core.Bool.{cond}
 use mathlib.Core.List.{List}
 use Prim.Native.Nat.{ℕ}
-use lib.ListN.{length, getD}
+use lib.ListN.{length}
 use borrow.Author.Tests.{eq-eqb, ne-eqb}
 use Rattle.base.specs.Choice.{_==_}
-use Rattle.base.specs.Lists.{tab, length-tab}
 use Rattle.table.specs.Layout.{tableWords}
 use Rattle.table.specs.Words.{state}
 use Rattle.rules.specs.Limits.{house}
@@ -16,13 +15,10 @@ use Rattle.rules.specs.Step.{OutBoth, outBoth, step}
 use Rattle.rules.specs.declared.Answer.{Answer}
 use Rattle.rules.specs.declared.Command.{Command}
 use Rattle.rules.specs.declared.Command.the-variants.{SetGap}
+use Rattle.reporting.specs.Values.{valueRoom, valueWords}
 use Rattle.lines.specs.Lines.{stepOf}
 use Rattle.lines.specs.declared.Parsed.{Parsed}
 use Rattle.lines.specs.declared.Parsed.the-variants.{Asks, Bad}
-
--- how many words the value buffer has
-abbrev pub valueRoom : ℕ
-valueRoom = 6
 
 -- what a call returns that is no answer: out of the way of the numbers that answers have
 abbrev pub unknownLetter : ℕ
@@ -30,10 +26,6 @@ unknownLetter = 100
 
 abbrev pub wrongValues : ℕ
 wrongValues = 101
-
--- the values of an answer, with zeros where there are fewer
-unfoldable pub valueWords : Answer → List ℕ
-valueWords a = tab valueRoom (λ (i : ℕ). getD (report a .values) i 0)
 
 pub record Returned : Type 0 where
   pub number : ℕ
@@ -70,11 +62,6 @@ unformed = 0
 
 unfoldable pub formNumber : List ℕ → ℕ
 formNumber t = cond (length t == tableWords) (cond (inForm house (state t)) formed unformed) unformed
-
--- there are as many values as the buffer has words
-pub value-count : (a : Answer) → length (valueWords a) ≡ valueRoom
-unfolding valueWords
-value-count a = length-tab valueRoom _
 
 -- what a step that was taken has to show
 pub step-taken : (t g v : List ℕ) (x : Command) {u h w : List ℕ} {y : Answer} {r : ℕ} → outBoth y u h ≡ step t g x → r ≡ report y .number → w ≡ valueWords y →

@@ -51,7 +51,7 @@ pub fn is_sound(g: &[u32]) -> bool
         return false;
     }
     let next = entry_at(n);
-    records::all_zero(g, next, LEDGER_WORDS - next)
+    parts::all_zero(g, next, LEDGER_WORDS - next)
 }
 
 // The words of an entry, lent from inside the ledger.

@@ -1,7 +1,7 @@
 -- The tests stand in the order of the definition; the words past the count are those from the next entry on.
 use Rattle.base.specs.Cases.{allOf}
 use Rattle.rules.specs.Ledger.{ledgerOk}
-use Rattle.records.specs.Zeros.{zerosFrom}
+use Rattle.parts.specs.Zeros.{zerosFrom}
 use borrow.Author.Needs.{needs}
 use borrow.Author.Tests.{le-leb, lt-leb, eq-eqb, ne-eqb}
 use Rattle.ledger.proofs.is_sound.Statement.{statement}

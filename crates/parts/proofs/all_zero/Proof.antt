@@ -1,5 +1,5 @@
 -- The flag gathers the tests of the words before i (allb-step).
-use Rattle.records.specs.Zeros.{zerosFrom}
+use Rattle.parts.specs.Zeros.{zerosFrom}
 use Rattle.base.specs.Ranges.{allb, allb-zero, allb-step, allb-end}
 use Rattle.rules.specs.Form.{zeros}
 use Rattle.base.specs.Choice.{_==_}
@@ -7,8 +7,8 @@ use borrow.Author.Needs.{needs}
 use mathlib.Core.Path.{_≡_, refl}
 use Prim.Native.Nat.{ℕ, _+_, _-_, _≤_}
 use lib.ListN.{getD}
-use Rattle.records.proofs.all_zero.Statement.{statement}
-use Rattle.records.proofs.all_zero.Tie as tie
+use Rattle.parts.proofs.all_zero.Statement.{statement}
+use Rattle.parts.proofs.all_zero.Tie as tie
 
 abbrev Inv-loop : tie.InvT-loop
 Inv-loop t at k ok₀ i₀ ok i = (i ≤ k) × (ok ≡ allb i (λ (j : ℕ). getD t (at + j) 0 == 0))

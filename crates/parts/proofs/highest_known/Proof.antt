@@ -1,7 +1,7 @@
 -- The test is the one of the definition.
 use Rattle.rules.specs.Form.{highest}
-use Rattle.records.proofs.highest_known.Statement.{statement}
-use Rattle.records.proofs.highest_known.Tie as tie
+use Rattle.parts.proofs.highest_known.Statement.{statement}
+use Rattle.parts.proofs.highest_known.Tie as tie
 
 returns : tie.Need-returns
 unfolding highest

@@ -2,8 +2,8 @@
 use Rattle.base.specs.Cases.{allOf}
 use Rattle.rules.specs.Form.{pairOk}
 use borrow.Author.Tests.{lt-ltb, le-ltb}
-use Rattle.records.proofs.pair_ok.Statement.{statement}
-use Rattle.records.proofs.pair_ok.Tie as tie
+use Rattle.parts.proofs.pair_ok.Statement.{statement}
+use Rattle.parts.proofs.pair_ok.Tie as tie
 
 returns : tie.Need-returns
 unfolding pairOk allOf

@@ -3,8 +3,8 @@ use mathlib.Core.Path.{_≡_, refl}
 use mathlib.Core.Bool.{Bool, true, false, not, cond, _&&_, _||_, or-false}
 use Rattle.base.specs.Choice.{_==_, _≤?_}
 use Rattle.rules.specs.Form.{stateHeld, stateDropped, statePublished, stateOk}
-use Rattle.records.proofs.state_ok.Statement.{statement}
-use Rattle.records.proofs.state_ok.Tie as tie
+use Rattle.parts.proofs.state_ok.Statement.{statement}
+use Rattle.parts.proofs.state_ok.Tie as tie
 
 chosen : (b x y : Bool) → ((b && x) || (not b && y)) ≡ cond b x y
 chosen true x y = or-false x

@@ -8,8 +8,8 @@ use Rattle.rules.specs.Form.{pairOk, vectorOk}
 use borrow.Author.Needs.{needs}
 use mathlib.Core.Path.{_≡_, sym, ap, _∙_}
 use Prim.Native.Nat.{ℕ, _-_, _≤_}
-use Rattle.records.proofs.vector_ok.Statement.{statement}
-use Rattle.records.proofs.vector_ok.Tie as tie
+use Rattle.parts.proofs.vector_ok.Statement.{statement}
+use Rattle.parts.proofs.vector_ok.Tie as tie
 
 abbrev Inv-loop : tie.InvT-loop
 Inv-loop t n at ok₀ owner₀ ok owner = (owner ≤ controllers) × (ok ≡ allb owner (λ (k : ℕ). pairOk house n k (pairOf (vectorAt t at) k)))

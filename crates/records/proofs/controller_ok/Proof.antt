@@ -1,7 +1,7 @@
 -- Each branch computes what the definition names there; the words of a record stand together (zeros-controller).
 use Rattle.base.specs.Cases.{allOf}
 use Rattle.rules.specs.Form.{controllerOk}
-use Rattle.records.specs.Zeros.{zeros-controller}
+use Rattle.parts.specs.Zeros.{zeros-controller}
 use mathlib.Core.Path.{_∙_}
 use borrow.Author.Tests.{lt-ltb, le-ltb}
 use borrow.Author.Needs.{needs}

@@ -3,7 +3,7 @@ use Rattle.base.specs.Cases.{allOf}
 use Rattle.rules.specs.Form.{headOk}
 use Rattle.table.specs.Field.{spareFrom, spareAgain, Gap, word}
 use Rattle.table.specs.Layout.{headWords}
-use Rattle.records.specs.Zeros.{zeros-head}
+use Rattle.parts.specs.Zeros.{zeros-head}
 use mathlib.Core.Path.{_∙_}
 use borrow.Author.Needs.{needs}
 use Rattle.records.proofs.head_ok.Statement.{statement}

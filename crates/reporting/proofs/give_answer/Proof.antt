@@ -1,10 +1,10 @@
 -- There are as many values as the buffer has words (value-count), and they fill it.
-use Rattle.goulvizad.specs.Call.{value-count}
+use Rattle.reporting.specs.Values.{value-count}
 use mathlib.Core.Path.{sym, ap, _∙_}
 use borrow.Author.Needs.{needs}
 use lib.ListN.{length}
-use Rattle.goulvizad.proofs.give_answer.Statement.{statement}
-use Rattle.goulvizad.proofs.give_answer.Tie as tie
+use Rattle.reporting.proofs.give_answer.Statement.{statement}
+use Rattle.reporting.proofs.give_answer.Tie as tie
 
 copy-words-requires : tie.Need-copy-words-requires
 copy-words-requires c κs =

@@ -1,11 +1,11 @@
 -- Each arm has the number and the values of its answer, by computing.
-use Rattle.goulvizad.specs.Call.{valueWords}
+use Rattle.reporting.specs.Values.{valueWords}
 use Rattle.base.specs.Lists.{tab}
 use Rattle.rules.specs.Report.{report}
 use mathlib.Core.Path.{refl}
 use borrow.Author.Needs.{needs}
-use Rattle.goulvizad.proofs.report.Statement.{statement}
-use Rattle.goulvizad.proofs.report.Tie as tie
+use Rattle.reporting.proofs.report.Statement.{statement}
+use Rattle.reporting.proofs.report.Tie as tie
 
 -- for each arm which answer it is, and then what it returns
 pub report-spec : {M : Type 1} → statement M
