@@ -22,16 +22,16 @@ use Rattle.rules.specs.declared.Answer.the-variants.{Released, Held, Del
 pub record Row : Type 0 where
   pub given : List ℕ
   pub said : List ℕ
-  pub same : given ≡ said
+  pub holds : given ≡ said
 
 infix 20 _is_by_
 abbrev pub _is_by_ : (g s : List ℕ) → g ≡ s → Row
-g is s by e = record { given = g; said = s; same = e }
+g is s by e = record { given = g; said = s; holds = e }
 
 -- the claim over a table: its rows give what is said
 pub rows-hold : (l : List Row) → map (λ (x : Row). x .given) l ≡ map (λ (x : Row). x .said) l
 rows-hold [] = refl
-rows-hold (x ∷ l) = λ d. x .same d ∷ rows-hold l d
+rows-hold (x ∷ l) = λ d. x .holds d ∷ rows-hold l d
 
 abbrev pub no : List ℕ
 no = 0 ∷ []
