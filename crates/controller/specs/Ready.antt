@@ -7,6 +7,7 @@ use Rattle.base.specs.Cases.{firstOf}
 use Rattle.table.specs.Field.{Size, LiveCount, StableCount}
 use Rattle.table.specs.Layout.{controllers}
 use Rattle.table.specs.Words.{state}
+use Rattle.rules.specs.Limits.{house}
 use Rattle.rules.specs.Steps.{degreeRefusals, logRefusals, tellRefusals}
 use Rattle.laws.specs.Facts.{form, controllerForm}
 use Rattle.laws.specs.Allowed.{degreeAllowed, logAllowed, tellAllowed}
@@ -22,7 +23,7 @@ module _ (t : List ℕ) (l : Lent t) (n c : ℕ) (e : n ≡ state t Size) (h : c
   sized-named = sized-counts .named
 
   pub sized-stable : (live stable : ℕ) → live ≡ state t (LiveCount c) → stable ≡ state t (StableCount c) → stable ≤ live
-  sized-stable live stable p q = omega (arith, controllerForm (form (state t) (l .good)) c (omega arith) .stable-le)
+  sized-stable live stable p q = omega (arith, controllerForm (form house (state t) (l .good)) c (omega arith) .stable-le)
 
 module _ (t : List ℕ) (l : Lent t) (n : ℕ) (z : n ≡ 0) where
   -- K: the controller has its words

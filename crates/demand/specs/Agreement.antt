@@ -19,9 +19,8 @@ use Rattle.history.specs.Demand.{Run, FromOpening, upTo}
 use Rattle.model.specs.Chain.{OnChain, member-chain, chain-member}
 use Rattle.model.specs.Invariant.{newest-is}
 use Rattle.model.specs.Runs.{part}
-use Rattle.laws.specs.Facts.{form, controllerForm}
 use Rattle.image.specs.Reads.{gap-is, degree-is, incarnation-is, live-is, stable-is, flag-is}
-use Rattle.image.specs.Stepped.{modelOf, opening-done}
+use Rattle.image.specs.Tables.{modelOf, opening-done}
 use Rattle.demand.specs.Demanded.{table-inv, follows}
 
 -- the highest live number of c, and the highest stable one, by its counts
@@ -74,12 +73,11 @@ agrees t g n k l O before rest e c below =
         λ u. omega (arith, ok .body .stable-only (y .number) (o .pos) (o .top) (rw (o .is) at u)),
         λ u. rw (o .is) (ok .body .stable-upto (y .number) (o .pos) (omega arith)),
       );
-      flagged = λ f y z.
+      flagged = λ _ y z.
           let o = on y z in
-          let k = controllerForm (form σ f) c (omega (arith, p .reads .size-is)) in
           let same : h .flagged y ≡ (σ (Flag c (placeOf σ c (y .number))) == 1) =
           ap (h .flagged) (o .is) ∙ v .flags c below (y .number) (o .pos) (o .top)
-          ∙ flag-is σ c (omega arith) (y .number) (o .pos) (omega (arith, o .top)) (k .live-pos) (k .live-le) in
+          ∙ flag-is σ c (omega arith) (y .number) (o .pos) (omega (arith, o .top)) in
           (λ u. eqb-true _ 1 (sym same ∙ u), λ u. same ∙ eq-eqb _ 1 u);
       gap = v .gap-is ∙ gap-is σ;
     }

@@ -25,7 +25,7 @@ use Rattle.model.specs.Runs.{NoDoneOpening, in-list, along, later, at-end}
 use Rattle.image.specs.Reads.{known-is}
 use Rattle.image.specs.Outcome as O
 use Rattle.image.specs.Outcome.{Outcome}
-use Rattle.image.specs.Stepped.{opening-done}
+use Rattle.image.specs.Tables.{opening-done}
 use Rattle.testers.specs.Citing.{RunCites, cites-next, cites-opened}
 use Rattle.demand.specs.Demanded.{fed-refused, found, outcome, follows}
 

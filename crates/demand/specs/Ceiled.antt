@@ -16,7 +16,7 @@ use Rattle.model.specs.Invariant.{Inv}
 use Rattle.model.specs.Close.{Close, carries-begun, carries-anew, logged-flagged, cap-gap, close-opened, close-controllers, close-same, close-checkpointed, close-capped}
 use Rattle.model.specs.Runs.{NoDoneOpening, in-list, first-part, along}
 use Rattle.image.specs.Outcome.{Outcome, refused, opened, degree-set, sent, released, held, dropped, waits, delivered, logged, checkpointed, told, crashed, heard, rolled, gap-set}
-use Rattle.image.specs.Stepped.{modelOf, sizeOf, opening-done}
+use Rattle.image.specs.Tables.{modelOf, sizeOf, opening-done}
 use Rattle.demand.specs.Demanded.{table-inv, table-outcome, follows}
 
 -- a call keeps the numbers less than M above the latest flagged ones, where Q is not 0 after it and was at most M before

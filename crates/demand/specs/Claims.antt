@@ -31,7 +31,7 @@ use Rattle.history.specs.Demand.{Run, stepIn, next, runs, justOpened, Accepted,
 use Rattle.history.specs.Ceiling.{largestGap, NeverOff, Ceiling}
 use Rattle.history.specs.Examples.{ListingLine}
 use Rattle.image.specs.Mask.{count}
-use Rattle.image.specs.Stepped.{opening-done}
+use Rattle.image.specs.Tables.{opening-done}
 use Rattle.laws.specs.Beside.{looksAtLedger}
 use Rattle.demand.specs.Demanded.{demand-3}
 use Rattle.demand.specs.Beyond.{ledger-cites}
@@ -141,7 +141,7 @@ unfolding step lent
 lost-is-never-given t g x r h =
     let f = MessageState r in
     cond-ind (λ (o : OutBoth). state (o .table) f ≡ stateLost → state t f ≡ stateLost) (length t == tableWords)
-    (λ l q. none-lost (state t) g x f refl (sym (word-at (stepOn house (state t) g x .left) f (h, omega arith)) ∙ q)) (λ l q. q)
+    (λ l q. none-lost (state t) house g x f refl (sym (word-at (stepOn house (state t) g x .left) f (h, omega arith)) ∙ q)) (λ l q. q)
 
 -- a call of a list too
 pub lost-is-never-given-by-a-call : (t g : List ℕ) (x : Call) (r : ℕ) → r < messages → state (stepCall t g x .table) (MessageState r) ≡ stateLost → state t (MessageState r) ≡ stateLost

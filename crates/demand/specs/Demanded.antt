@@ -19,7 +19,7 @@ use Rattle.model.specs.Steps.{LetsOut, keeps-degree, keeps-send, keeps-release,
 use Rattle.model.specs.Recovery.{keeps-crash, keeps-heard, keeps-rolled}
 use Rattle.model.specs.Runs.{NoDoneOpening, Holds, Follows, demand3}
 use Rattle.image.specs.Outcome.{Outcome, refused, opened, degree-set, sent, released, held, dropped, waits, delivered, logged, checkpointed, told, crashed, heard, rolled, gap-set, kept-size}
-use Rattle.image.specs.Stepped.{modelOf, sizeOf, stepped, opening-done}
+use Rattle.image.specs.Tables.{modelOf, sizeOf, stepped, opening-done}
 
 -- a refused call changes nothing in the history
 pub fed-refused : (x : Call) (number : ℕ) (h : History) → fed x (Refused number) h ≡ h

@@ -1,7 +1,6 @@
 -- What is read after a change: the word that was written, and the words of other controllers. Changes that the model does not
 -- show.
 use mathlib.Core.Path.{_≡_, refl, sym, ap, _∙_}
-use mathlib.Core.Bool.{cond}
 use mathlib.Core.List.{List}
 use mathlib.Core.Logic.{_≢_}
 use Prim.Native.Nat.{ℕ, _+_, _<_}
@@ -9,10 +8,11 @@ use native.Mathlib.Omega.{arith}
 use lib.ListN.{length, getD}
 use Rattle.table.specs.Field.{Field, State, Known, End, MessageState, same, word, wordOf, word-of}
 use Rattle.table.specs.Change.{put, put-ind, put-same, put-other, putPart, part-ind, clearPlaces, clear-ind, putStates, states-ind}
-use Rattle.table.specs.Layout.{valid}
+use Rattle.table.specs.Layout.{controllers, incarnations}
+use Rattle.rules.specs.Vector.{placeVector}
 use Rattle.model.specs.Model.{changedAt₂}
 use Rattle.model.specs.Tests.{changedAt₂-ind}
-use Rattle.image.specs.View.{view}
+use Rattle.image.specs.Functions.{inRows, rows-changed}
 use Rattle.image.specs.Image.{controllerBy, image, Away, Elsewhere, same-controller}
 
 -- a part: its own words, and any other field
@@ -47,28 +47,27 @@ away-states : (c : ℕ) (σ τ : State) (s : ℕ → ℕ) → Elsewhere c σ τ 
 away-states c σ τ s h = states-ind (λ g y. Away c g → y ≡ σ g) τ s (λ r a. absurd (a refl)) (λ g _. h g)
 
 -- a known word, and an end word, put in the holder's rows
-pub known-put : (σ : State) (holder owner i v b j : ℕ) → put σ (Known holder owner i) v (Known holder b j) ≡ changedAt₂ (λ b j. σ (Known holder b j)) owner i v b j
-known-put σ holder owner i v =
-    changedAt₂-ind (λ b j y. put σ (Known holder owner i) v (Known holder b j) ≡ y) (λ b j. σ (Known holder b j)) owner i v (put-same σ (Known holder owner i) v)
-    (λ b j ne. put-other σ (Known holder owner i) (Known holder b j) v (λ e. ne (cc) (cc)))
+pub known-put : (σ : State) (holder owner i v : ℕ) → owner < controllers → i < incarnations →
+    inRows (λ b j. put σ (Known holder owner i) v (Known holder b j)) ≡ changedAt₂ (inRows (λ b j. σ (Known holder b j))) owner i v
+known-put σ holder owner i v ol il =
+    rows-changed _ _ owner i v ol il
+    (changedAt₂-ind (λ b j y. put σ (Known holder owner i) v (Known holder b j) ≡ y) (λ b j. σ (Known holder b j)) owner i v (put-same σ (Known holder owner i) v)
+    (λ b j ne. put-other σ (Known holder owner i) (Known holder b j) v (λ e. ne (cc) (cc))))
 
 -- an end word put
-pub end-put : (σ : State) (holder owner i v b j : ℕ) → put σ (End holder owner i) v (End holder b j) ≡ changedAt₂ (λ b j. σ (End holder b j)) owner i v b j
-end-put σ holder owner i v =
-    changedAt₂-ind (λ b j y. put σ (End holder owner i) v (End holder b j) ≡ y) (λ b j. σ (End holder b j)) owner i v (put-same σ (End holder owner i) v)
-    (λ b j ne. put-other σ (End holder owner i) (End holder b j) v (λ e. ne (cc) (cc)))
+pub end-put : (σ : State) (holder owner i v : ℕ) → owner < controllers → i < incarnations →
+    inRows (λ b j. put σ (End holder owner i) v (End holder b j)) ≡ changedAt₂ (inRows (λ b j. σ (End holder b j))) owner i v
+end-put σ holder owner i v ol il =
+    rows-changed _ _ owner i v ol il
+    (changedAt₂-ind (λ b j y. put σ (End holder owner i) v (End holder b j) ≡ y) (λ b j. σ (End holder b j)) owner i v (put-same σ (End holder owner i) v)
+    (λ b j ne. put-other σ (End holder owner i) (End holder b j) v (λ e. ne (cc) (cc))))
 
--- states of messages are not in the model
-view-away : (c : ℕ) (σ τ : State) → Elsewhere c σ τ → Elsewhere c (view σ) (view τ)
-unfolding view
-view-away c σ τ h g a = ap (λ x. cond (valid g) x 0) (h g a)
-
--- states of messages put: one model
+-- states of messages are not in the model: put, they leave it
 pub image-states : (σ : State) (s : ℕ → ℕ) → image (putStates σ s) ≡ image σ
-unfolding image view controllerBy putStates
-image-states σ s = same-controller (view σ) (view (putStates σ s)) 0 refl (view-away 0 σ (putStates σ s) (away-states 0 σ σ s (nothing-else 0 σ)))
+unfolding controllerBy placeVector putStates
+image-states σ s = same-controller σ (putStates σ s) 0 (omega arith) refl (away-states 0 σ σ s (nothing-else 0 σ))
 
 -- one message's state put
 pub image-state : (σ : State) (r x : ℕ) → image (put σ (MessageState r) x) ≡ image σ
-unfolding image view controllerBy put same
-image-state σ r x = same-controller (view σ) (view (put σ (MessageState r) x)) 0 refl (view-away 0 σ _ (away-put 0 σ σ (MessageState r) x (λ a. a refl) (nothing-else 0 σ)))
+unfolding controllerBy placeVector put same
+image-state σ r x = same-controller σ (put σ (MessageState r) x) 0 (omega arith) refl (away-put 0 σ σ (MessageState r) x (λ a. a refl) (nothing-else 0 σ))

@@ -1,4 +1,5 @@
--- The model of a state: what the words of the table say of each controller and of each message.
+-- The model of a state: what its words say of each controller and of each message. No limit of a house is in it: how many places and
+-- message records there are, is in the state's own counts.
 use mathlib.Core.Path.{_≡_, refl, sym, ap, _∙_, fun-ext}
 use mathlib.Core.Bool.{true, false, cond, true≢false}
 use mathlib.Core.Logic.{_≢_}
@@ -7,15 +8,15 @@ use native.Mathlib.Omega.{arith}
 use borrow.Author.Tests.{lt-ltb, le-ltb}
 use Rattle.base.specs.Choice.{_==_, _<?_, le?}
 use Rattle.table.specs.Field.{Field, State, OfHead, OfController, Known, End, OfPlace, OfMessage, Gap, Degree, Incarnation, LiveCount, StableCount, PlaceIncarnation, Flag, PairIncarnation, PairNumber, MessageState, Sender, Receiver, SendingIncarnation, SendingNumber, MessagePairIncarnation, MessagePairNumber, word}
-use Rattle.table.specs.Layout.{messages}
-use Rattle.table.specs.Words.{Agree}
-use Rattle.table.specs.Numbering.{numberOf, placeOf, used, lastGiven, recordOf, present, place-from, numbering, Numbered, numbers-kept, used-agree, record-agree}
+use Rattle.table.specs.Layout.{controllers}
+use Rattle.table.specs.Numbering.{numberOf, placeOf, used, lastGiven, recordOf, present, place-from, numbering, Numbered, numbers-kept}
+use Rattle.rules.specs.Vector.{Pair as PairList, Vector, incarnation, number, pairOf, placeVector, messageVector}
 use Rattle.history.specs.History.{interval}
-use Rattle.model.specs.Model.{pair, Vec, Controller, Message, Model, putController}
+use Rattle.model.specs.Model.{Pair, pair, Vec, Controller, Message, Model, putController, absentController}
 use Rattle.model.specs.Tests.{changedAt-ind, changedAt-same}
 use Rattle.model.specs.Keeping.{putController-id, putController-twice}
-use Rattle.image.specs.View.{view, view-at, view-same, Tight, tight-view}
-use Rattle.image.specs.Functions.{within, within-in}
+use Rattle.laws.specs.Records.{placeVector-of, messageVector-of}
+use Rattle.image.specs.Functions.{within, within-in, inRows}
 
 -- the vector with no pair
 abbrev pub noVec : Vec
@@ -25,9 +26,17 @@ noVec owner = pair 0 0
 abbrev pub unsentMessage : Message
 unsentMessage = record { to = 0; from = interval 0 0 0; vec = noVec }
 
+-- a pair as a pair of the model
+abbrev pub modelPair : PairList → Pair
+modelPair p = pair (incarnation p) (number p)
+
+-- a vector of pairs as a vector of the model
+abbrev pub vecOf : Vector → Vec
+vecOf v owner = modelPair (pairOf v owner)
+
 -- the vector in place p of c
 abbrev pub placeVec : State → ℕ → ℕ → Vec
-placeVec σ c p owner = pair (σ (PairIncarnation c p owner)) (σ (PairNumber c p owner))
+placeVec σ c p = vecOf (placeVector σ c p)
 
 -- controller c of σ by the numbering of ν: the k-th live interval has the number numberOf ν c k, and number x stands in place
 -- placeOf ν c x
@@ -38,8 +47,8 @@ controllerBy ν σ c =
       incarnation = σ (Incarnation c);
       live = numberOf ν c (σ (LiveCount c));
       stable = numberOf ν c (σ (StableCount c));
-      known = λ owner i. σ (Known c owner i);
-      ends = λ owner i. σ (End c owner i);
+      known = inRows (λ owner i. σ (Known c owner i));
+      ends = inRows (λ owner i. σ (End c owner i));
       begunIn = within (numberOf ν c (σ (LiveCount c))) 0 (λ x. σ (PlaceIncarnation c (placeOf ν c x)));
       vec = within (numberOf ν c (σ (LiveCount c))) noVec (λ x. placeVec σ c (placeOf ν c x));
       flagged = within (numberOf ν c (σ (LiveCount c))) false (λ x. σ (Flag c (placeOf ν c x)) == 1);
@@ -55,36 +64,23 @@ modelMessage σ r =
     record {
       to = σ (Receiver r);
       from = interval (σ (Sender r)) (σ (SendingIncarnation r)) (σ (SendingNumber r));
-      vec = λ owner. pair (σ (MessagePairIncarnation r owner)) (σ (MessagePairNumber r owner));
+      vec = vecOf (messageVector σ r);
     }
 
--- the model of a state; message m, where it is there, stands in its record
-unfoldable pub decode : State → Model
-decode σ =
+-- the model of a state; a house has at most 8 controllers, and message m, where it is there, stands in its record
+unfoldable pub image : State → Model
+image σ =
     record {
-      controller = modelController σ;
+      controller = λ c. cond (c <? controllers) (modelController σ c) absentController;
       sent = lastGiven σ;
       message = λ m. cond (present σ m) (modelMessage σ (recordOf σ m)) unsentMessage;
       gap = σ Gap;
     }
 
--- the model of the words of a state
-unfoldable pub image : State → Model
-image σ = decode (view σ)
-
--- one table, one model
-pub image-same : (σ τ : State) → Agree σ τ → image σ ≡ image τ
+-- a controller of it
+pub controller-is : (σ : State) (c : ℕ) → c < controllers → image σ .controller c ≡ modelController σ c
 unfolding image
-image-same σ τ e = ap decode (view-same σ τ e)
-
--- A rule that looks only at words of the table and writes only such words may be applied to what is seen.
-pub image-rule : (rule : State → State) (σ : State) → Agree (rule σ) (rule (view σ)) → Tight (rule (view σ)) → image (rule σ) ≡ decode (rule (view σ))
-unfolding image
-image-rule rule σ e z = ap decode (view-same (rule σ) (rule (view σ)) e ∙ tight-view (rule (view σ)) z)
-
--- a state agrees with what is seen of it
-pub agree-view : (σ : State) → Agree σ (view σ)
-agree-view σ f v = sym (view-at σ f v)
+controller-is σ c cl = rw (lt-ltb c controllers cl)
 
 -- what a controller has begun in its number x
 pub begun-at : (σ : State) (c x : ℕ) → 1 ≤ x → x ≤ numberOf σ c (σ (LiveCount c)) → modelController σ c .begunIn x ≡ σ (PlaceIncarnation c (placeOf σ c x))
@@ -97,37 +93,22 @@ unfolding controllerBy
 vec-at σ c x p q = within-in (numberOf σ c (σ (LiveCount c))) noVec (λ x. placeVec σ c (placeOf σ c x)) x p q
 
 -- a message that is there
-pub message-at : (σ : State) (m : ℕ) → recordOf σ m < used σ → decode σ .message m ≡ modelMessage σ (recordOf σ m)
-unfolding decode
+pub message-at : (σ : State) (m : ℕ) → recordOf σ m < used σ → image σ .message m ≡ modelMessage σ (recordOf σ m)
+unfolding image
 message-at σ m l = rw (lt-ltb (recordOf σ m) (used σ) l)
 
 -- and one that is not
-pub message-none : (σ : State) (m : ℕ) → used σ ≤ recordOf σ m → decode σ .message m ≡ unsentMessage
-unfolding decode
+pub message-none : (σ : State) (m : ℕ) → used σ ≤ recordOf σ m → image σ .message m ≡ unsentMessage
+unfolding image
 message-none σ m l = rw (le-ltb (recordOf σ m) (used σ) l)
 
 -- a message that two states have alike
 pub message-kept : (σ τ : State) (m : ℕ) → (recordOf σ m < used σ → (recordOf τ m < used τ) × (modelMessage τ (recordOf τ m) ≡ modelMessage σ (recordOf σ m))) →
-    (used σ ≤ recordOf σ m → used τ ≤ recordOf τ m) → decode τ .message m ≡ decode σ .message m
+    (used σ ≤ recordOf σ m → used τ ≤ recordOf τ m) → image τ .message m ≡ image σ .message m
 message-kept σ τ m here gone =
     le? (recordOf σ m + 1) (used σ)
     (λ l. let u : recordOf σ m < used σ = omega arith in let h = here u in message-at τ m (h .0) ∙ h .1 ∙ sym (message-at σ m u))
     (λ l. let u : used σ ≤ recordOf σ m = omega arith in message-none τ m (gone u) ∙ sym (message-none σ m u))
-
--- the same of what is seen, where all records are
-module _ (σ : State) (m : ℕ) (l : recordOf σ m < used σ) (room : used σ ≤ messages) where
-  -- its record is the same
-  pub record-seen : recordOf (view σ) m ≡ recordOf σ m
-  record-seen = sym (record-agree σ (view σ) (agree-view σ) m room)
-
-  -- and is in use
-  seen-used : recordOf (view σ) m < used (view σ)
-  seen-used = omega (arith, record-seen, used-agree σ (view σ) (agree-view σ))
-
-  -- so the model has its message
-  pub image-message : image σ .message m ≡ modelMessage (view σ) (recordOf σ m)
-  unfolding image
-  image-message = message-at (view σ) m seen-used ∙ ap (modelMessage (view σ)) record-seen
 
 -- two controllers with equal parts
 pub controller-path : {k l : Controller} → k .degree ≡ l .degree → k .incarnation ≡ l .incarnation → k .live ≡ l .live → k .stable ≡ l .stable →
@@ -154,20 +135,22 @@ pub controller-frame : (σ τ : State) (c : ℕ) → ((k : ℕ) → τ (OfContro
 unfolding controllerBy
 controller-frame σ τ c own known ends places =
     let live = ap (numberOf σ c) (own (word (LiveCount c))) in
-    controller-path (own (word (Degree c))) (own (word (Incarnation c))) live (ap (numberOf σ c) (own (word (StableCount c)))) (λ d owner i. known owner i d) (λ d owner i. ends owner i d)
+    let vector : (p : ℕ) → placeVector τ c p ≡ placeVector σ c p =
+    λ p. placeVector-of τ σ c p (λ owner l. (places p (word (PairIncarnation c p owner)), places p (word (PairNumber c p owner)))) in
+    controller-path (own (word (Degree c))) (own (word (Incarnation c))) live (ap (numberOf σ c) (own (word (StableCount c))))
+    (λ d. inRows (λ owner i. known owner i d)) (λ d. inRows (λ owner i. ends owner i d))
     (λ d. within (live d) 0 (λ x. let p = placeOf σ c x in places p (word (PlaceIncarnation c p)) d))
-    (λ d. within (live d) noVec
-    (λ x owner. let p = placeOf σ c x in pair (places p (word (PairIncarnation c p owner)) d) (places p (word (PairNumber c p owner)) d)))
-    (λ d. within (live d) false (λ x. let p = placeOf σ c x in places p (word (Flag c p)) d == 1))
+    (λ d. within (live d) noVec (λ x. vecOf (vector (placeOf σ c x) d))) (λ d. within (live d) false (λ x. let p = placeOf σ c x in places p (word (Flag c p)) d == 1))
 
 -- a message whose words but the state are the same
 pub message-frame : (σ τ : State) (r : ℕ) → ((k : ℕ) → k ≢ word (MessageState r) → τ (OfMessage r k) ≡ σ (OfMessage r k)) → modelMessage τ r ≡ modelMessage σ r
 unfolding modelMessage
 message-frame σ τ r h =
+    let vector = messageVector-of τ σ r (λ owner l. (h (word (MessagePairIncarnation r owner)) (omega arith), h (word (MessagePairNumber r owner)) (omega arith))) in
     λ d. record {
       to = h (word (Receiver r)) (omega arith) d;
       from = interval (h (word (Sender r)) (omega arith) d) (h (word (SendingIncarnation r)) (omega arith) d) (h (word (SendingNumber r)) (omega arith) d);
-      vec = λ owner. pair (h (word (MessagePairIncarnation r owner)) (omega arith) d) (h (word (MessagePairNumber r owner)) (omega arith) d);
+      vec = vecOf (vector d);
     }
 
 -- a field that is neither a word of controller c nor the state of a message
@@ -197,13 +180,15 @@ pub numbers-elsewhere : (c : ℕ) (σ τ : State) → Elsewhere c σ τ → Numb
 numbers-elsewhere c σ τ h = numbers-kept τ σ (λ g e. h g (numbering-away c g e))
 
 -- a change of one controller's words is a change of its controller
-pub one-controller : (σ τ : State) (c : ℕ) (k : Controller) → controllerBy σ τ c ≡ k → Elsewhere c σ τ → decode τ ≡ putController (decode σ) c k
-unfolding decode putController
-one-controller σ τ c k e h =
+pub one-controller : (σ τ : State) (c : ℕ) (F : Controller → Controller) → c < controllers → controllerBy σ τ c ≡ F (modelController σ c) → Elsewhere c σ τ →
+    image τ ≡ putController (image σ) c (F (image σ .controller c))
+unfolding image putController
+one-controller σ τ c F cl e h =
     model-path
-    (fun-ext (changedAt-ind (λ b l. modelController τ b ≡ l) (modelController σ) c k (renumbered σ τ c (numbers .number c) ∙ e)
-    (λ b ne. renumbered σ τ b (numbers .number b)
-    ∙ controller-frame σ τ b (λ k. h (OfController b k) ne) (λ owner i. h (Known b owner i) ne) (λ owner i. h (End b owner i) ne) (λ p k. h (OfPlace b p k) ne))))
+    (fun-ext (changedAt-ind (λ b k. image τ .controller b ≡ k) (image σ .controller) c _
+    (controller-is τ c cl ∙ renumbered σ τ c (numbers .number c) ∙ e ∙ ap F (sym (controller-is σ c cl)))
+    (λ b ne. ap (λ k. cond (b <? controllers) k absentController) (renumbered σ τ b (numbers .number b)
+    ∙ controller-frame σ τ b (λ k. h (OfController b k) ne) (λ owner i. h (Known b owner i) ne) (λ owner i. h (End b owner i) ne) (λ p k. h (OfPlace b p k) ne)))))
     (numbers .last) (λ d m. cond (numbers .record-same m d <? numbers .used-same d) (same-message m d) unsentMessage) (h Gap tt)
   where
     numbers : Numbered τ σ
@@ -222,6 +207,5 @@ pub then-controller : (μ μ′ : Model) (c : ℕ) (k : Controller) (F : Control
 then-controller μ μ′ c k F e = ap (λ (μ : Model). putController μ c (F (μ .controller c))) e ∙ putController-twice μ c k F
 
 -- the same where the controller stays
-pub same-controller : (σ τ : State) (c : ℕ) → controllerBy σ τ c ≡ modelController σ c → Elsewhere c σ τ → decode τ ≡ decode σ
-unfolding decode
-same-controller σ τ c e h = one-controller σ τ c (modelController σ c) e h ∙ putController-id (decode σ) c
+pub same-controller : (σ τ : State) (c : ℕ) → c < controllers → controllerBy σ τ c ≡ modelController σ c → Elsewhere c σ τ → image τ ≡ image σ
+same-controller σ τ c cl e h = one-controller σ τ c (λ k. k) cl e h ∙ putController-id (image σ) c

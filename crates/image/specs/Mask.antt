@@ -14,7 +14,8 @@ use Rattle.laws.specs.Mask.{mask-more, mask-lt}
 use Rattle.rules.specs.Vector.{Vector, empty, pairOf, maskTo, mask}
 use Rattle.history.specs.Demand.{named}
 use Rattle.model.specs.Model.{full}
-use Rattle.image.specs.Vectors.{vecOf, past}
+use Rattle.image.specs.Image.{vecOf}
+use Rattle.image.specs.Vectors.{past}
 
 -- the digit of an owner
 abbrev bit : Vector → ℕ → ℕ

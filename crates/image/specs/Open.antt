@@ -2,14 +2,14 @@
 use mathlib.Core.Path.{_≡_, refl, sym, ap, ap₂, _∙_, fun-ext}
 use mathlib.Core.Bool.{Bool, true, false, cond, _&&_}
 use mathlib.Core.List.{List, [], _∷_}
-use Prim.Native.Nat.{ℕ, _+_, _≤_, _<_}
+use Prim.Native.Nat.{ℕ, _≤_, _<_}
 use native.Mathlib.Omega.{arith}
-use lib.ListN.{length, getD, List·getD-eq-default}
+use lib.ListN.{getD}
 use borrow.Author.Tests.{eqb-true, eq-eqb, ne-eqb, ltb-true, ltb-false, lt-ltb, le-ltb}
-use Rattle.base.specs.Choice.{_==_, _<?_, and-left, and-right, cond-ind, le?}
-use Rattle.base.specs.Lists.{getD-tab}
-use Rattle.table.specs.Field.{State, OfHead, OfController, Known, End, OfPlace, OfMessage, Degree, Incarnation, LiveCount, StableCount, PlaceIncarnation, Flag, PairIncarnation, PairNumber, placeHead, word}
-use Rattle.table.specs.Layout.{controllers, controllerWords, placeWords}
+use Rattle.base.specs.Choice.{_==_, _<?_, and-left, and-right, cond-ind}
+use Rattle.base.specs.Lists.{length-tab}
+use Rattle.table.specs.Field.{State, OfController, Known, OfPlace, Degree, Incarnation, LiveCount, StableCount, PlaceIncarnation, Flag, PairIncarnation, PairNumber, placeHead, word}
+use Rattle.table.specs.Layout.{controllers}
 use Rattle.table.specs.Numbering.{numberOf, placeOf, place-of-number, number-fresh, none-given, none-used}
 use Rattle.rules.specs.Vector.{pair as pairList, noPair}
 use Rattle.rules.specs.Shared.{placeRecord}
@@ -17,11 +17,9 @@ use Rattle.rules.specs.Steps.{firstVector, openHouse}
 use Rattle.history.specs.History.{changedAt}
 use Rattle.model.specs.Model.{pair, changedAt₂, openController, absentController, openModel}
 use Rattle.model.specs.Tests.{changedAt-ind, changedAt-other, changedAt₂-ind}
-use Rattle.laws.specs.Records.{length-place-record}
-use Rattle.image.specs.View.{Tight, tight-view}
-use Rattle.image.specs.Functions.{within, within-in, within-out, within-ind}
-use Rattle.image.specs.Image.{noVec, placeVec, controllerBy, modelController, decode, image, message-none, controller-path, model-path}
-use Rattle.image.specs.Vectors.{modelPair, record-pair}
+use Rattle.image.specs.Functions.{within, within-in, within-out, within-ind, inRows, rows-none, rows-changed}
+use Rattle.image.specs.Image.{noVec, modelPair, placeVec, controllerBy, modelController, image, controller-is, message-none, controller-path, model-path}
+use Rattle.image.specs.Vectors.{tab-vec, place-pairs, record-pair}
 
 -- the words of a controller, and of its first interval
 abbrev controller-words : ℕ → List ℕ
@@ -30,36 +28,7 @@ controller-words k = k ∷ 0 ∷ 1 ∷ 1 ∷ []
 abbrev words : ℕ → List ℕ
 words c = placeRecord 0 1 0 1 (firstVector c)
 
--- how many they are
-length-words : (c : ℕ) → length (words c) ≡ placeWords
-length-words c = length-place-record 0 1 0 1 (firstVector c)
-
--- a list of n words has none beyond
-beyond : (l : List ℕ) (i n : ℕ) → length l ≡ n → (i < n → ⊥) → getD l i 0 ≡ 0
-beyond l i n e o = let h : length l ≤ i = le? (i + 1) n (λ h. absurd (o (omega arith))) (λ h. omega arith) in List·getD-eq-default l 0 h
-
--- an opened house has no word outside the table
-tight-opened : (n k : ℕ) → n ≤ controllers → Tight (openHouse n k)
-unfolding openHouse
-tight-opened n k nl (OfHead w) o = cond-ind (λ x. x ≡ 0) (w == 0) (λ e. absurd (o (omega (arith, eqb-true w 0 e)))) (λ e. refl)
-tight-opened n k nl (OfController c w) o =
-    cond-ind (λ x. x ≡ 0) (c <? n)
-    (λ e. let l = ltb-true c n e in beyond (controller-words k) w controllerWords refl (λ h. o (omega arith, omega arith))) (λ e. refl)
-tight-opened n k nl (Known holder owner i) o =
-    cond-ind (λ x. x ≡ 0) ((holder <? n) && ((holder == owner) && (i == 0)))
-    (λ e. let l = ltb-true holder n (and-left (holder <? n) _ e) in
-    let q = and-right (holder <? n) _ e in
-    let x = eqb-true holder owner (and-left (holder == owner) _ q) in
-    let y = eqb-true i 0 (and-right (holder == owner) _ q) in absurd (o (omega arith, omega arith, omega arith))) (λ e. refl)
-tight-opened n k nl (End holder owner i) o = refl
-tight-opened n k nl (OfPlace c p w) o =
-    cond-ind (λ x. x ≡ 0) ((c <? n) && (p == 0))
-    (λ e. let l = ltb-true c n (and-left (c <? n) _ e) in
-    let q = eqb-true p 0 (and-right (c <? n) _ e) in
-    beyond (words c) w placeWords (length-words c) (λ h. o (omega arith, omega arith, omega arith))) (λ e. refl)
-tight-opened n k nl (OfMessage r w) o = refl
-
--- its numbers are counts
+-- the numbers of a house just opened are counts
 opened-number : (n k c j : ℕ) → numberOf (openHouse n k) c j ≡ j
 unfolding openHouse
 opened-number n k c j =
@@ -83,12 +52,14 @@ module _ (n k c : ℕ) (cl : c < controllers) (l : c < n) where
   one-live = opened-number n k c _ ∙ own-controller (word (LiveCount c))
 
   -- its known words
-  own-known : (owner i : ℕ) → σ (Known c owner i) ≡ changedAt₂ (λ owner i. 0) c 0 1 owner i
+  own-known : inRows (λ owner i. σ (Known c owner i)) ≡ changedAt₂ (λ owner i. 0) c 0 1
   unfolding openHouse
   own-known =
-      changedAt₂-ind (λ owner i y. openHouse n k (Known c owner i) ≡ y) (λ owner i. 0) c 0 1 (rw (lt-ltb c n l, eq-eqb c c refl))
+      rows-changed (λ owner i. 0) _ c 0 1 cl (omega arith)
+      (changedAt₂-ind (λ owner i y. openHouse n k (Known c owner i) ≡ y) (λ owner i. 0) c 0 1 (rw (lt-ltb c n l, eq-eqb c c refl))
       (λ owner i ne. cond-ind (λ x. x ≡ 0) ((c <? n) && ((c == owner) && (i == 0)))
-      (λ e. let q = and-right (c <? n) _ e in absurd (ne (sym (eqb-true c owner (and-left (c == owner) _ q))) (eqb-true i 0 (and-right (c == owner) _ q)))) (λ e. refl))
+      (λ e. let q = and-right (c <? n) _ e in absurd (ne (sym (eqb-true c owner (and-left (c == owner) _ q))) (eqb-true i 0 (and-right (c == owner) _ q)))) (λ e. refl)))
+      ∙ ap (λ f. changedAt₂ f c 0 1) (rows-none (λ owner i. 0) (λ owner i. refl))
 
   -- the words of its first place
   own-place : (w : ℕ) → σ (OfPlace c 0 w) ≡ getD (words c) w 0
@@ -99,13 +70,10 @@ module _ (n k c : ℕ) (cl : c < controllers) (l : c < n) where
   own-vec : placeVec σ c 0 ≡ changedAt noVec c (pair 0 1)
   unfolding placeRecord
   own-vec =
-      fun-ext (λ owner. ap₂ pair (own-place (word (PairIncarnation c 0 owner))) (own-place (word (PairNumber c 0 owner)))
-      ∙ le? (owner + 1) controllers
-      (λ h. record-pair (0 ∷ 1 ∷ 0 ∷ 1 ∷ []) (firstVector c) placeHead refl owner (omega arith)
-      ∙ ap modelPair (getD-tab controllers (λ (owner : ℕ). cond (owner == c) (pairList 0 1) noPair) owner [] (omega arith)) ∙ inside owner)
-      (λ h. ap₂ pair (beyond (words c) (word (PairIncarnation c 0 owner)) placeWords (length-words c) (λ g. omega arith))
-      (beyond (words c) (word (PairNumber c 0 owner)) placeWords (length-words c) (λ g. omega arith))
-      ∙ sym (changedAt-other noVec c owner (pair 0 1) (omega arith))))
+      place-pairs σ c 0 (firstVector c) (length-tab controllers (λ (owner : ℕ). cond (owner == c) (pairList 0 1) noPair))
+      (λ owner h. ap₂ pair (own-place (word (PairIncarnation c 0 owner))) (own-place (word (PairNumber c 0 owner)))
+      ∙ record-pair (0 ∷ 1 ∷ 0 ∷ 1 ∷ []) (firstVector c) placeHead refl owner h)
+      ∙ tab-vec _ (changedAt noVec c (pair 0 1)) (λ owner h. inside owner) (λ owner h. changedAt-other noVec c owner (pair 0 1) (omega arith))
     where
       inside : (owner : ℕ) → modelPair (cond (owner == c) (pairList 0 1) noPair) ≡ changedAt noVec c (pair 0 1) owner
       inside =
@@ -118,7 +86,7 @@ module _ (n k c : ℕ) (cl : c < controllers) (l : c < n) where
   unfolding controllerBy openController placeRecord openHouse
   open-controller =
       controller-path (own-controller (word (Degree c))) (own-controller (word (Incarnation c))) one-live
-      (opened-number n k c _ ∙ own-controller (word (StableCount c))) (fun-ext (λ owner. fun-ext (own-known owner))) refl
+      (opened-number n k c _ ∙ own-controller (word (StableCount c))) own-known (rows-none _ (λ owner i. refl))
       (ap (λ m. within m 0 (λ x. σ (PlaceIncarnation c (placeOf σ c x)))) one-live
       ∙ fun-ext (within-ind (λ x y. y ≡ 0) 1 0 (λ x. σ (PlaceIncarnation c (placeOf σ c x)))
       (λ x p q. ap (λ x. σ (PlaceIncarnation c (placeOf σ c x))) (let h : x ≡ 1 = omega arith in h)
@@ -140,17 +108,17 @@ open-none n k c h =
     let e = le-ltb c n h in
     let none : (w : ℕ) → openHouse n k (OfController c w) ≡ 0 = λ w. rw e in
     let live = opened-number n k c _ ∙ none (word (LiveCount c)) in
-    controller-path (none (word (Degree c))) (none (word (Incarnation c))) live (opened-number n k c _ ∙ none (word (StableCount c))) (fun-ext (λ owner. fun-ext (λ i. rw e))) refl
+    controller-path (none (word (Degree c))) (none (word (Incarnation c))) live (opened-number n k c _ ∙ none (word (StableCount c))) (rows-none _ (λ owner i. rw e)) (rows-none _ (λ owner i. refl))
     (ap (λ m. within m 0 (λ x. openHouse n k (PlaceIncarnation c (placeOf (openHouse n k) c x)))) live ∙ fun-ext (λ x. within-out 0 0 _ x (λ p. p)))
     (ap (λ m. within m noVec (λ x. placeVec (openHouse n k) c (placeOf (openHouse n k) c x))) live ∙ fun-ext (λ x. within-out 0 noVec _ x (λ p. p)))
     (ap (λ m. within m false (λ x. openHouse n k (Flag c (placeOf (openHouse n k) c x)) == 1)) live ∙ fun-ext (λ x. within-out 0 false _ x (λ p. p)))
 
 -- O: "n controllers, all with K = k; .. all else 0"
 pub image-opened : (n k : ℕ) → n ≤ controllers → image (openHouse n k) ≡ openModel n k
-unfolding image decode openModel openHouse
+unfolding image openModel openHouse
 image-opened n k nl =
-    ap decode (tight-view (openHouse n k) (tight-opened n k nl))
-    ∙ model-path
-    (fun-ext (λ c. cond-ind (λ x. modelController (openHouse n k) c ≡ x) (c <? n)
-    (λ e. let l = ltb-true c n e in open-controller n k c (omega arith) l) (λ e. open-none n k c (ltb-false c n e))))
+    model-path
+    (fun-ext (λ c. cond-ind (λ x. image (openHouse n k) .controller c ≡ x) (c <? n)
+    (λ e. let l = ltb-true c n e in controller-is (openHouse n k) c (omega arith) ∙ open-controller n k c (omega arith) l)
+    (λ e. cond-ind (λ x. x ≡ absentController) (c <? controllers) (λ _. open-none n k c (ltb-false c n e)) (λ _. refl))))
     (none-given (openHouse n k) refl) (fun-ext (λ m. message-none (openHouse n k) m (omega (arith, none-used (openHouse n k) refl)))) refl

@@ -1,4 +1,4 @@
--- Every step on a state and a ledger, and on the lent buffers, is one of the outcomes.
+-- Every step on a state and a ledger is one of the outcomes, in a house of any limits.
 use mathlib.Core.Path.{_≡_, refl, sym, ap, ap₂, _∙_, subst}
 use mathlib.Core.Bool.{true, false, not, _&&_}
 use mathlib.Core.List.{List}
@@ -6,25 +6,24 @@ use mathlib.Core.Logic.{inl, inr}
 use Prim.Native.Nat.{ℕ, _+_, _-_, _≤_, _<_}
 use native.Mathlib.Omega.{arith}
 use lib.Count.{ones, onesIn}
-use lib.ListN.{length}
+use lib.ListN.{set}
 use borrow.Author.Tests.{eqb-true, eq-eqb, leb-true, leb-false, le-leb, not-false}
 use Rattle.base.specs.Choice.{_==_, _≤?_, _<?_, cond-ind, le?}
 use Rattle.base.specs.Cases.{Case, firstOf}
-use Rattle.table.specs.Field.{State, Size, Degree, Incarnation, LiveCount, StableCount, Sender, Receiver, desk, same}
-use Rattle.table.specs.Change.{put, putPart, clearPlaces, putStates}
-use Rattle.table.specs.Layout.{controllers, places, tableWords}
+use Rattle.table.specs.Field.{State, OfPlace, Size, Degree, Incarnation, LiveCount, StableCount, Sender, Receiver, desk, same}
+use Rattle.table.specs.Change.{put, put-same, putPart, clearPlaces, putStates}
+use Rattle.table.specs.Layout.{controllers}
 use Rattle.table.specs.Numbering.{numberOf, used, recordOf, number-from, number-next, number-add, place-of-count, present-pos, present-given, posted-size}
-use Rattle.table.specs.Words.{state, words, word-at}
-use Rattle.rules.specs.Limits.{house, lastIncarnation}
-use Rattle.rules.specs.Refusal.{LENGTH, FORM, PLACES-USED-UP, INCARNATIONS-USED-UP, LEDGER-USED-UP}
-use Rattle.rules.specs.Vector.{Vector, placeVector, messageVector, filtered, condemned, mask, conflict, merged}
+use Rattle.rules.specs.Limits.{Limits, lastIncarnation}
+use Rattle.rules.specs.Refusal.{FORM, PLACES-USED-UP, INCARNATIONS-USED-UP, LEDGER-USED-UP}
+use Rattle.rules.specs.Vector.{Vector, pair as pairList, placeVector, messageVector, filtered, condemned, mask, conflict, merged}
 use Rattle.rules.specs.Form.{inForm, stateReleased, stateDropped, statePublished, forDesk}
-use Rattle.rules.specs.Ledger.{countOf, blankLedger}
-use Rattle.rules.specs.Shared.{newestPlace, logged, loggedTo, checkpointed, forced, capped, causesIn, causes, placed, entered, restarted, dropHeld, startAnew, removed}
+use Rattle.rules.specs.Ledger.{countOf}
+use Rattle.rules.specs.Shared.{newestPlace, placeRecord, logged, loggedTo, checkpointed, forced, capped, causesIn, causes, placed, entered, restarted, dropHeld, startAnew, removed}
 use Rattle.rules.specs.Steps.{After, after, refusing, AfterBoth, refusingBoth, openHouse, openRefusals, stepOpen, degreeRefusals, stepDegree, sent, noReceiver, sendRefusals, stepSend, messageRefusals, letOut, mayGo, release, releaseRefusals, stepRelease, intervalAdded, intervalBegins, deliver, stepDeliver, logRefusals, stepLog, checkpointRefusals, stepCheckpoint, told, tellRefusals, stepTell, crashed, crashRefusals, stepCrash, noted, lowestCondemned, rolledBack, hear, hearRefusals, stepHear, gapRefusals, stepGap}
-use Rattle.rules.specs.Step.{perform, looksAtForm, stepOn, OutBoth, writtenBoth, lent, step, Call, asks, stepCall}
+use Rattle.rules.specs.Step.{perform, looksAtForm, stepOn, Call, asks}
 use Rattle.rules.specs.declared.Answer.{Answer}
-use Rattle.rules.specs.declared.Answer.the-variants.{Done, Sent, Delivered, Crashed, Rolled, Refused}
+use Rattle.rules.specs.declared.Answer.the-variants.{Sent, Delivered, Crashed, Rolled}
 use Rattle.rules.specs.declared.Command.{Command}
 use Rattle.rules.specs.declared.Command.the-variants.{Open, SetDegree, Send, Release, Deliver, Log, Checkpoint, Tell, Crash, Hear, SetGap}
 use Rattle.history.specs.History.{Interval}
@@ -33,19 +32,18 @@ use Rattle.model.specs.Vectors.{Condemned}
 use Rattle.model.specs.Beginning.{Compatible}
 use Rattle.model.specs.Steps.{Delivers, LetsOut}
 use Rattle.model.specs.Recovery.{HearsOf, notedController, NoneCondemned, LowestCondemned}
-use Rattle.laws.specs.Facts.{Form, form, controllerForm, messageForm, released-lt}
+use Rattle.laws.specs.Facts.{Form, form, controllerForm, placeForm, messageForm, released-lt}
 use Rattle.laws.specs.Allowed.{openAllowed, degreeAllowed, sendAllowed, messageAllowed, releaseAllowed, logAllowed, checkpointAllowed, tellAllowed, crashAllowed, hearAllowed, gapAllowed}
-use Rattle.laws.specs.Chain.{Starts, chain-form, chain-counts, counts-added}
 use Rattle.laws.specs.Found.{lowest}
-use Rattle.image.specs.Image.{image, image-same, putController-own}
+use Rattle.image.specs.Image.{vecOf, image, putController-own}
 use Rattle.image.specs.Changes.{image-state}
 use Rattle.image.specs.Controllers.{image-degree, image-gap, image-logged, image-told, image-noted}
 use Rattle.image.specs.Open.{image-opened}
 use Rattle.image.specs.Messages.{image-sent, image-letOut}
 use Rattle.image.specs.Begin.{numbers-added, image-begun}
-use Rattle.image.specs.Capped.{replayed-is, image-checkpointed, image-capped}
-use Rattle.image.specs.Anew.{numbers-noted, image-crashed, image-heard-rolled}
-use Rattle.image.specs.Vectors.{vecOf, length-message, length-filtered}
+use Rattle.image.specs.Capped.{Counted, replayed-is, image-checkpointed, image-capped}
+use Rattle.image.specs.Anew.{Starting, numbers-noted, image-crashed, image-heard-rolled}
+use Rattle.image.specs.Vectors.{length-message, length-filtered}
 use Rattle.image.specs.Mask.{named-is}
 use Rattle.image.specs.Tests.{spared, condemned-for, compatible, filtered-is, released-is, sound, sound-noted, filtered-number, Fresh, fresh, fresh-kept, none-condemned, lowest-condemned}
 use Rattle.image.specs.Reads.{sent-is, degree-is, incarnation-is, live-is, stable-is, ends-is, to-is, from-is, message-vec-is}
@@ -61,7 +59,7 @@ abbrev pub SteppedBoth : State → Command → AfterBoth → Type 0
 SteppedBoth σ x o = Stepped σ x (after (o .answer) (o .left))
 
 -- the same with another writing of the answer, the size and the model
-outcome-as : (n : ℕ) (μ : M.Model) (x : Call) {a b : Answer} {j k : ℕ} {p q : M.Model} → a ≡ b → j ≡ k → p ≡ q → Outcome n μ x b k q → Outcome n μ x a j p
+pub outcome-as : (n : ℕ) (μ : M.Model) (x : Call) {a b : Answer} {j k : ℕ} {p q : M.Model} → a ≡ b → j ≡ k → p ≡ q → Outcome n μ x b k q → Outcome n μ x a j p
 outcome-as n μ x {b = b} {j = j} {p = p} e s h o = subst (λ z. Outcome n μ x z j p) (sym e) (subst (λ z. Outcome n μ x b z p) (sym s) (subst (Outcome n μ x b _) (sym h) o))
 
 -- a step after its refusals
@@ -77,11 +75,11 @@ stepped-refusing-both σ g x cases o h =
     cond-ind (SteppedBoth σ x) (firstOf cases == 0) (λ e. h (sym (eqb-true (firstOf cases) 0 e))) (λ e. O.refused (asks x) (firstOf cases))
 
 -- O
-stepped-open : (σ : State) (g : List ℕ) (n k : ℕ) → SteppedBoth σ (Open n k) (stepOpen house σ g n k)
+stepped-open : (L : Limits) (σ : State) (g : List ℕ) (n k : ℕ) → SteppedBoth σ (Open n k) (stepOpen L σ g n k)
 unfolding stepOpen openHouse
-stepped-open σ g n k =
-    stepped-refusing-both σ g (Open n k) (openRefusals house g n k) _
-    (λ e. let d = openAllowed g n k e in
+stepped-open L σ g n k =
+    stepped-refusing-both σ g (Open n k) (openRefusals L g n k) _
+    (λ e. let d = openAllowed L g n k e in
     outcome-as _ _ (asks (Open n k)) refl refl (image-opened n k (d .size-le)) (O.opened n k (d .size-pos) (d .size-le) (d .degree-le)))
 
 -- no rule but opening writes the number of controllers
@@ -105,7 +103,7 @@ go-none : (σ : State) (r names : ℕ) → mayGo σ r names ≡ true → σ (Rec
 unfolding mayGo
 go-none σ r names e d = eqb-true names 0 (rw (eq-eqb (σ (Receiver r)) desk d) at e)
 
-module _ (σ : State) (f : Form σ) (m : ℕ) (l : recordOf σ m < used σ) where
+module _ {L : Limits} (σ : State) (f : Form L σ) (m : ℕ) (l : recordOf σ m < used σ) where
   abbrev r : ℕ
   r = recordOf σ m
 
@@ -120,14 +118,14 @@ module _ (σ : State) (f : Form σ) (m : ℕ) (l : recordOf σ m < used σ) wher
       let g = messageForm f r l in
       let sender = σ (Sender r) in
       let v = filtered σ sender (messageVector σ r) in
-      let owner : sender ≡ image σ .message m .from .owner = sym (ap (λ (x : Interval). x .owner) (from-is σ m l (f .used-le))) in
+      let owner : sender ≡ image σ .message m .from .owner = sym (ap (λ (x : Interval). x .owner) (from-is σ m l)) in
       record {
         pos = present-pos σ m l;
         sent = was-sent;
         within = subst (λ b. ones (mask v) ≤ image σ .controller b .degree) owner (omega (arith, degree-is σ sender (omega arith), go-few σ r (mask v) goes));
         names = λ owner.
             named-is v (length-filtered σ sender (messageVector σ r)) owner ∙ ap (λ (w : M.Vec). M.full (w owner)) (released-is σ f m l);
-        desk-none = λ e. go-none σ r (mask v) goes (sym (to-is σ m l (f .used-le)) ∙ e);
+        desk-none = λ e. go-none σ r (mask v) goes (sym (to-is σ m l) ∙ e);
       }
 
   -- the receiver of message m
@@ -136,7 +134,7 @@ module _ (σ : State) (f : Form σ) (m : ℕ) (l : recordOf σ m < used σ) wher
 
   -- as the model has it
   receiver-is : receiver ≡ image σ .message m .to
-  receiver-is = sym (to-is σ m l (f .used-le))
+  receiver-is = sym (to-is σ m l)
 
   -- the vector of message m
   abbrev theirs : Vector
@@ -144,7 +142,7 @@ module _ (σ : State) (f : Form σ) (m : ℕ) (l : recordOf σ m < used σ) wher
 
   -- as the model has it
   theirs-is : vecOf theirs ≡ image σ .message m .vec
-  theirs-is = sym (message-vec-is σ m l (f .used-le))
+  theirs-is = sym (message-vec-is σ m l)
 
   -- message m is condemned to its receiver
   drop-found : receiver < σ Size → condemned σ receiver theirs ≡ true → Condemned (σ Size) (image σ .controller (image σ .message m .to)) (image σ .message m .vec)
@@ -191,11 +189,26 @@ module _ (σ : State) (f : Form σ) (m : ℕ) (l : recordOf σ m < used σ) wher
 receives : (σ : State) (c : ℕ) → noReceiver σ c ≡ false → Receives (σ Size) c
 receives σ c e = le? (σ Size) c (λ l. inr (eqb-true c desk (not-false (c == desk) (rw (le-leb (σ Size) c l) at e)))) (λ l. inl l)
 
--- what starting anew counts on, in a house in form
-starts : (σ : State) → Form σ → (c k : ℕ) → c < σ Size → 1 ≤ k → k ≤ σ (LiveCount c) → k < places → σ (Incarnation c) < lastIncarnation → Starts σ c k
-starts σ f c k h k1 kl room il = record { chain = chain-form σ c f h; kept = k1; room = room; below = kl; left = il }
+module _ {L : Limits} (σ : State) (f : Form L σ) (c : ℕ) (h : c < σ Size) where
+  -- what a checkpoint counts on, in a house in form
+  counted : Counted σ c
+  counted = let k = controllerForm f c h in record { named = omega (arith, f .size-le); incarnation-le = k .incarnation-le; live-pos = k .live-pos }
 
-module _ (σ : State) (f : Form σ) where
+  -- and after an interval has begun
+  counted-added : (m r : ℕ) (v : Vector) → Counted (intervalAdded σ c m r v) c
+  unfolding intervalAdded put same putPart
+  counted-added m r v =
+      let live = σ (LiveCount c) in
+      let x = numberOf σ c (live + 1) in
+      let own = placeRecord (σ (Incarnation c)) x m 0 (set v c (pairList (σ (Incarnation c)) x)) in
+      let n : intervalAdded σ c m r v (LiveCount c) ≡ live + 1 = put-same (putPart σ (OfPlace c live 0) 0 own) (LiveCount c) (live + 1) in
+      record { named = counted .named; incarnation-le = counted .incarnation-le; live-pos = omega arith }
+
+  -- what starting anew counts on
+  starting : (k : ℕ) → 1 ≤ k → k ≤ σ (LiveCount c) → σ (Incarnation c) < lastIncarnation → Starting σ c k
+  starting k k1 kl il = record { named = counted .named; kept = k1; below = kl; left = il; near = placeForm f c (k - 1) h (omega arith) .vector .near }
+
+module _ (L : Limits) (σ : State) (f : Form L σ) where
   -- K
   stepped-degree : (c k : ℕ) → Stepped σ (SetDegree c k) (stepDegree σ c k)
   unfolding stepDegree put same
@@ -205,32 +218,32 @@ module _ (σ : State) (f : Form σ) where
       outcome-as _ _ (asks (SetDegree c k)) refl refl (image-degree σ c k (omega arith)) (O.degree-set c k (d .controller-lt) (d .degree-le)))
 
   -- S
-  stepped-send : (sender receiver payload : ℕ) → Stepped σ (Send sender receiver payload) (stepSend house σ sender receiver payload)
+  stepped-send : (sender receiver payload : ℕ) → Stepped σ (Send sender receiver payload) (stepSend L σ sender receiver payload)
   unfolding stepSend sent
   stepped-send sender receiver payload =
-      stepped-refusing σ (Send sender receiver payload) (sendRefusals house σ sender receiver) _
-      (λ e. let d = sendAllowed σ sender receiver e in
+      stepped-refusing σ (Send sender receiver payload) (sendRefusals L σ sender receiver) _
+      (λ e. let d = sendAllowed L σ sender receiver e in
       let q = sent-is σ in
       outcome-as _ _ (asks (Send sender receiver payload)) (ap (λ m. Sent (m + 1)) (sym q)) (posted-size σ _)
-      (image-sent σ f sender receiver payload (d .sender-lt) (d .room) ∙ ap (λ m. M.sendMessage (image σ) (m + 1) sender receiver) (sym q))
+      (image-sent σ f sender receiver payload (d .sender-lt) ∙ ap (λ m. M.sendMessage (image σ) (m + 1) sender receiver) (sym q))
       (O.sent sender receiver payload (d .sender-lt) (receives σ receiver (d .receiver-ok)) (d .differ)))
 
   -- R: held, let out or published, or no room for an entry
-  stepped-release : (g : List ℕ) (m : ℕ) → SteppedBoth σ (Release m) (stepRelease house σ g m)
+  stepped-release : (g : List ℕ) (m : ℕ) → SteppedBoth σ (Release m) (stepRelease L σ g m)
   unfolding stepRelease release letOut put same putPart
   stepped-release g m =
-      stepped-refusing-both σ g (Release m) (releaseRefusals house σ g (recordOf σ m)) _
+      stepped-refusing-both σ g (Release m) (releaseRefusals L σ g (recordOf σ m)) _
       (λ e. let r = recordOf σ m in
-      let l = releaseAllowed σ g r e .0 .record-used in
+      let l = releaseAllowed L σ g r e .0 .record-used in
       let v = filtered σ (σ (Sender r)) (messageVector σ r) in
       cond-ind (SteppedBoth σ (Release m)) (not (mayGo σ r (mask v))) (λ q. O.held m (mask v))
       (λ q. let out = O.released m (mask v) (release-found σ f m l (not-false _ q)) (λ c h. let k = controllerForm f c h in omega (arith, incarnation-is σ c (omega arith))) in
       cond-ind (SteppedBoth σ (Release m)) (not (forDesk σ r)) (λ _. outcome-as _ _ (asks (Release m)) refl refl (image-letOut σ f m stateReleased l) out)
-      (λ _. cond-ind (SteppedBoth σ (Release m)) (house .entries ≤? countOf g) (λ _. O.refused (asks (Release m)) LEDGER-USED-UP)
+      (λ _. cond-ind (SteppedBoth σ (Release m)) (L .entries ≤? countOf g) (λ _. O.refused (asks (Release m)) LEDGER-USED-UP)
       (λ _. outcome-as _ _ (asks (Release m)) refl refl (image-letOut σ f m statePublished l) out))))
 
   -- D
-  stepped-deliver : Fresh σ → (m : ℕ) → Stepped σ (Deliver m) (stepDeliver house σ m)
+  stepped-deliver : Fresh σ → (m : ℕ) → Stepped σ (Deliver m) (stepDeliver L σ m)
   unfolding stepDeliver deliver intervalBegins intervalAdded put same putPart
   stepped-deliver z m =
       stepped-refusing σ (Deliver m) (messageRefusals σ (recordOf σ m) stateReleased) _
@@ -247,12 +260,11 @@ module _ (σ : State) (f : Form σ) where
       (λ q. outcome-as _ _ (asks (Deliver m)) refl refl (image-state σ r stateDropped)
       (O.dropped m (present-pos σ m l) (was-sent σ f m l) (subst (λ c. c < σ Size) (receiver-is σ f m l) h) (drop-found σ f m l h q)))
       (λ q. cond-ind (Stepped σ (Deliver m)) (conflict c ours theirs) (λ q′. O.waits m)
-      (λ q′. cond-ind (Stepped σ (Deliver m)) (places ≤? σ (LiveCount c)) (λ _. O.refused (asks (Deliver m)) PLACES-USED-UP)
-      (λ w. let room = leb-false places (σ (LiveCount c)) w in
-      let v = merged ours theirs in
+      (λ q′. cond-ind (Stepped σ (Deliver m)) (L .places ≤? σ (LiveCount c)) (λ _. O.refused (asks (Deliver m)) PLACES-USED-UP)
+      (λ w. let v = merged ours theirs in
       outcome-as _ _ (asks (Deliver m)) (ap₂ (Delivered m) (sym (incarnation-is σ c cl)) x) (capped-size (intervalAdded σ c m r v) c)
-      (image-capped (intervalAdded σ c m r v) c (counts-added σ c m r v (chain-counts (chain-form σ c f h)) room) (fresh-kept σ _ (numbers-added σ c m r v) z)
-      ∙ ap (λ (μ : M.Model). M.capModel μ c) (image-begun σ f c m h room l))
+      (image-capped (intervalAdded σ c m r v) c (counted-added σ f c h m r v) (fresh-kept σ _ (numbers-added σ c m r v) z)
+      ∙ ap (λ (μ : M.Model). M.capModel μ c) (image-begun σ f c m h l))
       (O.delivered m c (receiver-is σ f m l) (deliver-found σ f m l h q q′))))))
 
   -- L
@@ -276,7 +288,7 @@ module _ (σ : State) (f : Form σ) where
   stepped-checkpoint z c =
       stepped-refusing σ (Checkpoint c) (checkpointRefusals σ c) _
       (λ e. let h = checkpointAllowed σ c e in
-      outcome-as _ _ (asks (Checkpoint c)) refl (loggedTo-size σ c (σ (LiveCount c))) (image-checkpointed σ c (chain-counts (chain-form σ c f h)) z) (O.checkpointed c h))
+      outcome-as _ _ (asks (Checkpoint c)) refl (loggedTo-size σ c (σ (LiveCount c))) (image-checkpointed σ c (counted σ f c h) z) (O.checkpointed c h))
 
   -- T
   stepped-tell : (owner holder : ℕ) → Stepped σ (Tell owner holder) (stepTell σ owner holder)
@@ -287,21 +299,21 @@ module _ (σ : State) (f : Form σ) where
       outcome-as _ _ (asks (Tell owner holder)) refl refl (image-told σ owner holder (omega arith) (omega arith)) (O.told owner holder (d .owner-lt) (d .holder-lt) (d .differ)))
 
   -- X
-  stepped-crash : Fresh σ → (c : ℕ) → Stepped σ (Crash c) (stepCrash house σ c)
+  stepped-crash : Fresh σ → (c : ℕ) → Stepped σ (Crash c) (stepCrash L σ c)
   unfolding stepCrash crashed removed startAnew dropHeld restarted placed entered causes causesIn put same putPart clearPlaces putStates
   stepped-crash z c =
-      stepped-refusing σ (Crash c) (crashRefusals house σ c) _
-      (λ e. let d = crashAllowed σ c e in
+      stepped-refusing σ (Crash c) (crashRefusals L σ c) _
+      (λ e. let d = crashAllowed L σ c e in
       let k = controllerForm f c (d .controller-lt) in
       let cl : c < controllers = omega arith in
       let j = σ (StableCount c) in
       let s = sym (stable-is σ c cl) in
       let model = image σ .controller c in
       outcome-as _ _ (asks (Crash c))
-      (ap (Crashed c (σ (Incarnation c)) (numberOf σ c j) (σ (LiveCount c) - j)) (replayed-is σ c (chain-counts (chain-form σ c f (d .controller-lt))) z j (k .stable-le))
+      (ap (Crashed c (σ (Incarnation c)) (numberOf σ c j) (σ (LiveCount c) - j)) (replayed-is σ c (counted σ f c (d .controller-lt)) z j (k .stable-le))
       ∙ ap₂ (λ i x. Crashed c i x (σ (LiveCount c) - j) (M.aboveLatest model x)) (sym (incarnation-is σ c cl)) s)
       (capped-size _ c)
-      (image-crashed σ c (starts σ f c j (d .controller-lt) (k .stable-pos) (k .stable-le) (d .room) (d .incarnation-lt)) z
+      (image-crashed σ c (starting σ f c (d .controller-lt) j (k .stable-pos) (k .stable-le) (d .incarnation-lt)) z
       ∙ ap (λ x. M.capModel (M.putController (image σ) c (M.anewController c (M.endController c model) x)) c) s)
       (O.crashed c _ (d .controller-lt)))
 
@@ -341,9 +353,9 @@ module _ (σ : State) (f : Form σ) where
       cond-ind (Stepped σ (Hear hearer owner i)) (lastIncarnation ≤? σ (Incarnation hearer)) (λ w. O.refused (asks (Hear hearer owner i)) INCARNATIONS-USED-UP)
       (λ w. let w′ = leb-false lastIncarnation (σ (Incarnation hearer)) w in
       outcome-as _ _ (asks (Hear hearer owner i))
-      (ap (Rolled hearer (numberOf σ hearer k) (σ (LiveCount hearer) - k)) (replayed-is σ hearer (chain-counts (chain-form σ hearer f (d .hearer-lt))) z k (omega arith)))
+      (ap (Rolled hearer (numberOf σ hearer k) (σ (LiveCount hearer) - k)) (replayed-is σ hearer (counted σ f hearer (d .hearer-lt)) z k (omega arith)))
       (capped-size _ hearer ∙ loggedTo-size τ hearer k)
-      (image-heard-rolled σ hearer owner i k (starts σ f hearer k (d .hearer-lt) (low .pos) (omega arith) (omega arith) w′) z (omega arith) (omega arith))
+      (image-heard-rolled σ hearer owner i k (starting σ f hearer (d .hearer-lt) k (low .pos) (omega arith) w′) z (omega arith) (omega arith))
       (O.rolled hearer owner i (numberOf σ hearer k) _ h
       (subst (LowestCondemned (σ Size) (notedController (image σ) hearer owner i)) (n .number hearer k)
       (subst (λ (q : M.Controller). LowestCondemned (σ Size) q (numberOf τ hearer k)) controller (lowest-condemned τ hearer s z′ l′)))))))
@@ -354,78 +366,23 @@ module _ (σ : State) (f : Form σ) where
   stepped-gap q = stepped-refusing σ (SetGap q) (gapRefusals q) _ (λ e. outcome-as _ _ (asks (SetGap q)) refl refl (image-gap σ q) (O.gap-set q (gapAllowed q e)))
 
 -- after the host's look at the form
-looked : (σ : State) (g : List ℕ) (x : Command) → looksAtForm x ≡ true → (Form σ → Fresh σ → SteppedBoth σ x (perform house σ g x)) → SteppedBoth σ x (stepOn house σ g x)
+looked : (L : Limits) (σ : State) (g : List ℕ) (x : Command) → looksAtForm x ≡ true → (Form L σ → Fresh σ → SteppedBoth σ x (perform L σ g x)) → SteppedBoth σ x (stepOn L σ g x)
 unfolding stepOn
-looked σ g x q h =
-    cond-ind (SteppedBoth σ x) (looksAtForm x && not (inForm house σ)) (λ e. O.refused (asks x) FORM)
-    (λ e. let good = not-false (inForm house σ) (subst (λ b. (b && not (inForm house σ)) ≡ false) q e) in h (form σ good) (fresh σ good))
+looked L σ g x q h =
+    cond-ind (SteppedBoth σ x) (looksAtForm x && not (inForm L σ)) (λ e. O.refused (asks x) FORM)
+    (λ e. let good = not-false (inForm L σ) (subst (λ b. (b && not (inForm L σ)) ≡ false) q e) in h (form L σ good) (fresh L σ good))
 
 -- every step on a state and a ledger
-pub stepped-state : (σ : State) (g : List ℕ) (x : Command) → SteppedBoth σ x (stepOn house σ g x)
+pub stepped-state : (L : Limits) (σ : State) (g : List ℕ) (x : Command) → SteppedBoth σ x (stepOn L σ g x)
 unfolding stepOn perform
-stepped-state σ g (Open n k) = stepped-open σ g n k
-stepped-state σ g (SetDegree c k) = looked σ g (SetDegree c k) refl (λ f z. stepped-degree σ f c k)
-stepped-state σ g (Send sender receiver payload) = looked σ g (Send sender receiver payload) refl (λ f z. stepped-send σ f sender receiver payload)
-stepped-state σ g (Release m) = looked σ g (Release m) refl (λ f z. stepped-release σ f g m)
-stepped-state σ g (Deliver m) = looked σ g (Deliver m) refl (λ f z. stepped-deliver σ f z m)
-stepped-state σ g (Log c q) = looked σ g (Log c q) refl (λ f z. stepped-log σ f c q)
-stepped-state σ g (Checkpoint c) = looked σ g (Checkpoint c) refl (λ f z. stepped-checkpoint σ f z c)
-stepped-state σ g (Tell owner holder) = looked σ g (Tell owner holder) refl (λ f z. stepped-tell σ f owner holder)
-stepped-state σ g (Crash c) = looked σ g (Crash c) refl (λ f z. stepped-crash σ f z c)
-stepped-state σ g (Hear hearer owner i) = looked σ g (Hear hearer owner i) refl (λ f z. stepped-hear σ f z hearer owner i)
-stepped-state σ g (SetGap q) = looked σ g (SetGap q) refl (λ f z. stepped-gap σ f q)
-
--- the model of a table
-abbrev pub modelOf : List ℕ → M.Model
-modelOf t = image (state t)
-
--- the number of controllers of a table
-abbrev pub sizeOf : List ℕ → ℕ
-sizeOf t = state t Size
-
--- the model of a state's table
-pub image-words : (σ : State) → modelOf (words σ) ≡ image σ
-image-words σ = image-same (state (words σ)) σ (word-at σ)
-
--- Every call over a lent table and a lent ledger, whatever stands in them.
-pub stepped : (t g : List ℕ) (x : Call) →
-    Outcome (sizeOf t) (modelOf t) x (stepCall t g x .answer) (sizeOf (stepCall t g x .table)) (modelOf (stepCall t g x .table))
-unfolding stepCall step lent
-stepped t g (asks x) =
-    cond-ind (λ (o : OutBoth). Outcome (sizeOf t) (modelOf t) (asks x) (o .answer) (sizeOf (o .table)) (modelOf (o .table))) (length t == tableWords)
-    (λ e. let o = stepOn house (state t) g x in
-    outcome-as _ _ (asks x) refl (word-at (o .left) Size (omega arith)) (image-words (o .left)) (stepped-state (state t) g x))
-    (λ e. O.refused (asks x) LENGTH)
-
--- a house just opened, whatever stood in the table and in the ledger before
-pub record Opened (n k : ℕ) (o : OutBoth) : Type 0 where
-  pub size-pos : 1 ≤ n
-  pub size-le : n ≤ controllers
-  pub degree-le : k ≤ n
-  pub size-is : sizeOf (o .table) ≡ n
-  pub table-is : o .table ≡ words (openHouse n k)
-  pub ledger-is : o .ledger ≡ blankLedger house
-  pub model-is : modelOf (o .table) ≡ M.openModel n k
-
--- a refusal is not `done`
-not-done : {A : Type 0} (number : ℕ) → Refused number ≡ Done → A
-not-done number e = absurd (let z : _≡_ {A = ℕ} 0 1 = cc in omega arith)
-
--- what a done opening leaves
-pub opening-done : (t g : List ℕ) (n k : ℕ) → step t g (Open n k) .answer ≡ Done → Opened n k (step t g (Open n k))
-unfolding step lent stepOn perform stepOpen refusingBoth openHouse
-opening-done t g n k =
-    cond-ind (λ (o : OutBoth). o .answer ≡ Done → Opened n k o) (length t == tableWords)
-    (λ e. cond-ind (λ (o : AfterBoth). o .answer ≡ Done → Opened n k (writtenBoth o)) (firstOf (openRefusals house g n k) == 0)
-    (λ q _. let d = openAllowed g n k (sym (eqb-true (firstOf (openRefusals house g n k)) 0 q)) in
-    record {
-      size-pos = d .size-pos;
-      size-le = d .size-le;
-      degree-le = d .degree-le;
-      size-is = word-at (openHouse n k) Size (omega arith);
-      table-is = refl;
-      ledger-is = refl;
-      model-is = image-words (openHouse n k) ∙ image-opened n k (d .size-le);
-    })
-    (λ q. not-done (firstOf (openRefusals house g n k))))
-    (λ e. not-done LENGTH)
+stepped-state L σ g (Open n k) = stepped-open L σ g n k
+stepped-state L σ g (SetDegree c k) = looked L σ g (SetDegree c k) refl (λ f z. stepped-degree L σ f c k)
+stepped-state L σ g (Send sender receiver payload) = looked L σ g (Send sender receiver payload) refl (λ f z. stepped-send L σ f sender receiver payload)
+stepped-state L σ g (Release m) = looked L σ g (Release m) refl (λ f z. stepped-release L σ f g m)
+stepped-state L σ g (Deliver m) = looked L σ g (Deliver m) refl (λ f z. stepped-deliver L σ f z m)
+stepped-state L σ g (Log c q) = looked L σ g (Log c q) refl (λ f z. stepped-log L σ f c q)
+stepped-state L σ g (Checkpoint c) = looked L σ g (Checkpoint c) refl (λ f z. stepped-checkpoint L σ f z c)
+stepped-state L σ g (Tell owner holder) = looked L σ g (Tell owner holder) refl (λ f z. stepped-tell L σ f owner holder)
+stepped-state L σ g (Crash c) = looked L σ g (Crash c) refl (λ f z. stepped-crash L σ f z c)
+stepped-state L σ g (Hear hearer owner i) = looked L σ g (Hear hearer owner i) refl (λ f z. stepped-hear L σ f z hearer owner i)
+stepped-state L σ g (SetGap q) = looked L σ g (SetGap q) refl (λ f z. stepped-gap L σ f q)

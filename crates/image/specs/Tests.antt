@@ -5,29 +5,26 @@ use Prim.Native.Nat.{ℕ, _+_, _≤_, _<_}
 use native.Mathlib.Omega.{arith}
 use lib.ListN.{length}
 use Rattle.base.specs.Choice.{le?}
-use Rattle.table.specs.Field.{State, OfHead, End, Size, LiveCount, Sender, same}
+use Rattle.table.specs.Field.{State, End, Size, LiveCount, Sender, same}
 use Rattle.table.specs.Change.{put}
 use Rattle.table.specs.Layout.{controllers}
 use Rattle.table.specs.Numbering.{numberOf, placeOf, used, recordOf, number-from, place-lt, place-next, place-ge, Numbered, number-fresh}
-use Rattle.rules.specs.Limits.{house}
+use Rattle.rules.specs.Limits.{Limits}
 use Rattle.rules.specs.Form.{inForm}
 use Rattle.rules.specs.Vector.{Vector, incarnation, number, pairOf, placeVector, messageVector, filtered, condemned, conflict}
 use Rattle.rules.specs.Steps.{noted, lowestCondemned}
 use Rattle.history.specs.History.{Interval}
-use Rattle.model.specs.Model.{Pair, releasedVec, filtered as filteredFor}
+use Rattle.model.specs.Model.{Pair, Controller, releasedVec, filtered as filteredFor}
 use Rattle.model.specs.Vectors.{Condemned, full-pos}
 use Rattle.model.specs.Beginning.{Compatible}
 use Rattle.model.specs.Recovery.{NoneCondemned, LowestCondemned}
-use Rattle.laws.specs.Facts.{VectorForm, Form, placeForm, messageForm, spare-words}
-use Rattle.laws.specs.Agree.{filtered-same}
-use Rattle.laws.specs.Chain.{Chain, chain-form, chain-noted}
+use Rattle.laws.specs.Facts.{VectorForm, Form, controllerForm, placeForm, messageForm, spare-words}
 use Rattle.laws.specs.Found.{condemned-some, condemned-none, conflict-none, Lowest, lowest}
-use Rattle.image.specs.View.{view, view-at}
-use Rattle.image.specs.Image.{decode, image, agree-view}
-use Rattle.image.specs.Vectors.{vecOf, past, length-place, length-message, filter-vec}
-use Rattle.image.specs.Reads.{number-seen, live-is, ends-is, vec-is, from-is, message-vec-is}
+use Rattle.image.specs.Image.{vecOf, image, controller-is}
+use Rattle.image.specs.Vectors.{past, length-place, length-message, filter-vec}
+use Rattle.image.specs.Reads.{live-is, ends-is, vec-is, from-is, message-vec-is}
 
-module _ (σ : State) (holder : ℕ) (hl : holder < controllers) (v : Vector) {n : ℕ} (form : VectorForm n v) (long : length v ≡ controllers) where
+module _ (σ : State) (holder : ℕ) (hl : holder < controllers) (v : Vector) {L : Limits} {n : ℕ} (form : VectorForm L n v) (long : length v ≡ controllers) where
   -- the end word that the holder has for an owner's pair
   end-of : (owner : ℕ) → owner < controllers → image σ .controller holder .ends owner (vecOf v owner .incarnation) ≡ σ (End holder owner (incarnation (pairOf v owner)))
   end-of owner l = ends-is σ holder hl owner (incarnation (pairOf v owner)) l (form .near owner l)
@@ -57,8 +54,7 @@ module _ (σ : State) (holder : ℕ) (hl : holder < controllers) (v : Vector) {n
 
   -- "Filtering a vector for b"
   pub filtered-is : vecOf (filtered σ holder v) ≡ filteredFor (image σ .controller holder) (vecOf v)
-  unfolding image decode
-  filtered-is = ap vecOf (filtered-same σ (view σ) (agree-view σ) holder v hl (form .near)) ∙ filter-vec (view σ) holder v long
+  filtered-is = filter-vec σ holder v long (form .near) ∙ ap (λ (k : Controller). filteredFor k (vecOf v)) (sym (controller-is σ holder hl))
 
 -- D: a delivery that does not wait
 pub compatible : (n c : ℕ) (v w : Vector) → n ≤ controllers → conflict c v w ≡ false → Compatible n c (vecOf v) (vecOf w)
@@ -68,56 +64,57 @@ compatible n c v w nl e owner l ne p q =
     conflict-none c v w e owner (omega arith) ne (λ z. omega arith) (λ z. omega arith)
 
 -- R: the vector whose mask is given is the model's
-pub released-is : (σ : State) → Form σ → (m : ℕ) → recordOf σ m < used σ →
+pub released-is : {L : Limits} (σ : State) → Form L σ → (m : ℕ) → recordOf σ m < used σ →
     let r = recordOf σ m in
     vecOf (filtered σ (σ (Sender r)) (messageVector σ r)) ≡ releasedVec (image σ) m
 unfolding releasedVec
 released-is σ f m l =
     let r = recordOf σ m in
     let g = messageForm f r l in
-    let s = ap (λ (x : Interval). x .owner) (from-is σ m l (f .used-le)) in
+    let s = ap (λ (x : Interval). x .owner) (from-is σ m l) in
     filtered-is σ (σ (Sender r)) (omega arith) (messageVector σ r) (g .vector) (length-message σ r)
-    ∙ (λ d. filteredFor (image σ .controller (sym s d)) (sym (message-vec-is σ m l (f .used-le)) d))
+    ∙ (λ d. filteredFor (image σ .controller (sym s d)) (sym (message-vec-is σ m l) d))
 
 -- a chain whose vectors can be looked at
-pub record Sound (σ : State) (c : ℕ) : Type 0 where
-  pub chain : Chain σ c
-  pub vector : (p : ℕ) → p < σ (LiveCount c) → VectorForm (σ Size) (placeVector σ c p)
+pub record Sound (L : Limits) (σ : State) (c : ℕ) : Type 0 where
+  pub named : c < controllers
+  pub live-pos : 1 ≤ σ (LiveCount c)
+  pub vector : (p : ℕ) → p < σ (LiveCount c) → VectorForm L (σ Size) (placeVector σ c p)
 
 -- in form, every controller of the house has one
-pub sound : (σ : State) → Form σ → (c : ℕ) → c < σ Size → Sound σ c
-sound σ f c h = record { chain = chain-form σ c f h; vector = λ p l. placeForm f c p h l .vector }
+pub sound : {L : Limits} (σ : State) → Form L σ → (c : ℕ) → c < σ Size → Sound L σ c
+sound σ f c h = record { named = omega (arith, f .size-le); live-pos = controllerForm f c h .live-pos; vector = λ p l. placeForm f c p h l .vector }
 
 -- and a crash noted leaves it
-pub sound-noted : (σ : State) (hearer owner i c : ℕ) → Sound σ c → Sound (noted σ hearer owner i) c
+pub sound-noted : {L : Limits} (σ : State) (hearer owner i c : ℕ) → Sound L σ c → Sound L (noted σ hearer owner i) c
 unfolding noted put same placeVector
-sound-noted σ hearer owner i c s = record { chain = chain-noted σ c hearer owner i (s .chain); vector = s .vector }
+sound-noted σ hearer owner i c s = record { named = s .named; live-pos = s .live-pos; vector = s .vector }
 
-module _ (σ : State) (c : ℕ) (s : Sound σ c) (x : ℕ) (x1 : 1 ≤ x) (xl : x ≤ numberOf σ c (σ (LiveCount c))) where
+module _ {L : Limits} (σ : State) (c : ℕ) (s : Sound L σ c) (x : ℕ) (x1 : 1 ≤ x) (xl : x ≤ numberOf σ c (σ (LiveCount c))) where
   -- the place of number x, which is live
   abbrev p : ℕ
   p = placeOf σ c x
 
-  form : VectorForm (σ Size) (placeVector σ c p)
-  form = s .vector p (place-lt σ c (σ (LiveCount c)) x (s .chain .live-pos) xl)
+  form : VectorForm L (σ Size) (placeVector σ c p)
+  form = s .vector p (place-lt σ c (σ (LiveCount c)) x (s .live-pos) xl)
 
   -- its vector
   place-is : vecOf (placeVector σ c p) ≡ image σ .controller c .vec x
-  place-is = sym (vec-is σ c (s .chain .named) x x1 xl (s .chain .live-pos) (s .chain .live-le))
+  place-is = sym (vec-is σ c (s .named) x x1 xl)
 
   -- number x is not condemned
   spared-number : condemned σ c (placeVector σ c p) ≡ false → Condemned (σ Size) (image σ .controller c) (image σ .controller c .vec x) → ⊥
   spared-number e =
-      subst (λ w. Condemned (σ Size) (image σ .controller c) w → ⊥) place-is (spared σ c (s .chain .named) (placeVector σ c p) form (length-place σ c p) e)
+      subst (λ w. Condemned (σ Size) (image σ .controller c) w → ⊥) place-is (spared σ c (s .named) (placeVector σ c p) form (length-place σ c p) e)
 
   -- number x is condemned
   condemned-number : condemned σ c (placeVector σ c p) ≡ true → Condemned (σ Size) (image σ .controller c) (image σ .controller c .vec x)
   condemned-number e =
-      subst (Condemned (σ Size) (image σ .controller c)) place-is (condemned-for σ c (s .chain .named) (placeVector σ c p) form (length-place σ c p) e)
+      subst (Condemned (σ Size) (image σ .controller c)) place-is (condemned-for σ c (s .named) (placeVector σ c p) form (length-place σ c p) e)
 
   -- the vector of number x, filtered for its controller
   pub filtered-number : vecOf (filtered σ c (placeVector σ c p)) ≡ filteredFor (image σ .controller c) (image σ .controller c .vec x)
-  filtered-number = filtered-is σ c (s .chain .named) (placeVector σ c p) form (length-place σ c p) ∙ ap (filteredFor (image σ .controller c)) place-is
+  filtered-number = filtered-is σ c (s .named) (placeVector σ c p) form (length-place σ c p) ∙ ap (filteredFor (image σ .controller c)) place-is
 
 -- A house whose numbers are counts: nothing was discarded. The search for a condemned place begins above place 0, so that number 2
 -- must not stand there.
@@ -125,24 +122,18 @@ pub record Fresh (σ : State) : Type 0 where
   pub count : (c k : ℕ) → c < controllers → numberOf σ c k ≡ k
 
 -- a house in form is one: its spare words are 0
-pub fresh : (σ : State) → inForm house σ ≡ true → Fresh σ
-fresh σ e =
-    record {
-      count = λ c k cl.
-          sym (number-seen σ c cl k)
-          ∙ number-fresh (view σ) c k
-          (λ w l u. view-at σ (OfHead w) (omega arith) ∙ spare-words σ e w l u);
-    }
+pub fresh : (L : Limits) (σ : State) → inForm L σ ≡ true → Fresh σ
+fresh L σ e = record { count = λ c k cl. number-fresh σ c k (spare-words L σ e) }
 
 -- and so is what a change leaves that numbers alike
 pub fresh-kept : (σ τ : State) → Numbered τ σ → Fresh σ → Fresh τ
 fresh-kept σ τ n z = record { count = λ c k cl. n .number c k ∙ z .count c k cl }
 
 -- H: what the search for the lowest condemned place finds
-module _ (σ : State) (hearer : ℕ) (s : Sound σ hearer) (z : Fresh σ) where
+module _ {L : Limits} (σ : State) (hearer : ℕ) (s : Sound L σ hearer) (z : Fresh σ) where
   -- its parts, with the live count of the table
   found : Lowest σ hearer (lowestCondemned σ hearer)
-  found = lowest σ hearer (s .chain .live-pos)
+  found = lowest σ hearer (s .live-pos)
 
   -- how many intervals are kept, and the highest number of them
   abbrev k : ℕ
@@ -155,20 +146,20 @@ module _ (σ : State) (hearer : ℕ) (s : Sound σ hearer) (z : Fresh σ) where
   none-before : (x : ℕ) → 2 ≤ x → x ≤ kept → Condemned (σ Size) (image σ .controller hearer) (image σ .controller hearer .vec x) → ⊥
   none-before x p q =
       let le = found .le in
-      let second = z .count hearer 2 (s .chain .named) in
+      let second = z .count hearer 2 (s .named) in
       spared-number σ hearer s x (omega arith) (omega (arith, number-from σ hearer k, number-from σ hearer (σ (LiveCount hearer))))
       (found .before (placeOf σ hearer x) (place-ge σ hearer 1 x (omega arith)) (place-lt σ hearer k x (found .pos) q))
 
   -- there is none
   pub none-condemned : σ (LiveCount hearer) ≤ k → NoneCondemned (σ Size) (image σ .controller hearer)
   none-condemned l =
-      let live = live-is σ hearer (s .chain .named) in
+      let live = live-is σ hearer (s .named) in
       record { none = λ x p q. none-before x p (omega (arith, number-from σ hearer k, number-from σ hearer (σ (LiveCount hearer)))) }
 
   -- there is one
   pub lowest-condemned : k < σ (LiveCount hearer) → LowestCondemned (σ Size) (image σ .controller hearer) kept
   lowest-condemned l =
-      let live = live-is σ hearer (s .chain .named) in
+      let live = live-is σ hearer (s .named) in
       let from = number-from σ hearer k in
       let top = number-from σ hearer (σ (LiveCount hearer)) in
       let pos = found .pos in

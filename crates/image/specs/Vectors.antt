@@ -13,63 +13,35 @@ use Rattle.table.specs.Field.{Field, State, Known, PairIncarnation, PairNumber,
 use Rattle.table.specs.Change.{putPart}
 use Rattle.table.specs.Layout.{controllers, vectorWords}
 use Rattle.rules.specs.Vector.{Pair as PairList, Vector, pair as pairList, noPair, incarnation, number, pairOf, placeVector, messageVector, flat, knownStable, filterPair, filtered, mergePair, merged}
-use Rattle.model.specs.Model.{Pair, pair, Vec, larger, filtered as filteredFor}
+use Rattle.model.specs.Model.{pair, Vec, larger, filtered as filteredFor}
+use Rattle.laws.specs.Facts.{Near}
 use Rattle.laws.specs.Records.{length-flat}
-use Rattle.image.specs.View.{Tight}
-use Rattle.image.specs.Image.{placeVec, controllerBy, modelController, modelMessage}
+use Rattle.image.specs.Functions.{rows-in}
+use Rattle.image.specs.Image.{modelPair, vecOf, placeVec, controllerBy, modelController, modelMessage}
 use Rattle.image.specs.Changes.{part-at}
-
--- a pair as a pair of the model
-abbrev pub modelPair : PairList → Pair
-modelPair p = pair (incarnation p) (number p)
-
--- a vector of pairs as a vector of the model
-abbrev pub vecOf : Vector → Vec
-vecOf v owner = modelPair (pairOf v owner)
 
 -- a vector of pairs has no pair beyond its pairs
 pub past : (v : Vector) (owner : ℕ) → length v ≤ owner → vecOf v owner ≡ pair 0 0
 past v owner l = ap modelPair (List·getD-eq-default v [] l)
 
 -- a vector given by a function of the owner
-tab-vec : (f : ℕ → PairList) (w : Vec) → ((owner : ℕ) → owner < controllers → modelPair (f owner) ≡ w owner) →
+pub tab-vec : (f : ℕ → PairList) (w : Vec) → ((owner : ℕ) → owner < controllers → modelPair (f owner) ≡ w owner) →
     ((owner : ℕ) → controllers ≤ owner → w owner ≡ pair 0 0) → vecOf (tab controllers f) ≡ w
 tab-vec f w h o =
     fun-ext (λ owner. le? (owner + 1) controllers (λ l. ap modelPair (getD-tab controllers f owner [] (omega arith)) ∙ h owner (omega arith))
     (λ l. past (tab controllers f) owner (omega (arith, length-tab controllers f)) ∙ sym (o owner (omega arith))))
 
--- a record of the table has no pair beyond the controllers
-module _ (σ : State) (z : Tight σ) where
-  -- in a place
-  place-past : (c p owner : ℕ) → controllers ≤ owner → placeVec σ c p owner ≡ pair 0 0
-  place-past c p owner l =
-      ap₂ pair (z (PairIncarnation c p owner) (λ v. let h = v .2 in omega arith)) (z (PairNumber c p owner) (λ v. let h = v .2 in omega arith))
+-- a place whose pairs are those of v
+pub place-pairs : (σ : State) (c p : ℕ) (v : Vector) → length v ≡ controllers →
+    ((owner : ℕ) → owner < controllers → pair (σ (PairIncarnation c p owner)) (σ (PairNumber c p owner)) ≡ vecOf v owner) → placeVec σ c p ≡ vecOf v
+unfolding placeVector
+place-pairs σ c p v e h = tab-vec _ (vecOf v) h (λ owner l. past v owner (omega arith))
 
-  -- in a message's record
-  message-past : (r owner : ℕ) → controllers ≤ owner → modelMessage σ r .vec owner ≡ pair 0 0
-  unfolding modelMessage
-  message-past r owner l =
-      ap₂ pair (z (MessagePairIncarnation r owner) (λ v. let h = v .1 in omega arith)) (z (MessagePairNumber r owner) (λ v. let h = v .1 in omega arith))
-
-  -- the vectors of the table
-  pub place-vec : (c p : ℕ) → vecOf (placeVector σ c p) ≡ placeVec σ c p
-  unfolding placeVector
-  place-vec c p = tab-vec _ (placeVec σ c p) (λ owner l. refl) (place-past c p)
-
-  -- that of a message
-  pub message-vec : (r : ℕ) → vecOf (messageVector σ r) ≡ modelMessage σ r .vec
-  unfolding messageVector modelMessage
-  message-vec r = tab-vec _ (modelMessage σ r .vec) (λ owner l. refl) (message-past r)
-
-  -- a place whose pairs are those of v
-  pub place-pairs : (c p : ℕ) (v : Vector) → length v ≡ controllers → ((owner : ℕ) → owner < controllers → placeVec σ c p owner ≡ vecOf v owner) → placeVec σ c p ≡ vecOf v
-  place-pairs c p v e h =
-      fun-ext (λ owner. le? (owner + 1) controllers (λ l. h owner (omega arith)) (λ l. place-past c p owner (omega arith) ∙ sym (past v owner (omega arith))))
-
-  -- a record whose pairs are those of v
-  pub message-pairs : (r : ℕ) (v : Vector) → length v ≡ controllers → ((owner : ℕ) → owner < controllers → modelMessage σ r .vec owner ≡ vecOf v owner) → modelMessage σ r .vec ≡ vecOf v
-  message-pairs r v e h =
-      fun-ext (λ owner. le? (owner + 1) controllers (λ l. h owner (omega arith)) (λ l. message-past r owner (omega arith) ∙ sym (past v owner (omega arith))))
+-- a message's record whose pairs are those of v
+pub message-pairs : (σ : State) (r : ℕ) (v : Vector) → length v ≡ controllers →
+    ((owner : ℕ) → owner < controllers → pair (σ (MessagePairIncarnation r owner)) (σ (MessagePairNumber r owner)) ≡ vecOf v owner) → modelMessage σ r .vec ≡ vecOf v
+unfolding messageVector modelMessage
+message-pairs σ r v e h = tab-vec _ (vecOf v) h (λ owner l. past v owner (omega arith))
 
 -- all vectors have a pair for each controller
 pub length-place : (σ : State) (c p : ℕ) → length (placeVector σ c p) ≡ controllers
@@ -102,12 +74,14 @@ both true p q = p
 both false p q = q
 
 -- filtering, merging, and the own pair
-pub filter-vec : (σ : State) (holder : ℕ) (v : Vector) → length v ≡ controllers → vecOf (filtered σ holder v) ≡ filteredFor (modelController σ holder) (vecOf v)
+pub filter-vec : (σ : State) (holder : ℕ) (v : Vector) → length v ≡ controllers → Near v → vecOf (filtered σ holder v) ≡ filteredFor (modelController σ holder) (vecOf v)
 unfolding filtered filterPair knownStable filteredFor controllerBy
-filter-vec σ holder v e =
+filter-vec σ holder v e near =
     tab-vec _ (filteredFor (modelController σ holder) (vecOf v))
-    (λ owner l. pair-cond (number (pairOf v owner) ≤? σ (Known holder owner (incarnation (pairOf v owner)))) noPair (pairOf v owner))
-    (λ owner l. both (number (pairOf v owner) ≤? σ (Known holder owner (incarnation (pairOf v owner)))) refl (past v owner (omega arith)))
+    (λ owner l. let i = incarnation (pairOf v owner) in
+    pair-cond (number (pairOf v owner) ≤? σ (Known holder owner i)) noPair (pairOf v owner)
+    ∙ ap (λ x. cond (number (pairOf v owner) ≤? x) (pair 0 0) (vecOf v owner)) (sym (rows-in (λ owner i. σ (Known holder owner i)) owner i l (near owner l))))
+    (λ owner l. both (number (pairOf v owner) ≤? modelController σ holder .known owner (incarnation (pairOf v owner))) refl (past v owner (omega arith)))
 
 -- merging
 pub merge-vec : (v w : Vector) → length v ≡ controllers → length w ≡ controllers → vecOf (merged v w) ≡ (λ owner. larger (vecOf v owner) (vecOf w owner))

@@ -44,7 +44,7 @@ pub record Chain (σ : State) (c : ℕ) : Type 0 where
   pub message-near : (r : ℕ) → r < messages → Near (messageVector σ r)
 
 -- a controller of a state in form has it
-pub chain-form : (σ : State) (c : ℕ) → Form σ → c < σ Size → Chain σ c
+pub chain-form : (σ : State) (c : ℕ) → Form house σ → c < σ Size → Chain σ c
 chain-form σ c f h =
     let k = controllerForm f c h in
     record {
@@ -80,7 +80,7 @@ counts-added σ c m r v w room =
     record { named = w .named; incarnation-le = w .incarnation-le; live-pos = omega arith; live-le = omega arith }
 
 pub chain-of : (t : List ℕ) (c : ℕ) → Lent t → c < state t Size → Chain (state t) c
-chain-of t c l h = chain-form (state t) c (form (state t) (l .good)) h
+chain-of t c l h = chain-form (state t) c (form house (state t) (l .good)) h
 
 -- the words that it looks at: those of numbering, incarnations and live counts, and all flags and vectors
 abbrev pub onChain : Field → Bool
@@ -225,7 +225,7 @@ pub record Taken (σ : State) (r : ℕ) : Type 0 where
 
 pub taken : (t : List ℕ) (r : ℕ) → Lent t → 0 ≡ firstOf (messageRefusals (state t) r stateReleased) → Taken (state t) r
 taken t r l e =
-    let f = form (state t) (l .good) in
+    let f = form house (state t) (l .good) in
     let a = messageAllowed (state t) r stateReleased e in
     record { record-lt = omega (arith, f .used-le, a .record-used); receiver = chain-of t _ l (released-lt f r (a .record-used) (a .state-is)) }
 
@@ -237,7 +237,7 @@ pub record Releasable (σ : State) (r : ℕ) : Type 0 where
 
 pub releasable : (t g : List ℕ) (r : ℕ) → Lent t → 0 ≡ firstOf (releaseRefusals house (state t) g r) → Releasable (state t) r
 releasable t g r l e =
-    let f = form (state t) (l .good) in
-    let a = releaseAllowed (state t) g r e .0 in
+    let f = form house (state t) (l .good) in
+    let a = releaseAllowed house (state t) g r e .0 in
     let k = messageForm f r (a .record-used) in
     record { record-lt = omega (arith, f .used-le, a .record-used); sender-lt = below-8 f _ (k .sender-lt); near = k .vector .near }

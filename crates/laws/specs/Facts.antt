@@ -1,4 +1,4 @@
--- What being in form says of each word.
+-- What being in form says of each word, in a house of any limits.
 use mathlib.Core.Path.{_≡_, refl, sym, ap, _∙_}
 use mathlib.Core.List.{[]}
 use mathlib.Core.Bool.{Bool, true, false, _&&_, _||_, or-false, true≢false}
@@ -10,9 +10,9 @@ use Rattle.base.specs.Ranges.{allb, allb-get}
 use Rattle.base.specs.Lists.{getD-tab}
 use Rattle.base.specs.Cases.{passed}
 use Rattle.table.specs.Field.{State, OfHead, Known, End, OfMessage, Size, Degree, Incarnation, LiveCount, StableCount, PlaceIncarnation, PlaceNumber, Cause, Flag, MessageState, Sender, Receiver, SendingIncarnation, SendingNumber, MessagePairIncarnation, Gap, word, spareFrom}
-use Rattle.table.specs.Layout.{controllers, incarnations, places, messages, messageWords}
+use Rattle.table.specs.Layout.{controllers, incarnations, messageWords}
 use Rattle.table.specs.Numbering.{numberOf, used, lastGiven}
-use Rattle.rules.specs.Limits.{house, lastIncarnation, lastNumber}
+use Rattle.rules.specs.Limits.{Limits, lastIncarnation}
 use Rattle.rules.specs.Vector.{Pair, Vector, incarnation, number, pairOf, placeVector, messageVector}
 use Rattle.rules.specs.Form.{stateReleased, forDesk, stateOk, zeros, pairOk, vectorOk, controllerOk, highest, rowOk, placeOk, messageOk, headZeros, headOk, inForm}
 
@@ -21,19 +21,19 @@ abbrev pub Near : Vector → Type 0
 Near v = (a : ℕ) → a < controllers → incarnation (pairOf v a) < incarnations
 
 -- a table in form: the words of its head, and the tests of the rest
-pub record Form (σ : State) : Type 0 where
+pub record Form (L : Limits) (σ : State) : Type 0 where
   pub size-pos : 1 ≤ σ Size
   pub size-le : σ Size ≤ controllers
-  pub used-le : used σ ≤ messages
-  pub controllers-ok : allb controllers (controllerOk house (σ Size) σ) ≡ true
-  pub rows-ok : allb controllers (λ (holder : ℕ). allb controllers (rowOk house (σ Size) σ holder)) ≡ true
-  pub places-ok : allb controllers (λ (c : ℕ). allb places (placeOk house (σ Size) σ c)) ≡ true
-  pub messages-ok : allb messages (messageOk house (σ Size) σ) ≡ true
+  pub used-le : used σ ≤ L .messages
+  pub controllers-ok : allb controllers (controllerOk L (σ Size) σ) ≡ true
+  pub rows-ok : allb controllers (λ (holder : ℕ). allb controllers (rowOk L (σ Size) σ holder)) ≡ true
+  pub places-ok : allb controllers (λ (c : ℕ). allb (L .places) (placeOk L (σ Size) σ c)) ≡ true
+  pub messages-ok : allb (L .messages) (messageOk L (σ Size) σ) ≡ true
 
 -- what the whole test says
-pub form : (σ : State) → inForm house σ ≡ true → Form σ
+pub form : (L : Limits) (σ : State) → inForm L σ ≡ true → Form L σ
 unfolding inForm headOk
-form σ e =
+form L σ e =
     let head = passed _ 0 e in
     record {
       size-pos = leb-true _ _ (passed _ 0 head);
@@ -51,17 +51,17 @@ unfolding zeros
 zeros-get k word i e h = eqb-true _ _ (allb-get (λ (i : ℕ). word i == 0) k i e h)
 
 -- a vector in form, of a house of n controllers
-pub record VectorForm (n : ℕ) (v : Vector) : Type 0 where
+pub record VectorForm (L : Limits) (n : ℕ) (v : Vector) : Type 0 where
   pub near : Near v
-  pub number-le : (a : ℕ) → a < controllers → number (pairOf v a) ≤ lastNumber
+  pub number-le : (a : ℕ) → a < controllers → number (pairOf v a) ≤ L .numbers
   pub empty-incarnation : (a : ℕ) → a < controllers → number (pairOf v a) ≡ 0 → incarnation (pairOf v a) ≡ 0
   pub beyond-number : (a : ℕ) → a < controllers → n ≤ a → number (pairOf v a) ≡ 0
   pub beyond-incarnation : (a : ℕ) → a < controllers → n ≤ a → incarnation (pairOf v a) ≡ 0
 
 -- a pair in form, of an owner below n or not
-record PairForm (n a : ℕ) (p : Pair) : Type 0 where
+record PairForm (L : Limits) (n a : ℕ) (p : Pair) : Type 0 where
   incarnation-le : incarnation p ≤ lastIncarnation
-  number-le : number p ≤ lastNumber
+  number-le : number p ≤ L .numbers
   empty-incarnation : number p ≡ 0 → incarnation p ≡ 0
   beyond-number : n ≤ a → number p ≡ 0
   beyond-incarnation : n ≤ a → incarnation p ≡ 0
@@ -71,9 +71,9 @@ or-else : (x : ℕ) (b : Bool) → ((0 <? x) || b) ≡ true → x ≡ 0 → b �
 or-else x b e z = rw (le-ltb 0 x (omega arith)) at e
 
 -- a pair that passed its test
-pair-form : (n a : ℕ) (p : Pair) → pairOk house n a p ≡ true → PairForm n a p
+pair-form : (L : Limits) (n a : ℕ) (p : Pair) → pairOk L n a p ≡ true → PairForm L n a p
 unfolding pairOk
-pair-form n a p e =
+pair-form L n a p e =
     le? (a + 1) n
     (λ l. let q = rw (lt-ltb a n (omega arith)) at e in
     record {
@@ -89,9 +89,9 @@ pair-form n a p e =
     record { incarnation-le = omega arith; number-le = omega arith; empty-incarnation = λ z. t; beyond-number = λ g. x; beyond-incarnation = λ g. t })
 
 -- a vector whose pairs all passed
-pub vectorForm : (n : ℕ) (v : Vector) → vectorOk house n v ≡ true → VectorForm n v
+pub vectorForm : (L : Limits) (n : ℕ) (v : Vector) → vectorOk L n v ≡ true → VectorForm L n v
 unfolding vectorOk
-vectorForm n v e =
+vectorForm L n v e =
     record {
       near = λ a h. omega (arith, get a h .incarnation-le);
       number-le = λ a h. get a h .number-le;
@@ -100,47 +100,47 @@ vectorForm n v e =
       beyond-incarnation = λ a h. get a h .beyond-incarnation;
     }
   where
-    get : (a : ℕ) → a < controllers → PairForm n a (pairOf v a)
-    get a h = pair-form n a (pairOf v a) (allb-get (λ (a : ℕ). pairOk house n a (pairOf v a)) controllers a e h)
+    get : (a : ℕ) → a < controllers → PairForm L n a (pairOf v a)
+    get a h = pair-form L n a (pairOf v a) (allb-get (λ (a : ℕ). pairOk L n a (pairOf v a)) controllers a e h)
 
 -- a controller of the house
-pub record ControllerForm (σ : State) (c : ℕ) : Type 0 where
+pub record ControllerForm (L : Limits) (σ : State) (c : ℕ) : Type 0 where
   pub degree-le : σ (Degree c) ≤ σ Size
   pub incarnation-le : σ (Incarnation c) ≤ lastIncarnation
   pub live-pos : 1 ≤ σ (LiveCount c)
-  pub live-le : σ (LiveCount c) ≤ places
+  pub live-le : σ (LiveCount c) ≤ L .places
   pub stable-pos : 1 ≤ σ (StableCount c)
   pub stable-le : σ (StableCount c) ≤ σ (LiveCount c)
 
 -- place p, live, of controller c
-pub record PlaceForm (σ : State) (c p : ℕ) : Type 0 where
+pub record PlaceForm (L : Limits) (σ : State) (c p : ℕ) : Type 0 where
   pub incarnation-le : σ (PlaceIncarnation c p) ≤ lastIncarnation
   pub number-is : σ (PlaceNumber c p) ≡ numberOf σ c (p + 1)
   pub cause-le : σ (Cause c p) ≤ lastGiven σ
   pub flag-le : σ (Flag c p) ≤ 1
   pub first-flag : p ≡ 0 → σ (Flag c p) ≡ 1
-  pub vector : VectorForm (σ Size) (placeVector σ c p)
+  pub vector : VectorForm L (σ Size) (placeVector σ c p)
 
 -- message record r, used
-pub record MessageForm (σ : State) (r : ℕ) : Type 0 where
+pub record MessageForm (L : Limits) (σ : State) (r : ℕ) : Type 0 where
   pub state-ok : stateOk (forDesk σ r) (σ (MessageState r)) ≡ true
   pub sender-lt : σ (Sender r) < σ Size
   pub receiver-ok : ((σ (Receiver r) <? σ Size) || forDesk σ r) ≡ true
   pub incarnation-le : σ (SendingIncarnation r) ≤ lastIncarnation
   pub number-pos : 1 ≤ σ (SendingNumber r)
-  pub number-le : σ (SendingNumber r) ≤ lastNumber
-  pub vector : VectorForm (σ Size) (messageVector σ r)
+  pub number-le : σ (SendingNumber r) ≤ L .numbers
+  pub vector : VectorForm L (σ Size) (messageVector σ r)
 
-module _ {σ : State} (f : Form σ) where
+module _ {L : Limits} {σ : State} (f : Form L σ) where
   -- a controller of the house has its words in the table
   pub below-8 : (c : ℕ) → c < σ Size → c < controllers
   below-8 c h = omega arith
 
   -- the words of a controller of the house
-  pub controllerForm : (c : ℕ) → c < σ Size → ControllerForm σ c
+  pub controllerForm : (c : ℕ) → c < σ Size → ControllerForm L σ c
   unfolding controllerOk
   controllerForm c h =
-      let e = rw (lt-ltb c (σ Size) h) at (allb-get (controllerOk house (σ Size) σ) controllers c (f .controllers-ok) (omega arith)) in
+      let e = rw (lt-ltb c (σ Size) h) at (allb-get (controllerOk L (σ Size) σ) controllers c (f .controllers-ok) (omega arith)) in
       record {
         degree-le = leb-true _ _ (passed _ 0 e);
         incarnation-le = leb-true _ _ (passed _ 1 e);
@@ -151,11 +151,11 @@ module _ {σ : State} (f : Form σ) where
       }
 
   -- the test of one place
-  place-ok : (c p : ℕ) → c < controllers → p < places → placeOk house (σ Size) σ c p ≡ true
-  place-ok c p cl pl = allb-get _ places p (allb-get (λ (c : ℕ). allb places (placeOk house (σ Size) σ c)) controllers c (f .places-ok) cl) pl
+  place-ok : (c p : ℕ) → c < controllers → p < L .places → placeOk L (σ Size) σ c p ≡ true
+  place-ok c p cl pl = allb-get _ (L .places) p (allb-get (λ (c : ℕ). allb (L .places) (placeOk L (σ Size) σ c)) controllers c (f .places-ok) cl) pl
 
   -- the words of a live place
-  pub placeForm : (c p : ℕ) → c < σ Size → p < σ (LiveCount c) → PlaceForm σ c p
+  pub placeForm : (c p : ℕ) → c < σ Size → p < σ (LiveCount c) → PlaceForm L σ c p
   unfolding placeOk
   placeForm c p h l =
       let e = rw (lt-ltb _ _ l) at (place-ok c p (omega arith) (omega (arith, controllerForm c h .live-le))) in
@@ -165,14 +165,14 @@ module _ {σ : State} (f : Form σ) where
         cause-le = leb-true _ _ (passed _ 2 e);
         flag-le = leb-true _ _ (passed _ 3 e);
         first-flag = λ z. eqb-true _ _ (or-else p _ (passed _ 4 e) z);
-        vector = vectorForm _ _ (passed _ 5 e);
+        vector = vectorForm _ _ _ (passed _ 5 e);
       }
 
   -- the words of a used message record
-  pub messageForm : (r : ℕ) → r < used σ → MessageForm σ r
+  pub messageForm : (r : ℕ) → r < used σ → MessageForm L σ r
   unfolding messageOk
   messageForm r l =
-      let e = rw (lt-ltb _ _ l) at (allb-get (messageOk house (σ Size) σ) messages r (f .messages-ok) (omega arith)) in
+      let e = rw (lt-ltb _ _ l) at (allb-get (messageOk L (σ Size) σ) (L .messages) r (f .messages-ok) (omega arith)) in
       record {
         state-ok = passed _ 0 e;
         sender-lt = ltb-true _ _ (passed _ 1 e);
@@ -180,7 +180,7 @@ module _ {σ : State} (f : Form σ) where
         incarnation-le = leb-true _ _ (passed _ 3 e);
         number-pos = leb-true _ _ (passed _ 4 e);
         number-le = leb-true _ _ (passed _ 5 e);
-        vector = vectorForm _ _ (passed _ 6 e);
+        vector = vectorForm _ _ _ (passed _ 6 e);
       }
 
   -- W2: "A message for receiver 8 has state 1, 5 or 6": a released one goes to a controller
@@ -193,14 +193,14 @@ module _ {σ : State} (f : Form σ) where
       go false p q = ltb-true _ _ (sym (or-false (σ (Receiver r) <? σ Size)) ∙ p)
 
   -- the words of unused message records
-  pub no-message : (r k : ℕ) → r < messages → used σ ≤ r → k < messageWords → σ (OfMessage r k) ≡ 0
+  pub no-message : (r k : ℕ) → r < L .messages → used σ ≤ r → k < messageWords → σ (OfMessage r k) ≡ 0
   unfolding messageOk
   no-message r k rl l kl =
       zeros-get messageWords (λ (k : ℕ). σ (OfMessage r k)) k
-      (rw (le-ltb _ _ l) at (allb-get (messageOk house (σ Size) σ) messages r (f .messages-ok) rl)) kl
+      (rw (le-ltb _ _ l) at (allb-get (messageOk L (σ Size) σ) (L .messages) r (f .messages-ok) rl)) kl
 
   -- the vectors of all message records are near, those of unused ones too
-  pub message-near : (r : ℕ) → r < messages → Near (messageVector σ r)
+  pub message-near : (r : ℕ) → r < L .messages → Near (messageVector σ r)
   unfolding messageVector
   message-near r l =
       le? (r + 1) (used σ) (λ u. messageForm r (omega arith) .vector .near)
@@ -209,23 +209,23 @@ module _ {σ : State} (f : Form σ) where
 
   -- a known and an end word: at most the last number, and 0 where holder or owner is not of the house
   abbrev top : ℕ → ℕ → ℕ
-  top holder owner = highest house (σ Size) holder owner
+  top holder owner = highest L (σ Size) holder owner
 
   -- the test of one known and one end word
   row : (holder owner i : ℕ) → holder < controllers → owner < controllers → i < incarnations → ((σ (Known holder owner i) ≤? top holder owner) && (σ (End holder owner i) ≤? top holder owner)) ≡ true
   unfolding rowOk
   row holder owner i hl ol il =
       allb-get (λ (i : ℕ). (σ (Known holder owner i) ≤? top holder owner) && (σ (End holder owner i) ≤? top holder owner)) incarnations i
-      (allb-get (rowOk house (σ Size) σ holder) controllers owner (allb-get (λ (holder : ℕ). allb controllers (rowOk house (σ Size) σ holder)) controllers holder (f .rows-ok) hl) ol) il
+      (allb-get (rowOk L (σ Size) σ holder) controllers owner (allb-get (λ (holder : ℕ). allb controllers (rowOk L (σ Size) σ holder)) controllers holder (f .rows-ok) hl) ol) il
 
   -- an end word is at most the highest that its row may have
   end-top : (holder owner i : ℕ) → holder < controllers → owner < controllers → i < incarnations → σ (End holder owner i) ≤ top holder owner
   end-top holder owner i hl ol il = leb-true _ _ (and-right (σ (Known holder owner i) ≤? top holder owner) _ (row holder owner i hl ol il))
 
   -- that highest number is at most the last number
-  top-le : (holder owner : ℕ) → top holder owner ≤ lastNumber
+  top-le : (holder owner : ℕ) → top holder owner ≤ L .numbers
   unfolding highest
-  top-le holder owner = cond-ind (λ x. x ≤ lastNumber) ((holder <? σ Size) && (owner <? σ Size)) (λ e. omega arith) (λ e. omega arith)
+  top-le holder owner = cond-ind (λ x. x ≤ L .numbers) ((holder <? σ Size) && (owner <? σ Size)) (λ e. omega arith) (λ e. omega arith)
 
   -- and 0 where holder or owner is not of the house
   top-none : (holder owner : ℕ) → (holder < σ Size → owner < σ Size → ⊥) → top holder owner ≡ 0
@@ -235,7 +235,7 @@ module _ {σ : State} (f : Form σ) where
       (λ e. absurd (out (ltb-true _ _ (and-left (holder <? σ Size) _ e)) (ltb-true _ _ (and-right (holder <? σ Size) _ e)))) (λ e. refl)
 
   -- end words are at most the last number
-  pub end-le : (holder owner i : ℕ) → holder < controllers → owner < controllers → i < incarnations → σ (End holder owner i) ≤ lastNumber
+  pub end-le : (holder owner i : ℕ) → holder < controllers → owner < controllers → i < incarnations → σ (End holder owner i) ≤ L .numbers
   end-le holder owner i hl ol il = omega (arith, top-le holder owner, end-top holder owner i hl ol il)
 
   -- the end words of controllers from n on
@@ -243,8 +243,8 @@ module _ {σ : State} (f : Form σ) where
   no-end holder owner i hl ol il out = omega (arith, top-none holder owner out, end-top holder owner i hl ol il)
 
 -- the words of the head before the gap that have no meaning yet
-pub spare-words : (σ : State) → inForm house σ ≡ true → (k : ℕ) → spareFrom ≤ k → k < word Gap → σ (OfHead k) ≡ 0
+pub spare-words : (L : Limits) (σ : State) → inForm L σ ≡ true → (k : ℕ) → spareFrom ≤ k → k < word Gap → σ (OfHead k) ≡ 0
 unfolding inForm headOk headZeros
-spare-words σ e k l u =
+spare-words L σ e k l u =
     let q : spareFrom + (k - spareFrom) ≡ k = omega arith in
     rw q at (zeros-get (word Gap - spareFrom) (λ (k : ℕ). σ (OfHead (spareFrom + k))) (k - spareFrom) (passed _ 3 (passed _ 0 e)) (omega arith))

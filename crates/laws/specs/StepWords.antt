@@ -10,9 +10,8 @@ use Rattle.base.specs.Choice.{_==_, _≤?_, _<?_, cond-ind}
 use Rattle.base.specs.Cases.{Case, firstOf}
 use Rattle.table.specs.Field.{Field, State, OfController, OfPlace, OfMessage, Known, End, Gap, Degree, Incarnation, LiveCount, StableCount, Flag, MessageState, wordOf, messageHead}
 use Rattle.table.specs.Change.{put, putPart, clearPlaces, putStates, put-ind, part-ind, clear-ind, states-ind}
-use Rattle.table.specs.Layout.{places}
 use Rattle.table.specs.Numbering.{numberOf}
-use Rattle.rules.specs.Limits.{house, lastIncarnation}
+use Rattle.rules.specs.Limits.{Limits, lastIncarnation}
 use Rattle.rules.specs.Vector.{Vector, messageVector, flat, condemned, conflict}
 use Rattle.rules.specs.Form.{inForm, forDesk, stateReleased, stateDelivered, stateDropped, statePublished}
 use Rattle.rules.specs.Ledger.{countOf}
@@ -122,24 +121,24 @@ module _ (P : Field → ℕ → Type 0) (w : Writable P) where
     every-degree c k = every-refusing _ _ (every-put (Degree c) k (w .controller c _ k) h)
 
     -- R
-    every-release : (g : List ℕ) (m : ℕ) → Every (stepRelease house σ g m .left)
+    every-release : (L : Limits) (g : List ℕ) (m : ℕ) → Every (stepRelease L σ g m .left)
     unfolding stepRelease release
-    every-release g m =
+    every-release L g m =
         every-refusingBoth _ g _
         (let kept : AfterBoth → Type 0 = λ o. Every (o .left) in
         cond-ind kept (not (mayGo σ _ _)) (λ _. h)
         (λ _. cond-ind kept (not (forDesk σ _)) (λ _. every-letOut _ stateReleased _ (w .released _) h)
-        (λ _. cond-ind kept (house .entries ≤? countOf g) (λ _. h) (λ _. every-letOut _ statePublished _ (w .published _) h))))
+        (λ _. cond-ind kept (L .entries ≤? countOf g) (λ _. h) (λ _. every-letOut _ statePublished _ (w .published _) h))))
 
     -- D
-    every-deliver : (m : ℕ) → Every (stepDeliver house σ m .left)
+    every-deliver : (L : Limits) (m : ℕ) → Every (stepDeliver L σ m .left)
     unfolding stepDeliver deliver intervalBegins intervalAdded
-    every-deliver m =
+    every-deliver L m =
         every-refusing _ _
         (let kept : After → Type 0 = λ o. Every (o .left) in
         cond-ind kept (condemned σ _ _) (λ _. every-put (MessageState _) stateDropped (w .dropped _) h)
         (λ _. cond-ind kept (conflict _ _ _) (λ _. h)
-        (λ _. cond-ind kept (places ≤? σ (LiveCount _)) (λ _. h)
+        (λ _. cond-ind kept (L .places ≤? σ (LiveCount _)) (λ _. h)
         (λ _. every-capped _ (every-put (MessageState _) stateDelivered (w .delivered _)
         (every-put (LiveCount _) _ (w .controller _ _ _) (every-part (OfPlace _ _ 0) 0 _ (λ i. w .place _ _ _ _) h)))))))
 
@@ -159,9 +158,9 @@ module _ (P : Field → ℕ → Type 0) (w : Writable P) where
     every-tell owner holder = every-refusing _ _ (every-part (Known holder owner 0) 0 _ (λ i. w .known holder owner _ _) h)
 
     -- X
-    every-crash : (c : ℕ) → Every (stepCrash house σ c .left)
+    every-crash : (L : Limits) (c : ℕ) → Every (stepCrash L σ c .left)
     unfolding stepCrash crashed
-    every-crash c = every-refusing _ _ (every-removed c _ (every-put (End c c _) _ (w .end c c _ _) h))
+    every-crash L c = every-refusing _ _ (every-removed c _ (every-put (End c c _) _ (w .end c c _ _) h))
 
     -- H
     every-hear : (hearer owner i : ℕ) → Every (stepHear σ hearer owner i .left)
@@ -179,31 +178,31 @@ module _ (P : Field → ℕ → Type 0) (w : Writable P) where
     every-gap q = every-refusing _ _ (every-put Gap q (w .gap q) h)
 
     -- O, where it is done, and S need a word of their own
-    every-open : (g : List ℕ) (n k : ℕ) → Every (openHouse n k) → Every (stepOpen house σ g n k .left)
+    every-open : (L : Limits) (g : List ℕ) (n k : ℕ) → Every (openHouse n k) → Every (stepOpen L σ g n k .left)
     unfolding stepOpen
-    every-open g n k e = every-refusingBoth _ g _ e
+    every-open L g n k e = every-refusingBoth _ g _ e
 
-    every-send : (sender receiver payload : ℕ) → Every (sent σ sender receiver payload) → Every (stepSend house σ sender receiver payload .left)
+    every-send : (L : Limits) (sender receiver payload : ℕ) → Every (sent σ sender receiver payload) → Every (stepSend L σ sender receiver payload .left)
     unfolding stepSend
-    every-send sender receiver payload e = every-refusing _ _ e
+    every-send L sender receiver payload e = every-refusing _ _ e
 
     -- every step
-    pub every-step : (g : List ℕ) (x : Command) → ((n k : ℕ) → x ≡ Open n k → Every (openHouse n k)) →
-        ((sender receiver payload : ℕ) → x ≡ Send sender receiver payload → Every (sent σ sender receiver payload)) → Every (stepOn house σ g x .left)
+    pub every-step : (L : Limits) (g : List ℕ) (x : Command) → ((n k : ℕ) → x ≡ Open n k → Every (openHouse n k)) →
+        ((sender receiver payload : ℕ) → x ≡ Send sender receiver payload → Every (sent σ sender receiver payload)) → Every (stepOn L σ g x .left)
     unfolding stepOn perform
-    every-step g x opened posted =
-        cond-ind (λ (o : AfterBoth). Every (o .left)) (looksAtForm x && not (inForm house σ)) (λ _. h) (λ _. go x opened posted)
+    every-step L g x opened posted =
+        cond-ind (λ (o : AfterBoth). Every (o .left)) (looksAtForm x && not (inForm L σ)) (λ _. h) (λ _. go x opened posted)
       where
         go : (x : Command) → ((n k : ℕ) → x ≡ Open n k → Every (openHouse n k)) →
-            ((sender receiver payload : ℕ) → x ≡ Send sender receiver payload → Every (sent σ sender receiver payload)) → Every (perform house σ g x .left)
-        go (Open n k) opened posted = every-open g n k (opened n k refl)
+            ((sender receiver payload : ℕ) → x ≡ Send sender receiver payload → Every (sent σ sender receiver payload)) → Every (perform L σ g x .left)
+        go (Open n k) opened posted = every-open L g n k (opened n k refl)
         go (SetDegree c k) opened posted = every-degree c k
-        go (Send sender receiver payload) opened posted = every-send sender receiver payload (posted sender receiver payload refl)
-        go (Release m) opened posted = every-release g m
-        go (Deliver m) opened posted = every-deliver m
+        go (Send sender receiver payload) opened posted = every-send L sender receiver payload (posted sender receiver payload refl)
+        go (Release m) opened posted = every-release L g m
+        go (Deliver m) opened posted = every-deliver L m
         go (Log c q) opened posted = every-log c q
         go (Checkpoint c) opened posted = every-checkpoint c
         go (Tell owner holder) opened posted = every-tell owner holder
-        go (Crash c) opened posted = every-crash c
+        go (Crash c) opened posted = every-crash L c
         go (Hear hearer owner i) opened posted = every-hear hearer owner i
         go (SetGap q) opened posted = every-gap q

@@ -25,10 +25,10 @@ use Rattle.laws.specs.Chain.{Chain, chain-of, Taken, taken}
 -- S: the sender has its chain, and a record is left
 module _ (t : List ℕ) (l : Lent t) (n sender receiver : ℕ) (z : n ≡ 0) (e : n ≡ firstOf (sendRefusals house (state t) sender receiver)) where
   pub send-chain : Chain (state t) sender
-  send-chain = chain-of t sender l (sendAllowed (state t) sender receiver (sym z ∙ e) .sender-lt)
+  send-chain = chain-of t sender l (sendAllowed house (state t) sender receiver (sym z ∙ e) .sender-lt)
 
   pub send-room : used (state t) < messages
-  send-room = sendAllowed (state t) sender receiver (sym z ∙ e) .room
+  send-room = sendAllowed house (state t) sender receiver (sym z ∙ e) .room
 
 -- the newest interval is live, and so its vector is near
 pub newest-near : (σ : State) (c live : ℕ) (v : Vector) → Chain σ c → live ≡ σ (LiveCount c) → v ≡ placeVector σ c (live - 1) → Near v
@@ -40,7 +40,7 @@ next-fits σ c m h e = omega (arith, given-le σ (h .used-le))
 
 -- R and D: a record in use is one of the table
 pub record-there : (t : List ℕ) (n r : ℕ) → Lent t → n ≡ used (state t) → r < n → r < messages
-record-there t n r l e h = omega (arith, form (state t) (l .good) .used-le)
+record-there t n r l e h = omega (arith, form house (state t) (l .good) .used-le)
 
 -- D: a message that is not refused is one that it may take
 pub passed-taken : (t : List ℕ) (r n : ℕ) → n ≡ firstOf (messageRefusals (state t) r stateReleased) → Lent t → n ≡ 0 → Taken (state t) r

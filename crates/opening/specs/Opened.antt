@@ -193,7 +193,7 @@ module _ (t g : List ℕ) (n k r : ℕ) (e : r ≡ firstOf (openRefusals house g
   open-refused l ne = refused-both _ t g r _ l e ne
 
   pub open-allowed : r ≡ 0 → OpenAllowed n k
-  open-allowed z = openAllowed g n k (sym z ∙ e)
+  open-allowed z = openAllowed house g n k (sym z ∙ e)
 
   -- the ledger has its length, and so all of its words were cleared
   ledger-cleared : r ≡ 0 → (w : List ℕ) → w ≡ zeroWords (length g) → w ≡ blankLedger house

@@ -38,7 +38,7 @@ module _ (t : List ℕ) (c n : ℕ) (en : n ≡ state t Size) where
     known = lt-leb (state t Size) c (omega arith)
 
     pub crash-named : Lent t → c < controllers
-    crash-named w = below-8 (form (state t) (w .good)) c (omega arith)
+    crash-named w = below-8 (form house (state t) (w .good)) c (omega arith)
 
     module _ (k : ℕ) (ek : k ≡ state t (StableCount c)) where
       pub crash-full : places ≤ k → PLACES-USED-UP ≡ firstOf cases
@@ -62,8 +62,8 @@ pub record Crashes (t : List ℕ) (c : ℕ) : Type 0 where
 
 pub crashes : (t : List ℕ) (c n : ℕ) → Lent t → n ≡ firstOf (crashRefusals house (state t) c) → n ≡ 0 → Crashes t c
 crashes t c n l e z =
-    let a = crashAllowed (state t) c (sym z ∙ e) in
-    let k = controllerForm (form (state t) (l .good)) c (a .controller-lt) in
+    let a = crashAllowed house (state t) c (sym z ∙ e) in
+    let k = controllerForm (form house (state t) (l .good)) c (a .controller-lt) in
     record {
       free = sym z ∙ e;
       long = l .long;

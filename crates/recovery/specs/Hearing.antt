@@ -14,7 +14,7 @@ use Rattle.table.specs.Change.{put, put-ind, put-other}
 use Rattle.table.specs.Layout.{controllers, incarnations, tableWords}
 use Rattle.table.specs.Words.{state, words, words-same, Agree, agree-words, agree-put, put-again, then-put}
 use Rattle.table.specs.Numbering.{Numbered, numberOf, numbers-put, numbers-trans, number-same}
-use Rattle.rules.specs.Limits.{lastIncarnation}
+use Rattle.rules.specs.Limits.{house, lastIncarnation}
 use Rattle.rules.specs.Refusal.{CONTROLLER, NO-SUCH-CRASH, ALREADY-HEARD, INCARNATIONS-USED-UP}
 use Rattle.rules.specs.Shared.{latestFlagged, replayed}
 use Rattle.rules.specs.Steps.{noController, hearRefusals, noted, lowestCondemned, rolledBack, hear, stepHear}
@@ -85,10 +85,10 @@ module _ (t : List ℕ) (hearer owner i n : ℕ) (en : n ≡ state t Size) where
 
   module _ (h : ((n ≤? hearer) || (n ≤? owner)) ≡ false) where
     pub hearer-named : Lent t → hearer < controllers
-    hearer-named w = below-8 (form (state t) (w .good)) hearer (leb-false _ _ (or-left (noController (state t) hearer) _ (named-as false h)))
+    hearer-named w = below-8 (form house (state t) (w .good)) hearer (leb-false _ _ (or-left (noController (state t) hearer) _ (named-as false h)))
 
     pub owner-named : Lent t → owner < controllers
-    owner-named w = below-8 (form (state t) (w .good)) owner (leb-false _ _ (or-right (noController (state t) hearer) _ (named-as false h)))
+    owner-named w = below-8 (form house (state t) (w .good)) owner (leb-false _ _ (or-right (noController (state t) hearer) _ (named-as false h)))
 
     pub hear-beyond : lastIncarnation < i → NO-SUCH-CRASH ≡ firstOf cases
     hear-beyond l = skip _ _ _ _ (named-as false h) (hit _ _ _ (rw (lt-ltb lastIncarnation i l)))
@@ -121,7 +121,7 @@ hears t hearer owner i n l e z =
     record {
       long = l .long;
       chain = chain-of t hearer l (h .hearer-lt);
-      owner-lt = below-8 (form (state t) (l .good)) owner (h .owner-lt);
+      owner-lt = below-8 (form house (state t) (l .good)) owner (h .owner-lt);
       incarnation-lt = omega (arith, h .incarnation-le);
       unheard = h .unheard;
     }

@@ -104,7 +104,7 @@ module _ (t g : List ℕ) (m r n : ℕ) (q : r ≡ recordOf (state t) m) (e : n 
 
   pub passed-long : n ≡ 0 → length g ≡ ledgerWords house
   unfolding ledgerOk
-  passed-long z = eqb-true _ _ (passed _ 0 (releaseAllowed (state t) g r (sym z ∙ e) .1))
+  passed-long z = eqb-true _ _ (passed _ 0 (releaseAllowed house (state t) g r (sym z ∙ e) .1))
 
 -- the vector of a message that may be released is near
 pub releasable-near : (σ : State) (r : ℕ) (v : Vector) → Releasable σ r → v ≡ messageVector σ r → Near v

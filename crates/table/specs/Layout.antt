@@ -1,11 +1,11 @@
 -- Where each field stands in the lent table. These are the only word positions of the definitions; src/lib.rt has the
 -- same numbers as constants of the code.
 use mathlib.Core.Path.{_≡_, refl, sym, ap, _∙_}
-use mathlib.Core.Bool.{Bool, true, cond, _&&_}
+use mathlib.Core.Bool.{cond}
 use Prim.Native.Nat.{ℕ, _+_, _-_, _*_, _/_, _%_, _<_}
 use native.Mathlib.Omega.{arith}
 use borrow.Author.Tests.{ltb-true, ltb-false, lt-ltb, le-ltb}
-use Rattle.base.specs.Choice.{_<?_, and-left, and-right, cond-ind}
+use Rattle.base.specs.Choice.{_<?_, cond-ind}
 use Rattle.table.specs.Field.{Field, OfHead, OfController, Known, End, OfPlace, OfMessage, PairIncarnation, PairNumber, MessagePairIncarnation, MessagePairNumber, wordOf, placeHead, messageHead}
 
 -- how many there are of each
@@ -189,38 +189,3 @@ valid-pair c p a cl pl al = ((cl, pl, omega arith), (cl, pl, omega arith))
 
 pub valid-message-pair : (r a : ℕ) → r < messages → a < controllers → Valid (MessagePairIncarnation r a) × Valid (MessagePairNumber r a)
 valid-message-pair r a rl al = ((rl, omega arith), (rl, omega arith))
-
--- the same as a test
-abbrev pub valid : Field → Bool
-valid (OfHead i) = i <? headWords
-valid (OfController c k) = (c <? controllers) && (k <? controllerWords)
-valid (Known holder owner i) = (holder <? controllers) && ((owner <? controllers) && (i <? incarnations))
-valid (End holder owner i) = (holder <? controllers) && ((owner <? controllers) && (i <? incarnations))
-valid (OfPlace c p k) = (c <? controllers) && ((p <? places) && (k <? placeWords))
-valid (OfMessage r k) = (r <? messages) && (k <? messageWords)
-
--- two tests passed
-two : (a b m n : ℕ) → ((a <? m) && (b <? n)) ≡ true → (a < m) × (b < n)
-two a b m n e = (ltb-true a m (and-left (a <? m) _ e), ltb-true b n (and-right (a <? m) _ e))
-
--- three tests passed
-three : (a b c m n o : ℕ) → ((a <? m) && ((b <? n) && (c <? o))) ≡ true → (a < m) × (b < n) × (c < o)
-three a b c m n o e = let q = two b c n o (and-right (a <? m) _ e) in (ltb-true a m (and-left (a <? m) _ e), q .0, q .1)
-
--- a field that passes has a word
-pub valid-of : (f : Field) → valid f ≡ true → Valid f
-valid-of (OfHead i) e = ltb-true i headWords e
-valid-of (OfController c k) e = two c k controllers controllerWords e
-valid-of (Known holder owner i) e = three holder owner i controllers controllers incarnations e
-valid-of (End holder owner i) e = three holder owner i controllers controllers incarnations e
-valid-of (OfPlace c p k) e = three c p k controllers places placeWords e
-valid-of (OfMessage r k) e = two r k messages messageWords e
-
--- a field with a word passes
-pub of-valid : (f : Field) → Valid f → valid f ≡ true
-of-valid (OfHead i) v = lt-ltb i headWords v
-of-valid (OfController c k) v = simp (lt-ltb c controllers (v .0), lt-ltb k controllerWords (v .1))
-of-valid (Known holder owner i) v = simp (lt-ltb holder controllers (v .0), lt-ltb owner controllers (v .1), lt-ltb i incarnations (v .2))
-of-valid (End holder owner i) v = simp (lt-ltb holder controllers (v .0), lt-ltb owner controllers (v .1), lt-ltb i incarnations (v .2))
-of-valid (OfPlace c p k) v = simp (lt-ltb c controllers (v .0), lt-ltb p places (v .1), lt-ltb k placeWords (v .2))
-of-valid (OfMessage r k) v = simp (lt-ltb r messages (v .0), lt-ltb k messageWords (v .1))

@@ -69,7 +69,7 @@ module _ (σ : State) (e : inForm house σ ≡ true) (c : ℕ) (h : c < σ Size)
   stable-own : controllerOk house (σ Size) (stable σ c) c ≡ true
   unfolding controllerOk allOf put same
   stable-own =
-      let k = controllerForm (form σ e) c h in
+      let k = controllerForm (form house σ e) c h in
       rw (lt-ltb c (σ Size) h, eq-eqb c c refl, le-leb _ _ (k .degree-le), le-leb _ _ (k .incarnation-le), le-leb _ _ (k .live-pos), le-leb _ _ (k .live-le), le-leb (σ (LiveCount c)) (σ (LiveCount c)) (omega arith))
 
   form-stable : inForm house (stable σ c) ≡ true
@@ -149,12 +149,12 @@ module _ (σ : State) (e : inForm house σ ≡ true) (c : ℕ) (h : c < σ Size)
 checkpoint-form : (σ : State) → inForm house σ ≡ true → (c : ℕ) → c < σ Size → inForm house (checkpointed σ c) ≡ true
 unfolding checkpointed loggedTo logged put same
 checkpoint-form σ e c h =
-    let k = controllerForm (form σ e) c h in
+    let k = controllerForm (form house σ e) c h in
     let i = σ (Incarnation c) in
     let x = numberOf σ c (σ (LiveCount c)) in
     let p = newestPlace σ c in
     let live : p < σ (LiveCount c) = omega (arith, k .live-pos) in
-    let fits : x ≤ lastNumber = omega (arith, fresh σ e .count c (σ (LiveCount c)) (below-8 (form σ e) c h), k .live-le) in
+    let fits : x ≤ lastNumber = omega (arith, fresh house σ e .count c (σ (LiveCount c)) (below-8 (form house σ e) c h), k .live-le) in
     cond-ind (λ τ. inForm house (put τ (Flag c p) 1) ≡ true) (σ (StableCount c) <? σ (LiveCount c))
     (λ _. form-flagged _ (form-known (stable σ c) (form-stable σ e c h) c h i x fits) c h p live) (λ _. form-flagged σ e c h p live)
 

@@ -267,7 +267,7 @@ module _ (σ : State) (g : List ℕ) (q : Citations) (c : Cites σ g q) where
   unfolding stepOn
   goes-other x p e n =
       goes-beside x (stepOn house σ g x)
-      (every-step (Kept σ) (kept-writable σ) σ (λ f _. refl) g x (λ i k z. absurd (true≢false (sym p ∙ ap plain z))) (λ _ _ _ z. absurd (true≢false (sym p ∙ ap plain z))))
+      (every-step (Kept σ) (kept-writable σ) σ (λ f _. refl) house g x (λ i k z. absurd (true≢false (sym p ∙ ap plain z))) (λ _ _ _ z. absurd (true≢false (sym p ∙ ap plain z))))
       (cond-ind (λ (o : AfterBoth). o .ledger ≡ g) (looksAtForm x && not (inForm house σ)) (λ _. refl) (λ _. e)) (n _)
 
   -- every step but an opening that is done
@@ -276,10 +276,10 @@ module _ (σ : State) (g : List ℕ) (q : Citations) (c : Cites σ g q) where
   goes (Open n k) ne = goes-open n k (ne n k refl)
   goes (Send s to p) ne =
       cond-ind (Goes (Send s to p)) (not (inForm house σ)) (λ _. goes-refused (Send s to p) FORM)
-      (λ _. goes-refusing (Send s to p) (sendRefusals house σ s to) _ (λ e. goes-sent s to p (sendAllowed σ s to e .room)))
+      (λ _. goes-refusing (Send s to p) (sendRefusals house σ s to) _ (λ e. goes-sent s to p (sendAllowed house σ s to e .room)))
   goes (Release m) ne =
       cond-ind (Goes (Release m)) (not (inForm house σ)) (λ _. goes-refused (Release m) FORM)
-      (λ _. goes-refusingBoth (Release m) (releaseRefusals house σ g (recordOf σ m)) _ (λ e. goes-release m (releaseAllowed σ g (recordOf σ m) e .0 .record-used)))
+      (λ _. goes-refusingBoth (Release m) (releaseRefusals house σ g (recordOf σ m)) _ (λ e. goes-release m (releaseAllowed house σ g (recordOf σ m) e .0 .record-used)))
   goes (SetDegree b k) ne = goes-other (SetDegree b k) refl refl (λ _. refl)
   goes (Deliver m) ne = goes-other (Deliver m) refl refl (λ _. refl)
   goes (Log b n) ne = goes-other (Log b n) refl refl (λ _. refl)

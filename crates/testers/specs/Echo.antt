@@ -34,7 +34,7 @@ echoed σ m =
     intervalBegins σ c m r (filtered σ c (placeVector σ c (newestPlace σ c)))
 
 -- it too looks only at words of the table
-echoed-same : (σ τ : State) → Agree σ τ → Form σ → (m : ℕ) → let r = recordOf σ m in r < used σ → σ (MessageState r) ≡ stateReleased →
+echoed-same : (σ τ : State) → Agree σ τ → Form house σ → (m : ℕ) → let r = recordOf σ m in r < used σ → σ (MessageState r) ≡ stateReleased →
     σ (LiveCount (σ (Receiver r))) < places → Same (echoed σ m) (echoed τ m)
 echoed-same σ τ e f m l st room =
     let r = recordOf σ m in
@@ -48,7 +48,7 @@ unfolding lent
 echoed-words {t} {g} σ k m s looks here st room =
     let e = agree-words σ (s .table-is) in
     rw (eq-eqb (length t) tableWords (long-of σ (s .table-is)))
-    (sym (same-written (same-beside g (echoed-same σ (state t) (λ f v. sym (e f v)) (form σ (s .good looks)) m (ltb-true _ _ here) st (ltb-true _ _ room)))))
+    (sym (same-written (same-beside g (echoed-same σ (state t) (λ f v. sym (e f v)) (form house σ (s .good looks)) m (ltb-true _ _ here) st (ltb-true _ _ room)))))
 
 -- In the sample run the new interval of controller 2 would have no pair of controller 1.
 pub pair-echoed : (t g : List ℕ) → length t ≡ tableWords → length g ≡ ledgerWords house →

@@ -10,7 +10,7 @@ use Rattle.base.specs.Choice.{_==_}
 use Rattle.table.specs.Field.{Field, State, OfMessage, MessageState}
 use Rattle.table.specs.Change.{isState, is-state}
 use Rattle.table.specs.Numbering.{used, posted, posted-ind}
-use Rattle.rules.specs.Limits.{house}
+use Rattle.rules.specs.Limits.{Limits}
 use Rattle.rules.specs.Form.{stateLost}
 use Rattle.rules.specs.Steps.{openHouse, messageRecord, sent}
 use Rattle.rules.specs.Step.{stepOn}
@@ -63,6 +63,6 @@ module _ (σ : State) where
   unfolding sent messageRecord
   none-sent sender receiver payload = none-posted _ refl
 
-  -- every step: each message that is lost then was lost before
-  pub none-lost : (g : List ℕ) (x : Command) (f : Field) → Before f (stepOn house σ g x .left f)
-  none-lost g x = every-step Before writable σ (λ f s l. l) g x (λ n k _. none-open n k) (λ s r p _. none-sent s r p)
+  -- every step, in a house of any limits: each message that is lost then was lost before
+  pub none-lost : (L : Limits) (g : List ℕ) (x : Command) (f : Field) → Before f (stepOn L σ g x .left f)
+  none-lost L g x = every-step Before writable σ (λ f s l. l) L g x (λ n k _. none-open n k) (λ s r p _. none-sent s r p)

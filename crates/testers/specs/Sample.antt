@@ -23,7 +23,7 @@ use Rattle.rules.specs.declared.Command.the-variants.{Open, Send, Release, Deli
 use Rattle.listing.specs.Quiet.{steps, answers, quiet-put, quiet-part, quiet-removed, quiet-rolled, quiet-opened, opens, blank-ok, Run, end, next, run-answers, goes, further}
 use Rattle.history.specs.Demand.{justOpened, FromOpening}
 use Rattle.history.specs.Examples.{ListingLine, line}
-use Rattle.image.specs.Stepped.{Opened, opening-done}
+use Rattle.image.specs.Tables.{Opened, opening-done}
 use Rattle.testers.specs.StepSame.{step-words}
 
 -- after the opening of a house of three, all with the degree 1

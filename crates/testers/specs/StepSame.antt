@@ -113,7 +113,7 @@ module _ (σ τ : State) (e : Agree σ τ) where
   same-open g n k = same-refusing-both g _ _ refl (λ _. same-refl _)
 
   -- The other steps, where σ is in form.
-  module _ (f : Form σ) where
+  module _ (f : Form house σ) where
     -- a controller that is there
     named : (c : ℕ) → (σ Size ≤? c) ≡ false → c < controllers
     named c z = below-8 f c (leb-false (σ Size) c z)
@@ -144,7 +144,7 @@ module _ (σ τ : State) (e : Agree σ τ) where
         same-refusing _ _
         (same-first CONTROLLER _ _ (ap (λ n. (n ≤? sender) || ((n ≤? receiver) && not (receiver == desk))) size)
         (λ _. same-first SAME-CONTROLLER _ _ refl (λ _. same-first MESSAGES-USED-UP _ _ (ap (λ u. messages ≤? u) (used-agree σ τ e)) (λ _. refl))))
-        (λ z. let w = chain-form σ sender f (sendAllowed σ sender receiver z .sender-lt) in
+        (λ z. let w = chain-form σ sender f (sendAllowed house σ sender receiver z .sender-lt) in
         let p : newestPlace σ sender < σ (LiveCount sender) = omega (arith, w .live-pos) in
         record {
           answer-is = ap (λ m. Sent (m + 1)) (last-agree σ τ e);
@@ -182,7 +182,7 @@ module _ (σ τ : State) (e : Agree σ τ) where
         let r = recordOf σ m in
         rw (← record-agree σ τ e m (f .used-le))
         (same-refusing-both g _ _ (same-first LEDGER _ _ refl (λ _. message-cases r stateHeld))
-        (λ z. same-released g m r (releaseAllowed σ g r z .0 .record-used)))
+        (λ z. same-released g m r (releaseAllowed house σ g r z .0 .record-used)))
 
     -- D
     same-delivered : (m r : ℕ) → r < used σ → σ (MessageState r) ≡ stateReleased → Same (deliver house σ m r) (deliver house τ m r)
@@ -243,7 +243,7 @@ module _ (σ τ : State) (e : Agree σ τ) where
         (λ z. let cl = named c z in
         same-first PLACES-USED-UP _ _ (ap (λ k. places ≤? k) (stable-same σ τ e c cl))
         (λ _. same-first INCARNATIONS-USED-UP _ _ (ap (λ i. lastIncarnation ≤? i) (incarnation-same σ τ e c cl)) (λ _. refl))))
-        (λ z. let d = crashAllowed σ c z in
+        (λ z. let d = crashAllowed house σ c z in
         let g = controllerForm f c (d .controller-lt) in
         let w = chain-form σ c f (d .controller-lt) in
         let k = σ (StableCount c) in
@@ -305,9 +305,9 @@ module _ (σ τ : State) (e : Agree σ τ) where
     same-gap q = same-refusing _ _ refl (λ _. record { answer-is = refl; left-is = agree-put σ τ Gap q e })
 
 -- the host's look at the form
-looked : (σ τ : State) → Agree σ τ → (g : List ℕ) {o p : AfterBoth} → (Form σ → SameBoth o p) →
+looked : (σ τ : State) → Agree σ τ → (g : List ℕ) {o p : AfterBoth} → (Form house σ → SameBoth o p) →
     SameBoth (cond (not (inForm house σ)) (beside (refuse FORM σ) g) o) (cond (not (inForm house τ)) (beside (refuse FORM τ) g) p)
-looked σ τ e g h = same-cond SameBoth (ap not (inForm-same σ τ e)) (λ _. same-beside g (same-refuse σ τ e refl)) (λ z. h (form σ (not-false (inForm house σ) z)))
+looked σ τ e g h = same-cond SameBoth (ap not (inForm-same σ τ e)) (λ _. same-beside g (same-refuse σ τ e refl)) (λ z. h (form house σ (not-false (inForm house σ) z)))
 
 -- a step on states with the same words, beside one ledger
 pub same-step : (σ τ : State) → Agree σ τ → (g : List ℕ) (x : Command) → SameBoth (stepOn house σ g x) (stepOn house τ g x)
