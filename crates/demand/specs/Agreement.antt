@@ -11,8 +11,6 @@ use Rattle.base.specs.Choice.{_==_}
 use Rattle.table.specs.Field.{State, Gap, Degree, Incarnation, LiveCount, StableCount, Flag}
 use Rattle.table.specs.Words.{state}
 use Rattle.table.specs.Numbering.{numberOf, placeOf}
-use Rattle.rules.specs.Limits.{house}
-use Rattle.rules.specs.Form.{inForm}
 use Rattle.rules.specs.Step.{Call}
 use Rattle.history.specs.History.{Interval, interval, newest, member}
 use Rattle.history.specs.Demand.{Run, FromOpening, upTo}
@@ -40,8 +38,8 @@ pub record Agrees (r : Run) (c : ℕ) : Type 0 where
   pub newest-live : newest (r .history .chain c) .number ≡ lastLive (state (r .table)) c
   -- those up to the number that the stable count says are stable, and no others
   pub stable : (y : Interval) → member y (r .history .chain c) ≡ true → (r .history .stable y ≡ true) ↔ (y .number ≤ lastStable (state (r .table)) c)
-  -- W4: those are flagged whose place has the flag 1; that each has a place is said by the form of the table
-  pub flagged : inForm house (state (r .table)) ≡ true → (y : Interval) → member y (r .history .chain c) ≡ true →
+  -- W4: those are flagged whose place has the flag 1
+  pub flagged : (y : Interval) → member y (r .history .chain c) ≡ true →
       (r .history .flagged y ≡ true) ↔ (state (r .table) (Flag c (placeOf (state (r .table)) c (y .number))) ≡ 1)
   -- and Q is that of the table
   pub gap : r .history .gap ≡ state (r .table) Gap
@@ -73,7 +71,7 @@ agrees t g n k l O before rest e c below =
         λ u. omega (arith, ok .body .stable-only (y .number) (o .pos) (o .top) (rw (o .is) at u)),
         λ u. rw (o .is) (ok .body .stable-upto (y .number) (o .pos) (omega arith)),
       );
-      flagged = λ _ y z.
+      flagged = λ y z.
           let o = on y z in
           let same : h .flagged y ≡ (σ (Flag c (placeOf σ c (y .number))) == 1) =
           ap (h .flagged) (o .is) ∙ v .flags c below (y .number) (o .pos) (o .top)

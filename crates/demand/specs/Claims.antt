@@ -14,7 +14,8 @@ use Rattle.table.specs.Layout.{controllers, messages, tableWords}
 use Rattle.table.specs.Words.{state, words, words-state, word-at}
 use Rattle.table.specs.Numbering.{recordOf}
 use Rattle.rules.specs.Limits.{house}
-use Rattle.rules.specs.Form.{stateLost, forDesk}
+use Rattle.rules.specs.Refusal.{LENGTH, FORM, LEDGER}
+use Rattle.rules.specs.Form.{stateLost, forDesk, inForm}
 use Rattle.rules.specs.Ledger.{ledgerWords, entryOf, appended, blankLedger}
 use Rattle.rules.specs.Steps.{openHouse}
 use Rattle.rules.specs.Step.{OutBoth, stepOn, lent, step, Call, asks, stepCall}
@@ -33,6 +34,7 @@ use Rattle.history.specs.Examples.{ListingLine}
 use Rattle.image.specs.Mask.{count}
 use Rattle.image.specs.Tables.{opening-done}
 use Rattle.laws.specs.Beside.{looksAtLedger}
+use Rattle.keeping.specs.Unrefused.{Sound, sound-step, sound-opened, sound-let}
 use Rattle.demand.specs.Demanded.{demand-3}
 use Rattle.demand.specs.Beyond.{ledger-cites}
 use Rattle.demand.specs.Ceiled.{ceiling}
@@ -227,3 +229,22 @@ no-letter-sets-the-gap = no-letter
 
 pub no-line-sets-the-gap : (line : List ℕ) (q : ℕ) → parse line ≢ Asks (SetGap q)
 no-line-sets-the-gap = no-line
+
+-- 13. A house in form stays in form: from an opening that is done, no call of any list is refused for its buffers, with 1 (the table's
+-- length), 2 (its form) or 14 (the ledger). Whatever calls stand before it, openings too, are done or refused as they may be.
+sound-along : (s : Run) (l : List Call) → Sound (s .table) (s .ledger) → Sound (runs s l .table) (runs s l .ledger)
+unfolding runs next stepCall
+sound-along s [] h = h
+sound-along s (asks x ∷ l) h = sound-along (next (asks x) s) l (sound-step (s .table) (s .ledger) x h)
+
+pub never-refused-for-its-buffers : (t g : List ℕ) (n k : ℕ) → step t g (Open n k) .answer ≡ Done → (before : List Call) (x : Command) (number : ℕ) →
+    stepIn (upTo t g n k before) x .answer ≡ Refused number → (number ≢ LENGTH) × (number ≢ FORM) × (number ≢ LEDGER)
+unfolding justOpened
+never-refused-for-its-buffers t g n k done before x number = let r = upTo t g n k before in sound-let (r .table) (r .ledger) x number (sound-along (justOpened t g n k) before (sound-opened t g n k done))
+
+-- and every table of such a list is in form
+pub always-in-form : (t g : List ℕ) (n k : ℕ) → step t g (Open n k) .answer ≡ Done → (l : List Call) →
+    let u = upTo t g n k l .table in
+    (length u ≡ tableWords) × (inForm house (state u) ≡ true)
+unfolding justOpened
+always-in-form t g n k done l = let s = sound-along (justOpened t g n k) l (sound-opened t g n k done) in (s .table .long, s .table .good)

@@ -4,7 +4,6 @@ use mathlib.Core.Bool.{false, cond}
 use Prim.Native.Nat.{ℕ, _+_, _-_, _≤_, _<_}
 use native.Mathlib.Omega.{arith}
 use lib.ListN.{length, length-set}
-use borrow.Author.Tests.{eq-eqb, lt-leb}
 use Rattle.base.specs.Choice.{_==_, _<?_, cond-ind}
 use Rattle.table.specs.Field.{State, Known, End, OfPlace, Incarnation, LiveCount, StableCount, PlaceIncarnation, Flag, PairIncarnation, PairNumber, word, same}
 use Rattle.table.specs.Change.{put, put-same, clearPlaces, putPart, putStates}
@@ -16,12 +15,12 @@ use Rattle.rules.specs.Shared.{logged, loggedTo, capped, causesIn, causes, newV
 use Rattle.rules.specs.Steps.{crashed, noted, rolledBack}
 use Rattle.model.specs.Model.{pair, changedAt₂, Model, putController, capModel, loggedController, endController, noteController, newVec, anewController}
 use Rattle.laws.specs.Facts.{Near}
-use Rattle.laws.specs.Records.{placeVector-of}
+use Rattle.laws.specs.Records.{length-filtered, clear-kept, placeVector-of}
 use Rattle.laws.specs.Agree.{live-restarted}
 use Rattle.image.specs.Functions.{inRows, within, within-renewed}
 use Rattle.image.specs.Image.{noVec, vecOf, placeVec, controllerBy, modelController, image, Elsewhere, numbers-elsewhere, controller-path, one-controller, then-controller}
 use Rattle.image.specs.Changes.{nothing-else, away-put, away-part, away-clear, known-put, image-states}
-use Rattle.image.specs.Vectors.{length-filtered, set-vec}
+use Rattle.image.specs.Vectors.{set-vec}
 use Rattle.image.specs.Begin.{written, written-incarnation, written-flag, written-vec, written-other, countVector, filtered-count}
 use Rattle.image.specs.Controllers.{image-loggedTo, numbers-loggedTo, image-end, image-noted}
 use Rattle.image.specs.Tests.{Fresh, fresh-kept}
@@ -34,11 +33,6 @@ pub record Starting (σ : State) (c k : ℕ) : Type 0 where
   pub below : k ≤ σ (LiveCount c)
   pub left : σ (Incarnation c) < lastIncarnation
   pub near : Near (placeVector σ c (k - 1))
-
--- places below the freed ones stay
-clear-kept : (σ : State) (c p q x k : ℕ) → x < p → clearPlaces σ c p q (OfPlace c x k) ≡ σ (OfPlace c x k)
-unfolding clearPlaces
-clear-kept σ c p q x k l = simp (eq-eqb c c refl, lt-leb p x l)
 
 -- a start changes words of c alone
 restarted-elsewhere : (σ : State) (c k : ℕ) → Elsewhere c σ (restarted σ c k)

@@ -18,11 +18,11 @@ use Rattle.rules.specs.Shared.{newestPlace, placeRecord}
 use Rattle.rules.specs.Steps.{intervalAdded}
 use Rattle.model.specs.Model.{pair, Vec, larger, mergedFor, putController, beginController, filtered as filteredFor}
 use Rattle.laws.specs.Facts.{Near, Form, controllerForm, placeForm, messageForm}
-use Rattle.laws.specs.Records.{length-place-record, placeVector-of}
+use Rattle.laws.specs.Records.{part-at, part-other, length-filtered, length-merged, length-place-record, placeVector-of}
 use Rattle.image.specs.Functions.{within, within-more}
 use Rattle.image.specs.Image.{noVec, vecOf, placeVec, controllerBy, modelController, image, vec-at, Elsewhere, numbers-elsewhere, controller-path, one-controller}
-use Rattle.image.specs.Changes.{nothing-else, away-put, away-part, part-at, part-other}
-use Rattle.image.specs.Vectors.{place-pairs, length-place, length-message, length-filtered, length-merged, filter-vec, merge-vec, set-vec, whole-pair}
+use Rattle.image.specs.Changes.{nothing-else, away-put, away-part}
+use Rattle.image.specs.Vectors.{place-pairs, length-place, length-message, filter-vec, merge-vec, set-vec, whole-pair}
 use Rattle.image.specs.Reads.{message-vec-is}
 
 -- the words of an interval in place p of c

@@ -1,12 +1,10 @@
 -- What is read after a change: the word that was written, and the words of other controllers. Changes that the model does not
 -- show.
-use mathlib.Core.Path.{_≡_, refl, sym, ap, _∙_}
+use mathlib.Core.Path.{_≡_, refl}
 use mathlib.Core.List.{List}
-use mathlib.Core.Logic.{_≢_}
 use Prim.Native.Nat.{ℕ, _+_, _<_}
 use native.Mathlib.Omega.{arith}
-use lib.ListN.{length, getD}
-use Rattle.table.specs.Field.{Field, State, Known, End, MessageState, same, word, wordOf, word-of}
+use Rattle.table.specs.Field.{Field, State, Known, End, MessageState, same, wordOf}
 use Rattle.table.specs.Change.{put, put-ind, put-same, put-other, putPart, part-ind, clearPlaces, clear-ind, putStates, states-ind}
 use Rattle.table.specs.Layout.{controllers, incarnations}
 use Rattle.rules.specs.Vector.{placeVector}
@@ -14,17 +12,6 @@ use Rattle.model.specs.Model.{changedAt₂}
 use Rattle.model.specs.Tests.{changedAt₂-ind}
 use Rattle.image.specs.Functions.{inRows, rows-changed}
 use Rattle.image.specs.Image.{controllerBy, image, Away, Elsewhere, same-controller}
-
--- a part: its own words, and any other field
-pub part-at : (σ : State) (f : Field) (k : ℕ) (r : List ℕ) (i j : ℕ) → i < length r → j ≡ k + i → putPart σ f k r (wordOf f j) ≡ getD r i 0
-part-at σ f k r i j h q =
-    part-ind (λ g y. g ≡ wordOf f j → y ≡ getD r i 0) σ f k r
-    (λ l _ e. ap (λ n. getD r n 0) (let w : k + l ≡ j = sym (word-of f (k + l)) ∙ ap word e ∙ word-of f j in omega arith))
-    (λ g n e. absurd (n i h (e ∙ ap (wordOf f) q))) (wordOf f j) refl
-
--- a field outside the part
-pub part-other : (σ : State) (f g : Field) (k : ℕ) (r : List ℕ) → ((i : ℕ) → i < length r → g ≢ wordOf f (k + i)) → putPart σ f k r g ≡ σ g
-part-other σ f g k r = part-ind (λ g y. ((i : ℕ) → i < length r → g ≢ wordOf f (k + i)) → y ≡ σ g) σ f k r (λ i h n. absurd (n i h refl)) (λ g _ _. refl) g
 
 -- no change at all
 pub nothing-else : (c : ℕ) (σ : State) → Elsewhere c σ σ

@@ -16,9 +16,10 @@ use Rattle.history.specs.History.{changedAt}
 use Rattle.model.specs.Model.{changedAt₂, Controller, putController, gapModel, absentController, degreeController, logController, loggedController, tellController, endController, noteController}
 use Rattle.model.specs.Tests.{changedAt-ind}
 use Rattle.model.specs.Keeping.{putController-id}
+use Rattle.laws.specs.Records.{part-at, part-other}
 use Rattle.image.specs.Functions.{inRows, rows-in, rows-out, rows-same}
 use Rattle.image.specs.Image.{unsentMessage, controllerBy, modelMessage, image, controller-is, controller-path, model-path, renumbered, one-controller}
-use Rattle.image.specs.Changes.{nothing-else, away-put, away-part, part-at, part-other, known-put, end-put}
+use Rattle.image.specs.Changes.{nothing-else, away-put, away-part, known-put, end-put}
 use Rattle.image.specs.Reads.{stable-is, ends-is}
 
 -- K: "set the degree"

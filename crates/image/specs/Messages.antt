@@ -21,10 +21,10 @@ use Rattle.history.specs.History.{Interval, interval}
 use Rattle.model.specs.Model.{pair, Vec, Controller, Message, putMessage, absentController, sendMessage, releaseMessage, filtered as filteredFor}
 use Rattle.model.specs.Tests.{changedAt-ind}
 use Rattle.laws.specs.Facts.{Near, Form, controllerForm, placeForm}
-use Rattle.laws.specs.Records.{length-message-record}
+use Rattle.laws.specs.Records.{part-other, length-filtered, length-message-record}
 use Rattle.image.specs.Image.{vecOf, controllerBy, modelController, modelMessage, image, controller-is, begun-at, message-at, message-kept, controller-frame, renumbered, message-frame, model-path}
-use Rattle.image.specs.Changes.{part-other, image-state}
-use Rattle.image.specs.Vectors.{message-pairs, length-filtered, record-pair, part-pair}
+use Rattle.image.specs.Changes.{image-state}
+use Rattle.image.specs.Vectors.{message-pairs, record-pair, part-pair}
 use Rattle.image.specs.Tests.{released-is}
 use Rattle.image.specs.Begin.{filtered-count}
 

@@ -35,6 +35,7 @@ use Rattle.model.specs.Recovery.{HearsOf, notedController, NoneCondemned, Lowes
 use Rattle.laws.specs.Facts.{Form, form, controllerForm, placeForm, messageForm, released-lt}
 use Rattle.laws.specs.Allowed.{openAllowed, degreeAllowed, sendAllowed, messageAllowed, releaseAllowed, logAllowed, checkpointAllowed, tellAllowed, crashAllowed, hearAllowed, gapAllowed}
 use Rattle.laws.specs.Found.{lowest}
+use Rattle.laws.specs.Records.{length-filtered}
 use Rattle.image.specs.Image.{vecOf, image, putController-own}
 use Rattle.image.specs.Changes.{image-state}
 use Rattle.image.specs.Controllers.{image-degree, image-gap, image-logged, image-told, image-noted}
@@ -43,7 +44,7 @@ use Rattle.image.specs.Messages.{image-sent, image-letOut}
 use Rattle.image.specs.Begin.{numbers-added, image-begun}
 use Rattle.image.specs.Capped.{Counted, replayed-is, image-checkpointed, image-capped}
 use Rattle.image.specs.Anew.{Starting, numbers-noted, image-crashed, image-heard-rolled}
-use Rattle.image.specs.Vectors.{length-message, length-filtered}
+use Rattle.image.specs.Vectors.{length-message}
 use Rattle.image.specs.Mask.{named-is}
 use Rattle.image.specs.Tests.{spared, condemned-for, compatible, filtered-is, released-is, sound, sound-noted, filtered-number, Fresh, fresh, fresh-kept, none-condemned, lowest-condemned}
 use Rattle.image.specs.Reads.{sent-is, degree-is, incarnation-is, live-is, stable-is, ends-is, to-is, from-is, message-vec-is}

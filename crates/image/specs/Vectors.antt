@@ -2,10 +2,10 @@
 use mathlib.Core.Path.{_≡_, refl, sym, ap, ap₂, _∙_, fun-ext}
 use mathlib.Core.Bool.{Bool, true, false, cond}
 use mathlib.Core.List.{List, [], _++_}
-use Prim.Native.Nat.{ℕ, _+_, _*_, _/_, _%_, _≤_, _<_}
+use Prim.Native.Nat.{ℕ, _+_, _*_, _≤_, _<_}
 use native.Mathlib.Omega.{arith}
 use lib.ListN.{length, getD, set, length-append, List·getD-eq-default}
-use lib.Seq.{getD-set-same, getD-set-other, getD-append-add}
+use lib.Seq.{getD-set-same, getD-set-other}
 use borrow.Author.Tests.{eqb-true, eqb-false}
 use Rattle.base.specs.Choice.{_==_, _≤?_, _<?_, cond-ind, le?}
 use Rattle.base.specs.Lists.{tab, length-tab, getD-tab}
@@ -15,10 +15,9 @@ use Rattle.table.specs.Layout.{controllers, vectorWords}
 use Rattle.rules.specs.Vector.{Pair as PairList, Vector, pair as pairList, noPair, incarnation, number, pairOf, placeVector, messageVector, flat, knownStable, filterPair, filtered, mergePair, merged}
 use Rattle.model.specs.Model.{pair, Vec, larger, filtered as filteredFor}
 use Rattle.laws.specs.Facts.{Near}
-use Rattle.laws.specs.Records.{length-flat}
+use Rattle.laws.specs.Records.{part-at, record-word, length-flat}
 use Rattle.image.specs.Functions.{rows-in}
 use Rattle.image.specs.Image.{modelPair, vecOf, placeVec, controllerBy, modelController, modelMessage}
-use Rattle.image.specs.Changes.{part-at}
 
 -- a vector of pairs has no pair beyond its pairs
 pub past : (v : Vector) (owner : ℕ) → length v ≤ owner → vecOf v owner ≡ pair 0 0
@@ -52,16 +51,6 @@ length-place σ c p = length-tab controllers (λ (owner : ℕ). pairList (σ (Pa
 pub length-message : (σ : State) (r : ℕ) → length (messageVector σ r) ≡ controllers
 unfolding messageVector
 length-message σ r = length-tab controllers (λ (owner : ℕ). pairList (σ (MessagePairIncarnation r owner)) (σ (MessagePairNumber r owner)))
-
--- a filtered one
-pub length-filtered : (σ : State) (holder : ℕ) (v : Vector) → length (filtered σ holder v) ≡ controllers
-unfolding filtered
-length-filtered σ holder v = length-tab controllers (λ (owner : ℕ). filterPair σ holder owner (pairOf v owner))
-
--- a merged one
-pub length-merged : (v w : Vector) → length (merged v w) ≡ controllers
-unfolding merged
-length-merged v w = length-tab controllers (λ (owner : ℕ). mergePair (pairOf v owner) (pairOf w owner))
 
 -- a pair chosen by a test
 pair-cond : (b : Bool) (p q : PairList) → modelPair (cond b p q) ≡ cond b (modelPair p) (modelPair q)
@@ -104,26 +93,12 @@ incarnationAt n owner = n + 2 * owner
 abbrev numberAt : ℕ → ℕ → ℕ
 numberAt n owner = n + 2 * owner + 1
 
--- the words of a vector
-flat-at : (v : Vector) (k owner w : ℕ) → k ≡ 2 * owner + w → w < 2 → owner < controllers → getD (flat v) k 0 ≡ getD (pairOf v owner) w 0
-unfolding flat
-flat-at v k owner w e wl ol =
-    let p : k / 2 ≡ owner = omega arith in
-    let q : k % 2 ≡ w = omega arith in
-    getD-tab vectorWords (λ (k : ℕ). getD (pairOf v (k / 2)) (k % 2) 0) k 0 (omega arith) ∙ ap₂ (λ a b. getD (pairOf v a) b 0) p q
-
 -- the words h and then a vector
 module _ (h : List ℕ) (v : Vector) (n : ℕ) (e : n ≡ length h) where
-  -- one word of a pair
-  record-word : (owner w k : ℕ) → owner < controllers → w < 2 → k ≡ n + (2 * owner + w) → getD (h ++ flat v) k 0 ≡ getD (pairOf v owner) w 0
-  record-word owner w k ol wl q =
-      let j : k ≡ length h + (2 * owner + w) = omega arith in
-      ap (λ i. getD (h ++ flat v) i 0) j ∙ getD-append-add h (flat v) (2 * owner + w) 0 ∙ flat-at v (2 * owner + w) owner w refl wl ol
-
   -- one pair
   pub record-pair : (owner : ℕ) → owner < controllers → pair (getD (h ++ flat v) (incarnationAt n owner) 0) (getD (h ++ flat v) (numberAt n owner) 0) ≡ vecOf v owner
   record-pair owner ol =
-      ap₂ pair (record-word owner 0 (incarnationAt n owner) ol (omega arith) (omega arith)) (record-word owner 1 (numberAt n owner) ol (omega arith) (omega arith))
+      ap₂ pair (record-word h v n e owner 0 (incarnationAt n owner) ol (omega arith) (omega arith)) (record-word h v n e owner 1 (numberAt n owner) ol (omega arith) (omega arith))
 
   -- these words put in the record of f: the whole record
   pub whole-pair : (σ : State) (f : Field) (owner : ℕ) → owner < controllers →

@@ -1,7 +1,7 @@
 -- What being in form says of each word, in a house of any limits.
 use mathlib.Core.Path.{_≡_, refl, sym, ap, _∙_}
-use mathlib.Core.List.{[]}
 use mathlib.Core.Bool.{Bool, true, false, _&&_, _||_, or-false, true≢false}
+use mathlib.Core.List.{[]}
 use Prim.Native.Nat.{ℕ, _+_, _-_, _≤_, _<_}
 use native.Mathlib.Omega.{arith}
 use borrow.Author.Tests.{leb-true, ltb-true, eqb-true, lt-ltb, le-ltb}
@@ -9,10 +9,10 @@ use Rattle.base.specs.Choice.{_==_, _≤?_, _<?_, and-left, and-right, cond-ind
 use Rattle.base.specs.Ranges.{allb, allb-get}
 use Rattle.base.specs.Lists.{getD-tab}
 use Rattle.base.specs.Cases.{passed}
-use Rattle.table.specs.Field.{State, OfHead, Known, End, OfMessage, Size, Degree, Incarnation, LiveCount, StableCount, PlaceIncarnation, PlaceNumber, Cause, Flag, MessageState, Sender, Receiver, SendingIncarnation, SendingNumber, MessagePairIncarnation, Gap, word, spareFrom}
-use Rattle.table.specs.Layout.{controllers, incarnations, messageWords}
+use Rattle.table.specs.Field.{State, OfHead, OfController, OfPlace, Known, End, OfMessage, Size, Degree, Incarnation, LiveCount, StableCount, PlaceIncarnation, PlaceNumber, Cause, Flag, MessageState, Sender, Receiver, SendingIncarnation, SendingNumber, MessagePairIncarnation, Gap, word, spareFrom, spareAgain}
+use Rattle.table.specs.Layout.{controllers, incarnations, headWords, controllerWords, placeWords, messageWords}
 use Rattle.table.specs.Numbering.{numberOf, used, lastGiven}
-use Rattle.rules.specs.Limits.{Limits, lastIncarnation}
+use Rattle.rules.specs.Limits.{Limits, lastIncarnation, lastGap}
 use Rattle.rules.specs.Vector.{Pair, Vector, incarnation, number, pairOf, placeVector, messageVector}
 use Rattle.rules.specs.Form.{stateReleased, forDesk, stateOk, zeros, pairOk, vectorOk, controllerOk, highest, rowOk, placeOk, messageOk, headZeros, headOk, inForm}
 
@@ -25,6 +25,9 @@ pub record Form (L : Limits) (σ : State) : Type 0 where
   pub size-pos : 1 ≤ σ Size
   pub size-le : σ Size ≤ controllers
   pub used-le : used σ ≤ L .messages
+  pub spare-ok : headZeros σ spareFrom (word Gap) ≡ true
+  pub gap-le : σ Gap ≤ lastGap
+  pub again-ok : headZeros σ spareAgain headWords ≡ true
   pub controllers-ok : allb controllers (controllerOk L (σ Size) σ) ≡ true
   pub rows-ok : allb controllers (λ (holder : ℕ). allb controllers (rowOk L (σ Size) σ holder)) ≡ true
   pub places-ok : allb controllers (λ (c : ℕ). allb (L .places) (placeOk L (σ Size) σ c)) ≡ true
@@ -39,6 +42,9 @@ form L σ e =
       size-pos = leb-true _ _ (passed _ 0 head);
       size-le = leb-true _ _ (passed _ 1 head);
       used-le = leb-true _ _ (passed _ 2 head);
+      spare-ok = passed _ 3 head;
+      gap-le = leb-true _ _ (passed _ 4 head);
+      again-ok = passed _ 5 head;
       controllers-ok = passed _ 1 e;
       rows-ok = passed _ 2 e;
       places-ok = passed _ 3 e;
@@ -119,6 +125,7 @@ pub record PlaceForm (L : Limits) (σ : State) (c p : ℕ) : Type 0 where
   pub cause-le : σ (Cause c p) ≤ lastGiven σ
   pub flag-le : σ (Flag c p) ≤ 1
   pub first-flag : p ≡ 0 → σ (Flag c p) ≡ 1
+  pub vector-ok : vectorOk L (σ Size) (placeVector σ c p) ≡ true
   pub vector : VectorForm L (σ Size) (placeVector σ c p)
 
 -- message record r, used
@@ -129,6 +136,7 @@ pub record MessageForm (L : Limits) (σ : State) (r : ℕ) : Type 0 where
   pub incarnation-le : σ (SendingIncarnation r) ≤ lastIncarnation
   pub number-pos : 1 ≤ σ (SendingNumber r)
   pub number-le : σ (SendingNumber r) ≤ L .numbers
+  pub vector-ok : vectorOk L (σ Size) (messageVector σ r) ≡ true
   pub vector : VectorForm L (σ Size) (messageVector σ r)
 
 module _ {L : Limits} {σ : State} (f : Form L σ) where
@@ -150,6 +158,16 @@ module _ {L : Limits} {σ : State} (f : Form L σ) where
         stable-le = leb-true _ _ (passed _ 5 e);
       }
 
+  -- a controller that is not of the house has none but zero words, so that one with a live interval is
+  pub no-controller : (c k : ℕ) → c < controllers → σ Size ≤ c → k < controllerWords → σ (OfController c k) ≡ 0
+  unfolding controllerOk
+  no-controller c k cl l kl =
+      zeros-get controllerWords (λ (k : ℕ). σ (OfController c k)) k
+      (rw (le-ltb _ _ l) at (allb-get (controllerOk L (σ Size) σ) controllers c (f .controllers-ok) cl)) kl
+
+  pub live-named : (c p : ℕ) → c < controllers → p < σ (LiveCount c) → c < σ Size
+  live-named c p cl l = le? (c + 1) (σ Size) (λ h. omega arith) (λ h. absurd (omega (arith, no-controller c (word (LiveCount c)) cl (omega arith) (omega arith))))
+
   -- the test of one place
   place-ok : (c p : ℕ) → c < controllers → p < L .places → placeOk L (σ Size) σ c p ≡ true
   place-ok c p cl pl = allb-get _ (L .places) p (allb-get (λ (c : ℕ). allb (L .places) (placeOk L (σ Size) σ c)) controllers c (f .places-ok) cl) pl
@@ -165,8 +183,14 @@ module _ {L : Limits} {σ : State} (f : Form L σ) where
         cause-le = leb-true _ _ (passed _ 2 e);
         flag-le = leb-true _ _ (passed _ 3 e);
         first-flag = λ z. eqb-true _ _ (or-else p _ (passed _ 4 e) z);
+        vector-ok = passed _ 5 e;
         vector = vectorForm _ _ _ (passed _ 5 e);
       }
+
+  -- the words of a free place
+  pub no-place : (c p k : ℕ) → c < controllers → p < L .places → σ (LiveCount c) ≤ p → k < placeWords → σ (OfPlace c p k) ≡ 0
+  unfolding placeOk
+  no-place c p k cl pl l kl = zeros-get placeWords (λ (k : ℕ). σ (OfPlace c p k)) k (rw (le-ltb _ _ l) at (place-ok c p cl pl)) kl
 
   -- the words of a used message record
   pub messageForm : (r : ℕ) → r < used σ → MessageForm L σ r
@@ -180,6 +204,7 @@ module _ {L : Limits} {σ : State} (f : Form L σ) where
         incarnation-le = leb-true _ _ (passed _ 3 e);
         number-pos = leb-true _ _ (passed _ 4 e);
         number-le = leb-true _ _ (passed _ 5 e);
+        vector-ok = passed _ 6 e;
         vector = vectorForm _ _ _ (passed _ 6 e);
       }
 
@@ -211,6 +236,11 @@ module _ {L : Limits} {σ : State} (f : Form L σ) where
   abbrev top : ℕ → ℕ → ℕ
   top holder owner = highest L (σ Size) holder owner
 
+  -- that is at most the last number
+  top-le : (holder owner : ℕ) → top holder owner ≤ L .numbers
+  unfolding highest
+  top-le holder owner = cond-ind (λ x. x ≤ L .numbers) ((holder <? σ Size) && (owner <? σ Size)) (λ e. omega arith) (λ e. omega arith)
+
   -- the test of one known and one end word
   row : (holder owner i : ℕ) → holder < controllers → owner < controllers → i < incarnations → ((σ (Known holder owner i) ≤? top holder owner) && (σ (End holder owner i) ≤? top holder owner)) ≡ true
   unfolding rowOk
@@ -218,23 +248,25 @@ module _ {L : Limits} {σ : State} (f : Form L σ) where
       allb-get (λ (i : ℕ). (σ (Known holder owner i) ≤? top holder owner) && (σ (End holder owner i) ≤? top holder owner)) incarnations i
       (allb-get (rowOk L (σ Size) σ holder) controllers owner (allb-get (λ (holder : ℕ). allb controllers (rowOk L (σ Size) σ holder)) controllers holder (f .rows-ok) hl) ol) il
 
-  -- an end word is at most the highest that its row may have
-  end-top : (holder owner i : ℕ) → holder < controllers → owner < controllers → i < incarnations → σ (End holder owner i) ≤ top holder owner
+  -- a known word is at most the highest that its row may have
+  pub known-top : (holder owner i : ℕ) → holder < controllers → owner < controllers → i < incarnations → σ (Known holder owner i) ≤ top holder owner
+  known-top holder owner i hl ol il = leb-true _ _ (and-left (σ (Known holder owner i) ≤? top holder owner) _ (row holder owner i hl ol il))
+
+  -- so is an end word
+  pub end-top : (holder owner i : ℕ) → holder < controllers → owner < controllers → i < incarnations → σ (End holder owner i) ≤ top holder owner
   end-top holder owner i hl ol il = leb-true _ _ (and-right (σ (Known holder owner i) ≤? top holder owner) _ (row holder owner i hl ol il))
 
-  -- that highest number is at most the last number
-  top-le : (holder owner : ℕ) → top holder owner ≤ L .numbers
-  unfolding highest
-  top-le holder owner = cond-ind (λ x. x ≤ L .numbers) ((holder <? σ Size) && (owner <? σ Size)) (λ e. omega arith) (λ e. omega arith)
-
-  -- and 0 where holder or owner is not of the house
+  -- it is 0 where holder or owner is not of the house
   top-none : (holder owner : ℕ) → (holder < σ Size → owner < σ Size → ⊥) → top holder owner ≡ 0
   unfolding highest
   top-none holder owner out =
       cond-ind (λ x. x ≡ 0) ((holder <? σ Size) && (owner <? σ Size))
       (λ e. absurd (out (ltb-true _ _ (and-left (holder <? σ Size) _ e)) (ltb-true _ _ (and-right (holder <? σ Size) _ e)))) (λ e. refl)
 
-  -- end words are at most the last number
+  -- known and end words are at most the last number
+  pub known-le : (holder owner i : ℕ) → holder < controllers → owner < controllers → i < incarnations → σ (Known holder owner i) ≤ L .numbers
+  known-le holder owner i hl ol il = omega (arith, top-le holder owner, known-top holder owner i hl ol il)
+
   pub end-le : (holder owner i : ℕ) → holder < controllers → owner < controllers → i < incarnations → σ (End holder owner i) ≤ L .numbers
   end-le holder owner i hl ol il = omega (arith, top-le holder owner, end-top holder owner i hl ol il)
 
@@ -244,7 +276,7 @@ module _ {L : Limits} {σ : State} (f : Form L σ) where
 
 -- the words of the head before the gap that have no meaning yet
 pub spare-words : (L : Limits) (σ : State) → inForm L σ ≡ true → (k : ℕ) → spareFrom ≤ k → k < word Gap → σ (OfHead k) ≡ 0
-unfolding inForm headOk headZeros
+unfolding headZeros
 spare-words L σ e k l u =
     let q : spareFrom + (k - spareFrom) ≡ k = omega arith in
-    rw q at (zeros-get (word Gap - spareFrom) (λ (k : ℕ). σ (OfHead (spareFrom + k))) (k - spareFrom) (passed _ 3 (passed _ 0 e)) (omega arith))
+    rw q at (zeros-get (word Gap - spareFrom) (λ (k : ℕ). σ (OfHead (spareFrom + k))) (k - spareFrom) (form L σ e .spare-ok) (omega arith))

@@ -9,3 +9,4 @@ pub mod Mask
 pub mod Kept
 pub mod StepWords
 pub mod Beside
+pub mod Ledger

@@ -8,7 +8,7 @@ use Prim.Native.Nat.{ℕ, zero, suc, _+_, _-_, _<_}
 use native.Mathlib.Omega.{arith}
 use lib.Count.{onesIn, ones}
 use lib.Dec.{leb·zero}
-use lib.ListN.{length, getD, length-replicate, getD-replicate}
+use lib.ListN.{length}
 use borrow.Author.Tests.{eqb-true, eq-eqb, leb-true, ltb-false, lt-ltb, le-ltb, ne-eqb}
 use Rattle.base.specs.Choice.{_==_, _≤?_, _<?_, cond-ind, le?}
 use Rattle.base.specs.Ranges.{allb, allb-all, allb-get, anyb, first}
@@ -25,6 +25,7 @@ use Rattle.rules.specs.Ledger.{ledgerWords, ledgerOk, blankLedger}
 use Rattle.rules.specs.Shared.{newestPlace, placeRecord, logged, loggedTo, checkpointed, forced, capped, causing, causedIn, causesIn, causes, offeredAgain, newVector, placed, entered, restarted, heldOrDropped, dropHeld, startAnew, removed, latestFlagged, replayed}
 use Rattle.rules.specs.Steps.{AfterBoth, afterBoth, refusing, refusingBoth, openHouse, stepOpen, messageRecord, sent, stepSend, messageRefusals, letOut, mayGo, release, stepRelease, intervalAdded, intervalBegins, deliver, stepDeliver, stepLog, crashed, stepCrash, noted, lowestCondemned, rolledBack, hear, stepHear, stepGap}
 use Rattle.rules.specs.Step.{perform, stepOn}
+use Rattle.laws.specs.Ledger.{blank-sound}
 use Rattle.rules.specs.declared.Answer.{Answer}
 use Rattle.rules.specs.declared.Answer.the-variants.{Done}
 use Rattle.rules.specs.declared.Command.{Command}
@@ -141,15 +142,8 @@ pub opens : (σ : State) (g : List ℕ) (k : ℕ) → length g ≡ ledgerWords h
 unfolding perform stepOpen refusingBoth firstOf
 opens σ g k long e = rw (eq-eqb (length g) (ledgerWords house) long, e)
 
-zeros-ok : (g : List ℕ) → length g ≡ ledgerWords house → ((i : ℕ) → i < ledgerWords house → getD g i 0 ≡ 0) → ledgerOk house g ≡ true
-unfolding ledgerOk allOf zeros
-zeros-ok g long e =
-    rw (eq-eqb (length g) (ledgerWords house) long, e 0 (omega arith)) (allb-all _ _ (λ k l. rw (e (1 + k) (omega arith))))
-
 pub blank-ok : ledgerOk house (blankLedger house) ≡ true
-unfolding blankLedger
-blank-ok =
-    zeros-ok _ (length-replicate (ledgerWords house) zero) (λ i l. getD-replicate (ledgerWords house) i zero zero l)
+blank-ok = blank-sound house
 
 -- A run: each step finds its state in form, gives its answer and leaves the next state, quiet if the last one was, and the next
 -- ledger.

@@ -12,11 +12,11 @@ use Rattle.base.specs.Cases.{allOf, firstOf}
 use Rattle.base.specs.Splice.{splice}
 use Rattle.table.specs.Field.{State, OfHead, Known, End, Size, SentCount, Gap, Degree, LiveCount, StableCount, Cause, Flag, PairNumber, MessageState, Receiver, SendingNumber, Payload, MessagePairNumber, desk, same}
 use Rattle.table.specs.Change.{blank, put, putPart, clearPlaces, putStates}
-use Rattle.table.specs.Numbering.{numberOf, used, messageOf}
+use Rattle.table.specs.Numbering.{numberOf, used, lastGiven, messageOf}
 use Rattle.rules.specs.Limits.{house, lastEntry, lastGap}
 use Rattle.rules.specs.Refusal.{DEGREE, LEDGER-USED-UP}
 use Rattle.rules.specs.Vector.{placeVector, messageVector, flat, knownStable, filterPair, filtered, condemnedPair, condemned, maskTo, mask, conflictPair, conflict, mergePair, merged}
-use Rattle.rules.specs.Form.{stateHeld, stateReleased, stateDropped, statePublished, stateOk, zeros, headZeros, headOk}
+use Rattle.rules.specs.Form.{stateHeld, stateReleased, stateDropped, statePublished, stateOk, zeros, pairOk, vectorOk, highest, rowOk, placeOk, headZeros, headOk}
 use Rattle.rules.specs.Ledger.{countAt, ledgerWords, countOf, appended, blankLedger}
 use Rattle.rules.specs.Shared.{placeRecord, logged, loggedTo, checkpointed, forced, capped, causing, causedIn, causesIn, causes, offeredAgain, newVector, placed, entered, restarted, heldOrDropped, dropHeld, startAnew, removed, latestFlagged, replayed}
 use Rattle.rules.specs.Steps.{refusing, refusingBoth, openHouse, stepOpen, stepGap, letOut, mayGo, release, intervalAdded, intervalBegins, deliver, crashed, noted, lowestCondemned, rolledBack, hear}
@@ -85,7 +85,7 @@ abbrev stands : State → ℕ → ℕ → List ℕ
 stands σ p i = σ (Flag 0 p) ∷ σ (StableCount 0) ∷ σ (Known 0 0 i) ∷ []
 
 pub told-apart : List Row
-unfolding put same putPart clearPlaces putStates tab allb anyb numberOf used messageOf placeVector messageVector flat knownStable filterPair filtered condemnedPair condemned maskTo mask conflictPair conflict mergePair merged placeRecord logged loggedTo checkpointed forced capped causing causedIn causesIn causes offeredAgain newVector placed entered restarted heldOrDropped dropHeld startAnew removed latestFlagged replayed stateOk zeros headZeros headOk appended blankLedger splice allOf firstOf refusing refusingBoth openHouse stepOpen stepGap letOut mayGo release intervalAdded intervalBegins deliver crashed noted lowestCondemned rolledBack hear report first onesIn ones
+unfolding put same putPart clearPlaces putStates tab allb anyb numberOf used messageOf placeVector messageVector flat knownStable filterPair filtered condemnedPair condemned maskTo mask conflictPair conflict mergePair merged placeRecord logged loggedTo checkpointed forced capped causing causedIn causesIn causes offeredAgain newVector placed entered restarted heldOrDropped dropHeld startAnew removed latestFlagged replayed stateOk zeros pairOk vectorOk highest rowOk placeOk lastGiven headZeros headOk appended blankLedger splice allOf firstOf refusing refusingBoth openHouse stepOpen stepGap letOut mayGo release intervalAdded intervalBegins deliver crashed noted lowestCondemned rolledBack hear report first onesIn ones
 told-apart =
     -- "Counting stored pairs at release instead of filtered ones": it would be held.
     (answer (release house since-logged [] 1 0 .answer) is answer (Released 1 0) by refl)
@@ -148,6 +148,11 @@ told-apart =
     ∷ (truth (headOk house (in-head 11 65)) is no by refl)
     ∷ (truth (headOk house (in-head 10 1)) is no by refl)
     ∷ (truth (headOk house (in-head 12 1)) is no by refl)
+    -- A step that leaves a word out of its range, one row for each kind: an interval's words, a known word, a state, a pair.
+    ∷ (truth (placeOk house 1 (deliver house (put (with-gap 4) SentCount 1) 1 0 .left) 0 3) is yes by refl)
+    ∷ (truth (rowOk house 1 (rolledBack two-unstable 0 2) 0 0) is yes by refl)
+    ∷ (truth (stateOk false (crashed one-taken 0 (MessageState 0))) is yes by refl)
+    ∷ (truth (vectorOk house 1 (placeVector (crashed (with-gap 3) 0) 0 2)) is yes by refl)
     ∷ []
 
 pub told-apart-hold : map (λ (x : Row). x .given) told-apart ≡ map (λ (x : Row). x .said) told-apart

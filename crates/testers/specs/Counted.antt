@@ -23,7 +23,7 @@ use Rattle.rules.specs.declared.Answer.{Answer}
 use Rattle.rules.specs.declared.Answer.the-variants.{Released, Held, Refused}
 use Rattle.rules.specs.declared.Command.the-variants.{Release}
 use Rattle.history.specs.Demand.{named}
-use Rattle.image.specs.Vectors.{length-filtered}
+use Rattle.laws.specs.Records.{length-filtered}
 use Rattle.image.specs.Mask.{count, ones-mask}
 
 -- the ones of a mask are as many as the controllers named

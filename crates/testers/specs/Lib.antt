@@ -1,4 +1,3 @@
-pub mod FormSame
 pub mod StepSame
 pub mod Refused
 pub mod Checkpoint

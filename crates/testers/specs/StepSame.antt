@@ -32,7 +32,7 @@ use Rattle.laws.specs.Agree.{incarnation-same, live-same, stable-same, state-sa
 use Rattle.laws.specs.Chain.{chain-counts, counts-added, Chain, chain-form, chain-noted, Starts, starts-put}
 use Rattle.laws.specs.Found.{lowest}
 use Rattle.laws.specs.Kept.{agree-removed, agree-rolled}
-use Rattle.testers.specs.FormSame.{inForm-same}
+use Rattle.keeping.specs.Kept.{inForm-same}
 
 -- the same answer, and states with the same words
 pub record Same (o p : After) : Type 0 where

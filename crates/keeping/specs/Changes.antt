@@ -1,0 +1,154 @@
+-- The changes of a state that the rules make, each of which keeps the form.
+use mathlib.Core.Path.{_≡_, refl, sym, _∙_, subst}
+use mathlib.Core.Bool.{true, false}
+use mathlib.Core.List.{List}
+use Prim.Native.Nat.{ℕ, _+_, _*_, _≤_, _<_}
+use native.Mathlib.Omega.{arith}
+use lib.ListN.{length, getD}
+use borrow.Author.Tests.{ltb-true}
+use Rattle.base.specs.Choice.{_==_, _<?_, cond-ind}
+use Rattle.base.specs.Ranges.{allb}
+use Rattle.table.specs.Field.{State, OfController, Known, End, Size, Gap, Degree, LiveCount, StableCount, Flag, PairIncarnation, PairNumber, placeHead, word, same}
+use Rattle.table.specs.Change.{put, put-ind, put-same, put-other, putPart, part-ind}
+use Rattle.table.specs.Numbering.{numberOf, number-fresh, numbers-put}
+use Rattle.rules.specs.Limits.{Limits, lastGap}
+use Rattle.rules.specs.Form.{zeros, vectorOk, headZeros, highest, inForm}
+use Rattle.rules.specs.Shared.{newestPlace, logged, loggedTo, checkpointed, forced, capped}
+use Rattle.laws.specs.Facts.{form, below-8, controllerForm, placeForm, known-top, end-top, spare-words}
+use Rattle.laws.specs.Records.{placeVector-of}
+use Rattle.keeping.specs.Untouched.{okAt, form-put, form-part}
+use Rattle.keeping.specs.InRange.{head-ok, controller-ok, highest-is, row-ok, place-ok}
+
+-- Limits that let an interval stand in every place: without them an opening, or a delivery, would leave a number out of its range.
+pub record Fitting (L : Limits) : Type 0 where
+  pub first : 1 ≤ L .places
+  pub numbers : L .places ≤ L .numbers
+
+-- logging writes neither the number of controllers nor a word of a controller but the stable count
+pub logged-size : (σ : State) (c k : ℕ) → loggedTo σ c k Size ≡ σ Size
+unfolding loggedTo logged put same
+logged-size σ c k = cond-ind (λ (τ : State). τ Size ≡ σ Size) (σ (StableCount c) <? k) (λ _. refl) (λ _. refl)
+
+pub logged-word : (σ : State) (c k w : ℕ) → (w == word (StableCount c)) ≡ false → loggedTo σ c k (OfController c w) ≡ σ (OfController c w)
+unfolding loggedTo logged put same
+logged-word σ c k w ne = cond-ind (λ (τ : State). τ (OfController c w) ≡ σ (OfController c w)) (σ (StableCount c) <? k) (λ _. rw ne) (λ _. refl)
+
+module _ (L : Limits) where
+  -- NUMBERS
+  -- the number of a count, which a pair, a known or an end word may have
+  pub number-is : (σ : State) → inForm L σ ≡ true → (c k : ℕ) → numberOf σ c k ≡ k
+  number-is σ e c k = number-fresh σ c k (spare-words L σ e)
+
+  pub number-le : Fitting L → (σ : State) → inForm L σ ≡ true → (c k : ℕ) → k ≤ L .places → numberOf σ c k ≤ L .numbers
+  number-le fit σ e c k l = omega (arith, number-is σ e c k, fit .numbers)
+
+  -- THE HEAD
+  -- the gap
+  pub kept-gap : (σ : State) (q : ℕ) → q ≤ lastGap → inForm L σ ≡ true → inForm L (put σ Gap q) ≡ true
+  unfolding okAt headZeros zeros allb put same
+  kept-gap σ q l e =
+      let f = form L σ e in
+      form-put L σ Gap q refl (head-ok L (put σ Gap q) (f .size-pos) (f .size-le) (omega (arith, numbers-put σ Gap q refl .used-same, f .used-le)) (f .spare-ok) l (f .again-ok)) e
+
+  -- CONTROLLERS
+  module _ (σ : State) (c : ℕ) (h : c < σ Size) where
+    -- the degree
+    pub kept-degree : (k : ℕ) → k ≤ σ Size → inForm L σ ≡ true → inForm L (put σ (Degree c) k) ≡ true
+    unfolding okAt put same
+    kept-degree k l e =
+        let w = controllerForm (form L σ e) c h in
+        form-put L σ (Degree c) k refl
+        (controller-ok L (σ Size) (put σ (Degree c) k) c h (omega (arith, put-same σ (Degree c) k)) (w .incarnation-le) (w .live-pos) (w .live-le) (w .stable-pos) (w .stable-le)) e
+
+    -- the stable count
+    pub kept-stable : (k : ℕ) → 1 ≤ k → k ≤ σ (LiveCount c) → inForm L σ ≡ true → inForm L (put σ (StableCount c) k) ≡ true
+    unfolding okAt put same
+    kept-stable k p l e =
+        let w = controllerForm (form L σ e) c h in
+        form-put L σ (StableCount c) k refl
+        (controller-ok L (σ Size) (put σ (StableCount c) k) c h (w .degree-le) (w .incarnation-le) (w .live-pos) (w .live-le)
+        (omega (arith, put-same σ (StableCount c) k)) (omega (arith, put-same σ (StableCount c) k))) e
+
+  -- ROWS
+  module _ (σ : State) (holder owner : ℕ) (h : holder < σ Size) (o : owner < σ Size) where
+    -- a known word
+    pub kept-known : (i x : ℕ) → x ≤ L .numbers → inForm L σ ≡ true → inForm L (put σ (Known holder owner i) x) ≡ true
+    unfolding okAt put same
+    kept-known i x l e =
+        let f = form L σ e in
+        form-put L σ (Known holder owner i) x refl
+        (row-ok L (σ Size) (put σ (Known holder owner i) x) holder owner (λ j jl. (
+          put-ind (λ g y. g ≡ Known holder owner j → y ≤ highest L (σ Size) holder owner) σ (Known holder owner i) x (λ _. omega (arith, highest-is L (σ Size) holder owner h o))
+              (λ g _ q. subst (λ g. σ g ≤ highest L (σ Size) holder owner) (sym q) (known-top f holder owner j (below-8 f holder h) (below-8 f owner o) jl)) (Known holder owner j) refl,
+          end-top f holder owner j (below-8 f holder h) (below-8 f owner o) jl,
+        ))) e
+
+    -- an end word
+    pub kept-end : (i x : ℕ) → x ≤ L .numbers → inForm L σ ≡ true → inForm L (put σ (End holder owner i) x) ≡ true
+    unfolding okAt put same
+    kept-end i x l e =
+        let f = form L σ e in
+        form-put L σ (End holder owner i) x refl
+        (row-ok L (σ Size) (put σ (End holder owner i) x) holder owner (λ j jl. (
+          known-top f holder owner j (below-8 f holder h) (below-8 f owner o) jl,
+          put-ind (λ g y. g ≡ End holder owner j → y ≤ highest L (σ Size) holder owner) σ (End holder owner i) x (λ _. omega (arith, highest-is L (σ Size) holder owner h o))
+              (λ g _ q. subst (λ g. σ g ≤ highest L (σ Size) holder owner) (sym q) (end-top f holder owner j (below-8 f holder h) (below-8 f owner o) jl)) (End holder owner j) refl,
+        ))) e
+
+  -- T: a whole row of known words
+  pub kept-row : (σ : State) (holder owner : ℕ) (w : List ℕ) → holder < σ Size → owner < σ Size → ((i : ℕ) → i < length w → getD w i 0 ≤ L .numbers) →
+      inForm L σ ≡ true → inForm L (putPart σ (Known holder owner 0) 0 w) ≡ true
+  unfolding okAt putPart
+  kept-row σ holder owner w h o l e =
+      let f = form L σ e in
+      form-part L σ (Known holder owner 0) 0 w (λ i. refl) (λ i. refl)
+      (row-ok L (σ Size) (putPart σ (Known holder owner 0) 0 w) holder owner (λ j jl. (
+        part-ind (λ g y. g ≡ Known holder owner j → y ≤ highest L (σ Size) holder owner) σ (Known holder owner 0) 0 w
+            (λ i il _. omega (arith, highest-is L (σ Size) holder owner h o, l i il))
+            (λ g _ q. subst (λ g. σ g ≤ highest L (σ Size) holder owner) (sym q) (known-top f holder owner j (below-8 f holder h) (below-8 f owner o) jl)) (Known holder owner j) refl,
+        end-top f holder owner j (below-8 f holder h) (below-8 f owner o) jl,
+      ))) e
+
+  -- PLACES
+  -- a live place flagged
+  pub kept-flag : (σ : State) (c p : ℕ) → c < σ Size → p < σ (LiveCount c) → inForm L σ ≡ true → inForm L (put σ (Flag c p) 1) ≡ true
+  unfolding okAt put same
+  kept-flag σ c p h l e =
+      let w = placeForm (form L σ e) c p h l in
+      let τ = put σ (Flag c p) 1 in
+      let m = numbers-put σ (Flag c p) 1 refl in
+      let flag = put-same σ (Flag c p) 1 in
+      form-put L σ (Flag c p) 1 refl
+      (place-ok L (σ Size) τ c p l (w .incarnation-le) (w .number-is ∙ sym (m .number c (p + 1))) (omega (arith, m .last, w .cause-le)) (omega arith) (λ _. flag)
+      (subst (λ v. vectorOk L (σ Size) v ≡ true)
+      (placeVector-of σ τ c p (λ owner _. (sym (put-other σ (Flag c p) (PairIncarnation c p owner) 1 (λ q. let w : placeHead + 2 * owner ≡ word (Flag c p) = cc in omega arith)), sym (put-other σ (Flag c p) (PairNumber c p owner) 1 (λ q. let w : placeHead + 2 * owner + 1 ≡ word (Flag c p) = cc in omega arith)))))
+      (w .vector-ok))) e
+
+  -- LOGGING AND CHECKPOINTS
+  module _ (fit : Fitting L) (σ : State) (c : ℕ) (h : c < σ Size) where
+    -- the k oldest
+    pub kept-logged : (k : ℕ) → 1 ≤ k → k ≤ σ (LiveCount c) → inForm L σ ≡ true → inForm L (logged σ c k) ≡ true
+    unfolding logged put same
+    kept-logged k p l e =
+        let w = controllerForm (form L σ e) c h in
+        kept-known (put σ (StableCount c) k) c c h h _ _ (number-le fit σ e c k (omega (arith, w .live-le))) (kept-stable σ c h k p l e)
+
+    -- if any of them are not stable
+    pub kept-loggedTo : (k : ℕ) → k ≤ σ (LiveCount c) → inForm L σ ≡ true → inForm L (loggedTo σ c k) ≡ true
+    unfolding loggedTo
+    kept-loggedTo k l e =
+        cond-ind (λ (τ : State). inForm L τ ≡ true) (σ (StableCount c) <? k) (λ q. let u = ltb-true (σ (StableCount c)) k q in kept-logged k (omega arith) l e) (λ _. e)
+
+    -- all, and the newest is flagged
+    pub kept-checkpointed : inForm L σ ≡ true → inForm L (checkpointed σ c) ≡ true
+    unfolding checkpointed
+    kept-checkpointed e =
+        let w = controllerForm (form L σ e) c h in
+        let τ = loggedTo σ c (σ (LiveCount c)) in
+        kept-flag τ c (newestPlace σ c) (subst (λ n. c < n) (sym (logged-size σ c _)) h)
+        (subst (λ n. newestPlace σ c < n) (sym (logged-word σ c _ (word (LiveCount c)) refl)) (omega (arith, w .live-pos))) (kept-loggedTo (σ (LiveCount c)) (omega arith) e)
+
+    -- if the gap asks for it
+    pub kept-capped : inForm L σ ≡ true → inForm L (capped σ c) ≡ true
+    unfolding capped
+    kept-capped e = cond-ind (λ (τ : State). inForm L τ ≡ true) (forced σ c) (λ _. kept-checkpointed e) (λ _. e)

@@ -1,0 +1,1 @@
+// The form is kept: laws alone (specs/).
