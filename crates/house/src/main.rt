@@ -76,6 +76,8 @@ fn main() {
     let mut bytes = [0u8; READ_ROOM];
     let mut out = [0u8; OUT_ROOM];
     let mut kept = 0;
+    // a table of zeros is not in form
+    let mut formed = false;
     // as above; nothing says that the input ends
     let mut turns = u64::MAX;
     while turns > 0 {
@@ -87,12 +89,14 @@ fn main() {
         let p = session::serve(
             &mut table,
             &mut ledger,
+            formed,
             &mut line,
             kept,
             &bytes[..n],
             &mut out,
         );
         kept = p.line;
+        formed = p.formed;
         let owed = p.owed;
         if !write_out(&out, owed) {
             return;

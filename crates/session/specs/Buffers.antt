@@ -1,18 +1,26 @@
 -- Laws of a session in its buffers, for the code that takes bytes. `o` is the buffer of answers before a line is written, `u`
 -- after it.
 use mathlib.Core.Path.{_≡_, refl, sym, ap, ap₂, _∙_}
+use mathlib.Core.Bool.{Bool, true, false}
 use mathlib.Core.List.{List, [], _∷_, _++_, foldl, foldl-append}
 use mathlib.Core.Logic.{_≢_}
 use Prim.Native.Nat.{ℕ, _+_, _-_, _≤_, _<_}
 use native.Mathlib.Omega.{arith}
 use native.Mathlib.Nat.{suc-ne-zero}
 use native.Mathlib.Numerals.{add-one}
-use lib.ListN.{length, getD, set, take, drop, length-append}
+use lib.ListN.{length, getD, set, take, drop, length-append, length-replicate, getD-replicate}
 use lib.Seq.{take-all, take-suc, take-suc-set, take-append-le, set-out, drop-drop, length-take-le}
-use borrow.Author.Tests.{eq-eqb, ne-eqb}
+use borrow.Author.Tests.{eq-eqb, ne-eqb, leb-true}
+use Rattle.base.specs.Cases.{passed}
+use Rattle.table.specs.Field.{Size}
+use Rattle.table.specs.Layout.{tableWords, position}
+use Rattle.table.specs.Words.{state}
+use Rattle.rules.specs.Limits.{house}
+use Rattle.rules.specs.Form.{inForm, headOk}
 use Rattle.rules.specs.Step.{outBoth, step}
 use Rattle.rules.specs.declared.Answer.{Answer}
 use Rattle.rules.specs.declared.Command.{Command}
+use Rattle.formed.specs.Carry.{FormKnown}
 use Rattle.lines.specs.Lines.{lineFeed, parse, answerLine, badLine}
 use Rattle.lines.specs.declared.Parsed.the-variants.{Asks, Bad}
 use Rattle.printing.specs.Parts.{Short}
@@ -133,6 +141,18 @@ pub record Reached (t g line : List ℕ) : Type 0 where
 
 pub reached-first : Reached firstTable firstLedger []
 reached-first = record { reads = []; here = refl }
+
+-- a table without controllers is not in form, and the first one has none
+sizeless : (t : List ℕ) → state t Size ≡ 0 → inForm house (state t) ≡ false
+unfolding inForm headOk
+sizeless t z = go _ refl
+  where
+    go : (b : Bool) → inForm house (state t) ≡ b → b ≡ false
+    go true e = let n = leb-true 1 (state t Size) (passed _ 0 (passed _ 0 e)) in absurd (omega arith)
+    go false e = refl
+
+pub first-unformed : FormKnown firstTable false
+first-unformed = (length-replicate {A = ℕ} tableWords 0, sym (sizeless firstTable (getD-replicate {A = ℕ} tableWords (position Size) 0 0 (omega arith))))
 
 pub reached-next : {t g l w h k owed : List ℕ} (bytes : List ℕ) → Reached t g l → length bytes ≢ 0 → session w h k owed ≡ served (session t g l []) bytes → Reached w h k
 reached-next {t} {g} {l} bytes f ne e = record {

@@ -10,7 +10,7 @@ returns c =
     let done = c .before .before .before .before .before .before in
     let e = done .finish .ensures in
     let none = done .before .before .before .before .before .if1 .taken in
-    (served-none _ _ none (e .0), ((omega arith, e .1 .0, e .1 .1), stored-none _ _ _ none))
+    (served-none _ _ none (e .0), ((omega (arith, e .1 .0 .0), e .1 .0 .1, e .1 .0 .2), (stored-none _ _ _ none, e .1 .1)))
 
 returns-2 : tie.Need-returns-2
 returns-2 c =
