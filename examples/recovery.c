@@ -1,6 +1,6 @@
 /*
- * A crash in a library of four controllers, what follows from it, readings that go out to be cited, and
- * a ceiling on replay, told in words. It comes across every answer, and shows two refusals and the two
+ * A crash in a library of four controllers, what follows from it, readings that go out to be cited, a
+ * ceiling on replay, and a list of steps in one call, told in words. It comes across every answer, and shows two refusals and the two
  * returns that are no answers.
  *
  *     rt staticlib goulvizad
@@ -279,6 +279,30 @@ static void bound_replay(void)
     step("drive crashes", 'X', DRIVE, 0, 0);
 }
 
+/* A message from its sending to its delivery in one call, which looks at the form of the table once. */
+static void pass_on(void)
+{
+    enum { COUNT = 3 };
+    static const char *const what[COUNT] = {"bench sends 6 to drive", "release 13", "deliver 13"};
+    static const uint32_t steps[COUNT * GOULVIZAD_STEP_WORDS] = {
+        'S', BENCH, DRIVE, 6, 0, /* no step has a fourth number */
+        'R', 13, 0, 0, 0,
+        'D', 13, 0, 0, 0,
+    };
+    uint32_t answers[COUNT * GOULVIZAD_ANSWER_WORDS];
+    const uint32_t *answer = answers;
+    int i;
+
+    if (goulvizad_run(table, GOULVIZAD_TABLE_WORDS, ledger, GOULVIZAD_LEDGER_WORDS, steps,
+                      COUNT * GOULVIZAD_STEP_WORDS, answers,
+                      COUNT * GOULVIZAD_ANSWER_WORDS) != GOULVIZAD_DONE)
+        return;
+    for (i = 0; i < COUNT; i++, answer += GOULVIZAD_ANSWER_WORDS) {
+        printf("%s: ", what[i]);
+        print_answer(answer[0], answer + 1);
+    }
+}
+
 /* The ledger for the printed filmography, in the order of publishing. */
 static void cite(void)
 {
@@ -313,6 +337,7 @@ int main(void)
     crash();
     publish();
     bound_replay();
+    pass_on();
     cite();
     no_steps();
     return 0;

@@ -1,8 +1,8 @@
 /*
- * The house recovery machine: one step function over a lent table and a lent ledger, and a step beside
- * it that sets the gap. README.md says what it is for, examples/recovery.c shows a crash, all that
- * follows, two readings that go out, and a gap, docs/GUIDE.md leads through the rules, and
- * crates/rules/specs has them.
+ * The house recovery machine: one step function over a lent table and a lent ledger, by the step or for
+ * a list of steps, and a step beside it that sets the gap. README.md says what it is for,
+ * examples/recovery.c shows a crash, all that follows, two readings that go out, a gap, and a list,
+ * docs/GUIDE.md leads through the rules, and crates/rules/specs has them.
  *
  * The caller owns both buffers and lends them for one call at a time. All that the machine knows stands
  * in them; nothing is kept between calls.
@@ -10,10 +10,11 @@
  * For the length of a call
  * - each pointer is to as many words, aligned for uint32_t, as the length beside it says; with length 0
  *   it may be null;
- * - the table, the ledger and the value buffer must not overlap;
- * - nobody else writes the table or the ledger, nor reads them during goulvizad_step, nor the table
- *   during goulvizad_set_gap. Different houses, each with a table, a ledger and a value buffer of its
- *   own, may be used from several threads at once.
+ * - the table, the ledger and the value buffer must not overlap, nor in goulvizad_run the table, the
+ *   ledger, the steps and the answers;
+ * - nobody else writes the table, the ledger or the steps, nor reads the table or the ledger during
+ *   goulvizad_step and goulvizad_run, nor the table during goulvizad_set_gap. Different houses, each
+ *   with a table, a ledger and other buffers of its own, may be used from several threads at once.
  *
  * A table and its ledger that are saved or moved between calls are the same house. They belong together
  * and are saved together, as the same step left them. A ledger that is older than its table lacks what
@@ -41,10 +42,12 @@
 extern "C" {
 #endif
 
-/* The lengths of the three buffers, in words of 32 bits. */
+/* The lengths of the three buffers, and of a step and an answer in a list, in words of 32 bits. */
 #define GOULVIZAD_TABLE_WORDS 15152
 #define GOULVIZAD_LEDGER_WORDS 257
 #define GOULVIZAD_VALUE_WORDS 6
+#define GOULVIZAD_STEP_WORDS 5
+#define GOULVIZAD_ANSWER_WORDS 7
 
 /* The receiver that is no controller: the desk, where readings leave the house. The same for every n. */
 #define GOULVIZAD_DESK 8
@@ -116,12 +119,12 @@ extern "C" {
  */
 
 /*
- * What goulvizad_step and goulvizad_set_gap return, and the values that they write. Zeros follow them,
- * up to the sixth word. A mask has 2 to the power c for each controller c that it names. Kept is the
- * highest number that is kept.
+ * What goulvizad_step and goulvizad_set_gap return, and the values that they write; goulvizad_run writes
+ * both for each of its steps. Zeros follow the values, up to the sixth word. A mask has 2 to the power c
+ * for each controller c that it names. Kept is the highest number that is kept.
  */
 enum {
-    GOULVIZAD_DONE = 0,      /* no values: to O, K, L, C and T, and to the gap */
+    GOULVIZAD_DONE = 0,      /* no values: to O, K, L, C and T, and to the gap; to a list of steps */
     GOULVIZAD_SENT = 1,      /* message: the number given to it */
     GOULVIZAD_RELEASED = 2,  /* message, mask: let out; who could still revoke it, nobody at the desk */
     GOULVIZAD_HELD = 3,      /* message, mask: kept back; who could revoke it, more than the degree, or
@@ -136,12 +139,13 @@ enum {
                                 changed */
 
     /*
-     * These two are no answers, and change neither the table nor the ledger nor the value buffer. The
-     * length of the value buffer is looked at first, then the letter; both come before
-     * GOULVIZAD_LENGTH.
+     * These two are no answers, and change neither the table nor the ledger nor the value buffer, nor
+     * the answers to a list. The length of the value buffer is looked at first, then the letter; both
+     * come before GOULVIZAD_LENGTH.
      */
-    GOULVIZAD_UNKNOWN_LETTER = 100, /* the letter is none of the ten */
-    GOULVIZAD_WRONG_VALUES = 101    /* the value buffer hasn't GOULVIZAD_VALUE_WORDS words */
+    GOULVIZAD_UNKNOWN_LETTER = 100, /* the letter, or one of a list, is none of the ten */
+    GOULVIZAD_WRONG_VALUES = 101    /* the value buffer hasn't GOULVIZAD_VALUE_WORDS words; the words of
+                                       a list are not those of as many steps as answers */
 };
 
 /*
@@ -187,6 +191,25 @@ enum {
 uint32_t goulvizad_step(uint32_t *table, size_t table_words, uint32_t *ledger, size_t ledger_words,
                         uint32_t letter, uint32_t a, uint32_t b, uint32_t c, uint32_t d,
                         uint32_t *values, size_t values_words);
+
+/*
+ * Does a list of steps in one call, each on the table and the ledger that the one before has left. In
+ * `steps` a step has GOULVIZAD_STEP_WORDS words: its letter, a, b, c and d. In `answers` its answer has
+ * GOULVIZAD_ANSWER_WORDS: the number that goulvizad_step returns for it, and the six values. The two
+ * lengths are in words.
+ *
+ * Answers, table and ledger are those of the same calls of goulvizad_step one by one, on whatever table
+ * and ledger. A step that is refused leaves them, as it does there, and the next one is done. The form
+ * of the table is looked at once for the whole list, and not by each step, so that a list is far faster.
+ *
+ * Returns GOULVIZAD_DONE where all steps have their answers, refusals included; an empty list is done.
+ * Returns GOULVIZAD_WRONG_VALUES where the lengths are not those of as many steps as answers, which is
+ * looked at first, and GOULVIZAD_UNKNOWN_LETTER where one of the letters is none of the ten, wherever it
+ * stands: nothing is done then, and no word of any buffer changes.
+ */
+uint32_t goulvizad_run(uint32_t *table, size_t table_words, uint32_t *ledger, size_t ledger_words,
+                       const uint32_t *steps, size_t steps_words, uint32_t *answers,
+                       size_t answers_words);
 
 /* 1 where the table has GOULVIZAD_TABLE_WORDS words and is in form, else 0. Writes nothing. */
 uint32_t goulvizad_in_form(const uint32_t *table, size_t table_words);

@@ -26,6 +26,11 @@ impl Lent {
     pub fn step(&mut self, command: Command) -> Answer {
         proved::step(&mut self.table, &mut self.ledger, command)
     }
+
+    /// Does a list of steps with the proved machine, in as few calls as it can be done in.
+    pub fn run(&mut self, commands: &[Command]) -> Vec<Answer> {
+        proved::run(&mut self.table, &mut self.ledger, commands)
+    }
 }
 
 /// One of the two that are lent.

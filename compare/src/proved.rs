@@ -10,13 +10,35 @@ use reference::refusal;
 /// # Panics
 /// If what comes back is no answer: a number that none has, or values that aren't zero after its own.
 pub fn step(table: &mut [u32], ledger: &mut [u32], command: Command) -> Answer {
-    let answer = match asked(command) {
+    told(match asked(command) {
         Call::Step(step) => goulvizad::step(table, ledger, step).map(answered),
         Call::SetGap(gap) => goulvizad::set_gap(table, gap).map(|()| Answer::Done),
-    };
-    answer.unwrap_or_else(|refusal| Answer::Refused {
-        number: number(refusal),
     })
+}
+
+/// Does a list of steps in one call. A step that sets the gap has a call of its own, between two lists.
+///
+/// # Panics
+/// As [`step`], and if a list is not done.
+pub fn run(table: &mut [u32], ledger: &mut [u32], commands: &[Command]) -> Vec<Answer> {
+    let (mut answers, mut steps) = (Vec::with_capacity(commands.len()), Vec::new());
+    let mut listed = |table: &mut [u32], steps: &mut Vec<Step>, answers: &mut Vec<Answer>| {
+        let ran = goulvizad::run(table, ledger, steps);
+        answers.extend(ran.into_iter().map(|answer| told(answer.map(answered))));
+        steps.clear();
+    };
+    for &command in commands {
+        match asked(command) {
+            Call::Step(step) => steps.push(step),
+            Call::SetGap(gap) => {
+                listed(table, &mut steps, &mut answers);
+                let set = goulvizad::set_gap(table, gap);
+                answers.push(told(set.map(|()| Answer::Done)));
+            }
+        }
+    }
+    listed(table, &mut steps, &mut answers);
+    answers
 }
 
 /// Whether these words are a table in form, as the proved machine sees it.
@@ -70,6 +92,12 @@ fn asked(command: Command) -> Call {
         },
     };
     Call::Step(step)
+}
+
+fn told(answer: Result<Answer, Refusal>) -> Answer {
+    answer.unwrap_or_else(|refusal| Answer::Refused {
+        number: number(refusal),
+    })
 }
 
 fn answered(answer: goulvizad::Answer) -> Answer {

@@ -1,6 +1,6 @@
-//! A crash in a library of four controllers, what follows from it, readings that go out to be cited, and
-//! a ceiling on replay, told in words: `examples/recovery.c` in Rust. There a caller can also ask for what
-//! is no step; here it can't.
+//! A crash in a library of four controllers, what follows from it, readings that go out to be cited, a
+//! ceiling on replay, and a list of steps in one call, told in words: `examples/recovery.c` in Rust. There a
+//! caller can also ask for what is no step; here it can't.
 //!
 //!     rt staticlib goulvizad
 //!     cargo run --example recovery
@@ -251,6 +251,26 @@ fn bound_replay(story: &mut Story) -> Result<(), Refusal> {
     Ok(())
 }
 
+/// A message from its sending to its delivery in one call, which looks at the form of the table once.
+fn pass_on(story: &mut Story) -> Result<(), Refusal> {
+    let message = 13;
+    let sending = Step::Send {
+        sender: BENCH,
+        receiver: DRIVE,
+        payload: 6,
+    };
+    let steps = [
+        ("bench sends 6 to drive", sending),
+        ("release 13", Step::Release { message }),
+        ("deliver 13", Step::Deliver { message }),
+    ];
+    let answers = story.table.run(&steps.map(|(_, step)| step));
+    for ((what, _), answer) in steps.into_iter().zip(answers) {
+        story.say(what, answer)?;
+    }
+    Ok(())
+}
+
 /// The ledger for the printed filmography, in the order of publishing.
 fn cite(story: &mut Story) {
     for Citation { message, payload } in story.table.citations() {
@@ -266,6 +286,7 @@ fn tell() -> Result<String, Refusal> {
     crash(&mut story)?;
     publish(&mut story)?;
     bound_replay(&mut story)?;
+    pass_on(&mut story)?;
     cite(&mut story);
     Ok(story.text)
 }

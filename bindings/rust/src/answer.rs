@@ -138,3 +138,9 @@ pub(crate) fn read(number: u32, values: [u32; VALUE_WORDS]) -> Option<Result<Ans
     };
     Some(Ok(answer))
 }
+
+/// The same by the words of an answer to a list: the number, and the values.
+pub(crate) fn listed(words: &[u32]) -> Option<Result<Answer, Refusal>> {
+    let (&number, values) = words.split_first()?;
+    read(number, values.try_into().ok()?)
+}

@@ -2,7 +2,7 @@
 //! by the C interface of its static library (`include/goulvizad.h`).
 //!
 //! A [`Table`] is a house that owns its words and its ledger. Words that live elsewhere, as in a mapped
-//! file, are lent to [`step()`] or [`set_gap()`] for one step at a time. A [`Step`] has an [`Answer`] or a [`Refusal`],
+//! file, are lent to [`step()`] or [`set_gap()`] for one step at a time, or to [`run()`] for a list of them. A [`Step`] has an [`Answer`] or a [`Refusal`],
 //! which changes no word. Nothing is kept between calls, and different houses may be used from several
 //! threads at once.
 //!
@@ -127,6 +127,33 @@ pub fn step(words: &mut [u32], ledger: &mut [u32], step: Step) -> Result<Answer,
     let number = raw::call(words, ledger, letter.into(), numbers, &mut values);
     answer::read(number, values)
         .unwrap_or_else(|| panic!("no answer to {step:?}: {number} with {values:?}"))
+}
+
+/// Does a list of steps on the lent words of a table and of its ledger, and gives what came of each: the
+/// same as [`step()`] by [`step()`], refusals included, but the form of the table is looked at once for the
+/// whole list.
+///
+/// ```
+/// use goulvizad::{run, Answer, Refusal, Step, LEDGER_WORDS, TABLE_WORDS};
+///
+/// let (mut words, mut ledger) = (vec![0; TABLE_WORDS], [0; LEDGER_WORDS]);
+/// let (open, checkpoint) = (Step::Open { n: 3, degree: 1 }, Step::Checkpoint { controller: 0 });
+/// let answers = run(&mut words, &mut ledger, &[checkpoint, open, checkpoint]);
+/// assert_eq!(answers, [Err(Refusal::Form), Ok(Answer::Done), Ok(Answer::Done)]);
+/// ```
+///
+/// # Panics
+/// If what comes back is no answer: the linked library is of another version then.
+pub fn run(words: &mut [u32], ledger: &mut [u32], steps: &[Step]) -> Vec<Result<Answer, Refusal>> {
+    let listed: Vec<u32> = steps.iter().flat_map(|step| step.listed()).collect();
+    let mut answers = vec![u32::MAX; steps.len() * raw::ANSWER_WORDS];
+    let number = raw::run(words, ledger, &listed, &mut answers);
+    assert_eq!(number, raw::returned::DONE, "no answer to a list of steps");
+    let answers = answers.chunks_exact(raw::ANSWER_WORDS).zip(steps);
+    let answered = answers.map(|(words, step)| {
+        answer::listed(words).unwrap_or_else(|| panic!("no answer to {step:?}: {words:?}"))
+    });
+    answered.collect()
 }
 
 /// Sets the gap of the house in the lent words, 0 to 64: how many numbers above its controller's latest live

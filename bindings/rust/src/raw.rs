@@ -1,6 +1,6 @@
 //! The C interface as it is, numbers in and numbers out. All functions are safe, since a slice carries its
-//! length; [`step`](crate::step()), [`set_gap`](crate::set_gap()) and [`in_form`](crate::in_form()) stand on
-//! them.
+//! length; [`step`](crate::step()), [`run`](crate::run()), [`set_gap`](crate::set_gap()) and
+//! [`in_form`](crate::in_form()) stand on them.
 
 /// The words of a table.
 pub const TABLE_WORDS: usize = 15_152;
@@ -11,10 +11,17 @@ pub const LEDGER_WORDS: usize = 257;
 /// The words of a value buffer.
 pub const VALUE_WORDS: usize = 6;
 
+/// The words of a step in a list: its letter, and four numbers.
+pub const STEP_WORDS: usize = 5;
+
+/// The words of an answer to a list: its number, and the values.
+pub const ANSWER_WORDS: usize = 7;
+
 /// What [`in_form`] returns for a table in form; otherwise it is 0.
 pub const FORMED: u32 = 1;
 
-/// What [`call`] and [`set_gap`] return, by the names of the header, and the values that they write.
+/// What [`call`] and [`set_gap`] return, by the names of the header, and the values that they write. [`run`]
+/// writes both for each of its steps.
 pub mod returned {
     /// No values.
     pub const DONE: u32 = 0;
@@ -38,10 +45,10 @@ pub mod returned {
     pub const ROLLED: u32 = 9;
     /// The number of the [`Refusal`](crate::Refusal).
     pub const REFUSED: u32 = 10;
-    /// No answer: the letter is no step's. Nothing is written.
+    /// No answer: the letter, or one of a list, is no step's. Nothing is written.
     pub const UNKNOWN_LETTER: u32 = 100;
-    /// No answer: the value buffer hasn't [`VALUE_WORDS`](super::VALUE_WORDS) words. It is looked at
-    /// first, and nothing is written.
+    /// No answer: the value buffer hasn't [`VALUE_WORDS`](super::VALUE_WORDS) words, or the words of a list
+    /// are not those of as many steps as answers. This is looked at first, and nothing is written.
     pub const WRONG_VALUES: u32 = 101;
 }
 
@@ -59,6 +66,16 @@ extern "C" {
         d: u32,
         values: *mut u32,
         values_words: usize,
+    ) -> u32;
+    fn goulvizad_run(
+        table: *mut u32,
+        table_words: usize,
+        ledger: *mut u32,
+        ledger_words: usize,
+        steps: *const u32,
+        steps_words: usize,
+        answers: *mut u32,
+        answers_words: usize,
     ) -> u32;
     fn goulvizad_in_form(table: *const u32, table_words: usize) -> u32;
     fn goulvizad_set_gap(
@@ -107,6 +124,39 @@ pub fn call(
             d,
             values.as_mut_ptr(),
             values.len(),
+        )
+    }
+}
+
+/// One call for a list of steps, [`STEP_WORDS`] each, with [`ANSWER_WORDS`] for each answer:
+/// [`DONE`](returned::DONE), or [`WRONG_VALUES`](returned::WRONG_VALUES) or
+/// [`UNKNOWN_LETTER`](returned::UNKNOWN_LETTER), and then nothing is done.
+///
+/// ```
+/// use goulvizad::raw::{returned, run, ANSWER_WORDS, LEDGER_WORDS, STEP_WORDS, TABLE_WORDS};
+///
+/// let (mut table, mut ledger) = (vec![0; TABLE_WORDS], [0; LEDGER_WORDS]);
+/// let steps = [[u32::from(b'O'), 3, 1, 0, 0], [u32::from(b'X'), 2, 0, 0, 0]].concat();
+/// let mut answers = [0; 2 * ANSWER_WORDS];
+/// assert_eq!(run(&mut table, &mut ledger, &steps, &mut answers), returned::DONE);
+/// assert_eq!(answers[ANSWER_WORDS..], [returned::CRASHED, 2, 0, 1, 0, 0, 0]);
+/// let one = &steps[..STEP_WORDS];
+/// assert_eq!(run(&mut table, &mut ledger, one, &mut answers), returned::WRONG_VALUES);
+/// ```
+pub fn run(table: &mut [u32], ledger: &mut [u32], steps: &[u32], answers: &mut [u32]) -> u32 {
+    // SAFETY: as in `call`: the pointers come with the lengths of their slices, which are borrowed until
+    // the call returns, all but the steps mutably, and the call doesn't write these. It keeps no pointer.
+    #[allow(unsafe_code)]
+    unsafe {
+        goulvizad_run(
+            table.as_mut_ptr(),
+            table.len(),
+            ledger.as_mut_ptr(),
+            ledger.len(),
+            steps.as_ptr(),
+            steps.len(),
+            answers.as_mut_ptr(),
+            answers.len(),
         )
     }
 }
@@ -240,6 +290,30 @@ mod tests {
         assert!(table.iter().all(|&word| word == UNTOUCHED));
         assert_eq!(gap_of_3(None, Some(&mut values)), returned::REFUSED);
         assert_eq!(values, [Refusal::Length.number(), 0, 0, 0, 0, 0]);
+    }
+
+    /// An empty list is done, whatever is lent; one with room for no answer isn't.
+    #[test]
+    fn a_list_takes_null_buffers_of_no_words() {
+        let run = |steps: Lent, answers: Lent| {
+            let (steps, steps_words) = parts(steps);
+            let (answers, answers_words) = parts(answers);
+            // SAFETY: as in `lent`.
+            #[allow(unsafe_code)]
+            unsafe {
+                let none = null_mut();
+                goulvizad_run(none, 0, none, 0, steps, steps_words, answers, answers_words)
+            }
+        };
+        let mut steps = [u32::from(b'C'), 0, 0, 0, 0];
+        let mut answers = [UNTOUCHED; ANSWER_WORDS];
+        assert_eq!(run(None, None), returned::DONE);
+        assert_eq!(run(Some(&mut steps), None), returned::WRONG_VALUES);
+        assert_eq!(run(None, Some(&mut answers)), returned::WRONG_VALUES);
+        assert_eq!(answers, [UNTOUCHED; ANSWER_WORDS]);
+        assert_eq!(run(Some(&mut steps), Some(&mut answers)), returned::DONE);
+        let refused = [returned::REFUSED, Refusal::Length.number(), 0, 0, 0, 0, 0];
+        assert_eq!(answers, refused);
     }
 
     #[test]

@@ -1,5 +1,7 @@
 //! The ten steps that have a letter, and what the C interface is given for each.
 
+use crate::raw::STEP_WORDS;
+
 /// The receiver that is no controller: the desk, where readings leave the house. It is the same
 /// however many controllers there are.
 pub const DESK: u32 = 8;
@@ -105,5 +107,10 @@ impl Step {
                 incarnation,
             } => (b'H', [hearer, crashed, incarnation, 0]),
         }
+    }
+    /// The words of the step in a list of the C interface.
+    pub fn listed(self) -> [u32; STEP_WORDS] {
+        let (letter, [a, b, c, d]) = self.lettered();
+        [letter.into(), a, b, c, d]
     }
 }

@@ -56,6 +56,21 @@ impl Table {
         crate::step(&mut self.words[..], &mut self.ledger[..], step)
     }
 
+    /// Does a list of steps, as [`run`](crate::run()) does on lent words.
+    ///
+    /// ```
+    /// use goulvizad::{Answer, Refusal, Step, Table};
+    ///
+    /// let mut table = Table::new();
+    /// let sending = Step::Send { sender: 0, receiver: 1, payload: 7 };
+    /// let answers = table.run(&[Step::Open { n: 2, degree: 0 }, sending, Step::Deliver { message: 1 }]);
+    /// let expected = [Ok(Answer::Done), Ok(Answer::Sent { message: 1 }), Err(Refusal::State)];
+    /// assert_eq!(answers, expected);
+    /// ```
+    pub fn run(&mut self, steps: &[Step]) -> Vec<Result<Answer, Refusal>> {
+        crate::run(&mut self.words[..], &mut self.ledger[..], steps)
+    }
+
     /// Sets the gap, as [`set_gap`](crate::set_gap()) does on lent words.
     pub fn set_gap(&mut self, gap: u32) -> Result<(), Refusal> {
         crate::set_gap(&mut self.words[..], gap)

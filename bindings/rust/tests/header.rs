@@ -1,6 +1,6 @@
 //! Every number, length, letter and call of `include/goulvizad.h` is the one that is used here.
 
-use goulvizad::raw::{returned, LEDGER_WORDS, TABLE_WORDS, VALUE_WORDS};
+use goulvizad::raw::{returned, ANSWER_WORDS, LEDGER_WORDS, STEP_WORDS, TABLE_WORDS, VALUE_WORDS};
 use goulvizad::{Refusal, Step, DESK};
 use std::fs;
 use std::path::Path;
@@ -38,19 +38,25 @@ const NAMED: [(&str, u32); 28] = [
     ("LEDGER_USED_UP", Refusal::LedgerUsedUp as u32),
 ];
 
-/// What the header defines: the lengths of the buffers, and the receiver that is no controller.
-const DEFINED: [(&str, u32); 4] = [
+/// What the header defines: the lengths of the buffers, of a step and of an answer, and the receiver that is
+/// no controller.
+const DEFINED: [(&str, u32); 6] = [
     ("TABLE_WORDS", TABLE_WORDS as u32),
     ("LEDGER_WORDS", LEDGER_WORDS as u32),
     ("VALUE_WORDS", VALUE_WORDS as u32),
+    ("STEP_WORDS", STEP_WORDS as u32),
+    ("ANSWER_WORDS", ANSWER_WORDS as u32),
     ("DESK", DESK),
 ];
 
 /// The calls that `raw.rs` declares.
-const CALLS: [&str; 3] = [
+const CALLS: [&str; 4] = [
     "uint32_t goulvizad_step(uint32_t *table, size_t table_words, uint32_t *ledger, \
      size_t ledger_words, uint32_t letter, uint32_t a, uint32_t b, uint32_t c, uint32_t d, \
      uint32_t *values, size_t values_words)",
+    "uint32_t goulvizad_run(uint32_t *table, size_t table_words, uint32_t *ledger, \
+     size_t ledger_words, const uint32_t *steps, size_t steps_words, uint32_t *answers, \
+     size_t answers_words)",
     "uint32_t goulvizad_in_form(const uint32_t *table, size_t table_words)",
     "uint32_t goulvizad_set_gap(uint32_t *table, size_t table_words, uint32_t gap, \
      uint32_t *values, size_t values_words)",

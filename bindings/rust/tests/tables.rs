@@ -1,7 +1,7 @@
 //! Houses that are saved, lent, cloned, cited from, and used from several threads at once.
 
 use goulvizad::{
-    citations, in_form, step, Answer, Citation, Refusal, Step, Table, DESK, LEDGER_WORDS,
+    citations, in_form, run, step, Answer, Citation, Refusal, Step, Table, DESK, LEDGER_WORDS,
     TABLE_WORDS,
 };
 use std::thread;
@@ -104,6 +104,34 @@ fn lent_words_are_the_same_house() {
     assert_eq!(*table.ledger(), ledger);
     let cut = step(&mut words[1..], &mut ledger, CRASH);
     assert_eq!(cut, Err(Refusal::Length));
+}
+
+/// A list goes on after a step that is refused, and leaves what its steps leave one by one.
+#[test]
+fn a_list_is_its_steps_one_by_one() {
+    let steps = [
+        CRASH,
+        Step::Deliver { message: 2 },
+        Step::Release { message: 9 },
+        CRASH,
+        Step::Checkpoint { controller: 1 },
+        reading(1, 5),
+        Step::Release { message: 3 },
+    ];
+    let (mut table, mut by_step) = (working(), working());
+    let answers: Vec<_> = steps.iter().map(|&step| by_step.step(step)).collect();
+    assert!(answers.contains(&Err(Refusal::Message)));
+    assert_eq!(table.run(&steps), answers);
+    assert_eq!(table, by_step);
+    let (mut words, mut ledger) = (working().words().to_vec(), *working().ledger());
+    assert_eq!(run(&mut words, &mut ledger, &steps), answers);
+    assert_eq!(words, by_step.words());
+    assert_eq!(
+        run(&mut words[1..], &mut [], &[CRASH; 2]),
+        [Err(Refusal::Length); 2]
+    );
+    assert_eq!(table.run(&[]), []);
+    assert_eq!(table, by_step);
 }
 
 /// The position of the gap in the words.

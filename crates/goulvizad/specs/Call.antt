@@ -1,53 +1,17 @@
--- A call of the C interface: which step it asks for, what it returns, and what stands in the three buffers after it.
-use mathlib.Core.Path.{_≡_, sym, ap, _∙_}
+-- The calls of the C interface that ask for no step by its letter. A step by its letter is in crates/run/specs/Call.antt, and a
+-- list of such steps in crates/run/specs/Run.antt.
 use mathlib.Core.Bool.{cond}
 use mathlib.Core.List.{List}
 use Prim.Native.Nat.{ℕ}
 use lib.ListN.{length}
-use borrow.Author.Tests.{eq-eqb, ne-eqb}
 use Rattle.base.specs.Choice.{_==_}
 use Rattle.table.specs.Layout.{tableWords}
 use Rattle.table.specs.Words.{state}
 use Rattle.rules.specs.Limits.{house}
 use Rattle.rules.specs.Form.{inForm}
-use Rattle.rules.specs.Report.{report}
-use Rattle.rules.specs.Step.{OutBoth, outBoth, step}
-use Rattle.rules.specs.declared.Answer.{Answer}
-use Rattle.rules.specs.declared.Command.{Command}
 use Rattle.rules.specs.declared.Command.the-variants.{SetGap}
-use Rattle.reporting.specs.Values.{valueRoom, valueWords}
-use Rattle.lines.specs.Lines.{stepOf}
-use Rattle.lines.specs.declared.Parsed.{Parsed}
-use Rattle.lines.specs.declared.Parsed.the-variants.{Asks, Bad}
-
--- what a call returns that is no answer: out of the way of the numbers that answers have
-abbrev pub unknownLetter : ℕ
-unknownLetter = 100
-
-abbrev pub wrongValues : ℕ
-wrongValues = 101
-
-pub record Returned : Type 0 where
-  pub number : ℕ
-  pub table : List ℕ
-  pub ledger : List ℕ
-  pub values : List ℕ
-
-abbrev pub returned : ℕ → List ℕ → List ℕ → List ℕ → Returned
-returned r t g v = record { number = r; table = t; ledger = g; values = v }
-
--- an answer's number and values; an unknown letter changes nothing
-unfoldable pub taken : List ℕ → List ℕ → List ℕ → Parsed → Returned
-taken t g v (Asks x) = let o = step t g x in returned (report (o .answer) .number) (o .table) (o .ledger) (valueWords (o .answer))
-taken t g v Bad = returned unknownLetter t g v
-
--- neither does a value buffer of another length, which is looked at first
-unfoldable pub handled : List ℕ → List ℕ → List ℕ → Parsed → Returned
-handled t g v p = cond (length v == valueRoom) (taken t g v p) (returned wrongValues t g v)
-
--- a step by its letter; none has a fourth number d
-unfoldable pub call : List ℕ → List ℕ → List ℕ → ℕ → ℕ → ℕ → ℕ → ℕ → Returned
-call t g v letter a b c d = handled t g v (stepOf letter a b c)
+use Rattle.lines.specs.declared.Parsed.the-variants.{Asks}
+use Rattle.run.specs.Call.{Returned, handled}
 
 -- W4: the step that sets the gap, which has no letter, beside the ledger g
 unfoldable pub gapCall : List ℕ → List ℕ → List ℕ → ℕ → Returned
@@ -62,25 +26,3 @@ unformed = 0
 
 unfoldable pub formNumber : List ℕ → ℕ
 formNumber t = cond (length t == tableWords) (cond (inForm house (state t)) formed unformed) unformed
-
--- what a step that was taken has to show
-pub step-taken : (t g v : List ℕ) (x : Command) {u h w : List ℕ} {y : Answer} {r : ℕ} → outBoth y u h ≡ step t g x → r ≡ report y .number → w ≡ valueWords y →
-    returned r u h w ≡ taken t g v (Asks x)
-unfolding taken
-step-taken t g v x {u} {h} {w} {y} {r} s n m =
-    (λ d. returned (n d) u h (m d)) ∙ ap (λ (o : OutBoth). returned (report (o .answer) .number) (o .table) (o .ledger) (valueWords (o .answer))) s
-
--- what a call has to show: the buffer has another length, or what it asks for was done
-module _ (t g v : List ℕ) (p : Parsed) where
-  pub wrong-values : (length v ≡ valueRoom → ⊥) → returned wrongValues t g v ≡ handled t g v p
-  unfolding handled
-  wrong-values ne = rw (ne-eqb (length v) valueRoom ne)
-
-  pub right-values : {r : Returned} → length v ≡ valueRoom → r ≡ taken t g v p → r ≡ handled t g v p
-  unfolding handled
-  right-values e h = h ∙ sym (rw (eq-eqb (length v) valueRoom e))
-
--- the letter asks for p
-pub letter-taken : (t g v : List ℕ) (l a b c d : ℕ) {p : Parsed} {r : Returned} → length v ≡ valueRoom → stepOf l a b c ≡ p → r ≡ taken t g v p → r ≡ call t g v l a b c d
-unfolding call
-letter-taken t g v l a b c d e q h = right-values t g v _ e h ∙ sym (ap (handled t g v) q)

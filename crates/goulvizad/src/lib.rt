@@ -1,19 +1,16 @@
-// The C interface: one step, the step that sets the gap, and the form check, on buffers that the caller lends. include/goulvizad.h
-// documents it.
+// The C interface: one step, a list of steps, the step that sets the gap, and the form check, on buffers that the caller lends.
+// include/goulvizad.h documents it.
 ghost use mathlib.Core.Path.{_≡_};
 ghost use mathlib.Core.List.{List};
 ghost use Prim.Native.Nat.{ℕ};
 ghost use lib.ListN.{length};
-ghost use Rattle.goulvizad.specs.Call.{returned, taken, call, gapCall, formNumber};
+ghost use Rattle.goulvizad.specs.Call.{gapCall, formNumber};
 ghost use Rattle.lines.specs.declared.Parsed.the-variants.{Asks};
 ghost use Rattle.reporting.specs.Values.{valueRoom};
+ghost use Rattle.run.specs.Call.{returned, taken, call};
+ghost use Rattle.run.specs.Run.{run};
 use lines::Parsed;
 use rules::Command;
-
-// What a call returns besides the numbers of the answers.
-const UNKNOWN_LETTER: u32 = 100;
-
-const WRONG_VALUES: u32 = 101;
 
 // What the form check returns.
 const FORMED: u32 = 1;
@@ -43,12 +40,25 @@ pub extern "C" fn goulvizad_step(
     ensures { λ r. ⌜ returned r (now (t .exit)) (now (g .exit)) (now (values .exit)) ≡ call (now (t .entry)) (now (g .entry)) (now (values .entry)) letter a b c d ⌝ }
 {
     if values.len() != reporting::VALUES {
-        return WRONG_VALUES;
+        return run::WRONG_VALUES;
     }
     let Parsed::Asks(x) = parsing::step_of(letter, a, b, c) else {
-        return UNKNOWN_LETTER;
+        return run::UNKNOWN_LETTER;
     };
     take_step(t, g, x, values)
+}
+
+// A list of steps, as one after the other; the form of the table is looked at once.
+#[no_mangle]
+pub extern "C" fn goulvizad_run(
+    t: &mut [u32],
+    g: &mut [u32],
+    steps: &[u32],
+    answers: &mut [u32],
+) -> u32
+    ensures { λ r. ⌜ returned r (now (t .exit)) (now (g .exit)) (now (answers .exit)) ≡ run (now (t .entry)) (now (g .entry)) (now (steps .entry)) (now (answers .entry)) ⌝ }
+{
+    run::run(t, g, steps, answers)
 }
 
 // The step that sets the gap, which has no letter. It doesn't look at the ledger: whatever it is, it stays.
@@ -57,7 +67,7 @@ pub extern "C" fn goulvizad_set_gap(t: &mut [u32], gap: u32, values: &mut [u32])
     ensures { λ r. ⌜ ((g : List ℕ) → returned r (now (t .exit)) g (now (values .exit)) ≡ gapCall (now (t .entry)) g (now (values .entry)) gap) ⌝ }
 {
     if values.len() != reporting::VALUES {
-        return WRONG_VALUES;
+        return run::WRONG_VALUES;
     }
     let answer = machine::set_gap(t, gap);
     reporting::give_answer(answer, values)

@@ -1,6 +1,6 @@
-//! Times the proved machine and the reference on the same scripts, in one run: by the step, by the
-//! line of the program, by the check that a table is in form, and by single steps in a house with many live
-//! intervals: the hearing of a crash, and what the gap has a part in.
+//! Times the proved machine and the reference on the same scripts, in one run: by the step, by the step of
+//! a list that is done in one call, by the line of the program, by the check that a table is in form, and by
+//! single steps in a house with many live intervals: the hearing of a crash, and what the gap has a part in.
 //!
 //! With the argument `house_reference` it is the program of the reference, so that one command builds
 //! both sides. With the name of a single step and a number it does that step so often with the proved
@@ -51,6 +51,8 @@ fn main() -> io::Result<()> {
     println!("Medians of {ROUNDS} rounds; ratio is proved to reference.\n");
     heading("microseconds a step");
     mixes.iter().for_each(time_steps);
+    heading("microseconds a step in a list, the reference one by one");
+    mixes.iter().for_each(time_runs);
     heading("microseconds a line of the program, its start included");
     mixes.iter().for_each(time_lines);
     heading("microseconds a check that a table is in form");
@@ -123,6 +125,14 @@ fn time_steps(mix: &Mix) {
         || mix.play(&house, proved::step),
         || mix.play(&house, machine::step),
     );
+    row(mix.name, mix.steps(), times);
+}
+
+/// All steps in one call, or where the gap is set in one for those between; the reference has no such call.
+fn time_runs(mix: &Mix) {
+    mix.outcome();
+    let house = mix.house();
+    let times = medians(|| mix.run(&house), || mix.play(&house, machine::step));
     row(mix.name, mix.steps(), times);
 }
 

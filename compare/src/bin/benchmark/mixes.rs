@@ -180,18 +180,29 @@ impl Mix {
         start.elapsed()
     }
 
-    /// The table after the last step, by both machines.
+    /// The time of all steps as a list, with the proved machine.
+    pub fn run(&self, house: &Lent) -> Duration {
+        let mut house = house.clone();
+        let start = Instant::now();
+        black_box(house.run(black_box(&self.steps)));
+        start.elapsed()
+    }
+
+    /// The table after the last step, by both machines, and by the proved one as a list.
     ///
     /// # Panics
     /// If they differ: there is nothing to be timed then.
     pub fn outcome(&self) -> Vec<u32> {
-        let (mut house, mut other) = (self.house(), self.house());
+        let [mut house, mut other, mut list] = [self.house(), self.house(), self.house()];
+        let mut answers = list.run(&self.steps).into_iter();
         for &command in &self.steps {
             let answer = house.step(command);
             let others = machine::step(&mut other.table, &mut other.ledger, command);
             assert_eq!(answer, others, "{command:?}");
+            assert_eq!(answers.next(), Some(answer), "{command:?} in a list");
         }
         assert!(house == other, "{}: the houses differ", self.name);
+        assert!(house == list, "{}: the list's house differs", self.name);
         house.table
     }
 

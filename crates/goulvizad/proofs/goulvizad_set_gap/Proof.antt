@@ -1,5 +1,6 @@
 -- The buffer has another length (wrong-values), or the step was taken (right-values) beside whatever ledger.
-use Rattle.goulvizad.specs.Call.{gapCall, wrong-values, right-values, step-taken}
+use Rattle.goulvizad.specs.Call.{gapCall}
+use Rattle.run.specs.Call.{wrong-values, right-values, step-taken}
 use borrow.Author.Needs.{needs}
 use Rattle.goulvizad.proofs.goulvizad_set_gap.Statement.{statement}
 use Rattle.goulvizad.proofs.goulvizad_set_gap.Tie as tie

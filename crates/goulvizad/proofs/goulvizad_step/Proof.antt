@@ -1,5 +1,5 @@
 -- Each return is a case of a call: another length, an unknown letter, a step (wrong-values, letter-taken).
-use Rattle.goulvizad.specs.Call.{taken, call, wrong-values, letter-taken}
+use Rattle.run.specs.Call.{taken, call, wrong-values, letter-taken}
 use mathlib.Core.Path.{refl, sym, _∙_}
 use borrow.Author.Needs.{needs}
 use Rattle.goulvizad.proofs.goulvizad_step.Statement.{statement}

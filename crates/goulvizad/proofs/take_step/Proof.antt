@@ -1,5 +1,5 @@
 -- The step's answer is given (step-taken).
-use Rattle.goulvizad.specs.Call.{step-taken}
+use Rattle.run.specs.Call.{step-taken}
 use borrow.Author.Needs.{needs}
 use Rattle.goulvizad.proofs.take_step.Statement.{statement}
 use Rattle.goulvizad.proofs.take_step.Tie as tie
