@@ -1,6 +1,6 @@
 -- Lists of tests: all of them pass, and the number of the first that applies.
 use mathlib.Core.Path.{_≡_, refl, sym, ap, _∙_, subst}
-use mathlib.Core.Bool.{Bool, true, false, cond, _&&_}
+use mathlib.Core.Bool.{Bool, true, false, cond, _&&_, true≢false}
 use mathlib.Core.List.{List, [], _∷_}
 use Prim.Native.Nat.{ℕ, zero, suc, _<_}
 use native.Mathlib.Nat.{not-suc-le-zero}
@@ -29,6 +29,14 @@ conj-get acc (b ∷ bs) (suc i) e = conj-get (acc && b) bs i e
 pub passed : (bs : List Bool) (i : ℕ) → allOf bs ≡ true → getD bs i true ≡ true
 unfolding allOf
 passed bs i e = conj-get true bs i e
+
+-- one test of a list failed
+pub failed : (bs : List Bool) (i : ℕ) → getD bs i true ≡ false → allOf bs ≡ false
+failed bs i e = go (allOf bs) refl
+  where
+    go : (b : Bool) → allOf bs ≡ b → b ≡ false
+    go true q = absurd (true≢false (sym (passed bs i q) ∙ e))
+    go false q = refl
 
 -- a case: when it applies, and its number
 pub record Case : Type 0 where

@@ -1,10 +1,11 @@
 -- Tests over the indices below a bound: all pass, some passes, the first that passes.
 use mathlib.Core.Path.{_≡_, refl, sym, ap, ap₂, _∙_}
-use mathlib.Core.Bool.{Bool, true, false, cond, _&&_, _||_, and-false, and-true, and-assoc, or-true, true≢false, false≢true}
+use mathlib.Core.Bool.{Bool, true, false, not, cond, _&&_, _||_, and-false, and-true, and-assoc, or-true, true≢false, false≢true}
 use Prim.Native.Nat.{ℕ, zero, suc, _+_, _≤_, _<_}
 use native.Mathlib.Nat.{not-suc-le-zero, le-of-suc-le-suc, zero-lt-suc, add-zero, add-suc}
 use native.Mathlib.Numerals.{add-one}
 use native.Mathlib.Omega.{arith}
+use borrow.Author.Tests.{not-true, not-false}
 use Rattle.base.specs.Choice.{and-left, and-right, le?}
 
 -- every index below n passes f
@@ -60,6 +61,13 @@ pub allb-ext : (f g : ℕ → Bool) (n : ℕ) → ((i : ℕ) → i < n → f i �
 unfolding allb
 allb-ext f g zero h = refl
 allb-ext f g (suc n) h = ap₂ (λ (x y : Bool). x && y) (allb-ext f g n (λ (i : ℕ) (p : i < n). h i (omega arith))) (h n (omega arith))
+
+-- a loop that stops at the first index that fails: all before it have passed, one more has, one has not
+pub allb-next : (f : ℕ → Bool) (i : ℕ) (test : Bool) → true ≡ allb i f → test ≡ f i → not test ≡ false → true ≡ allb (i + 1) f
+allb-next f i test a e t = allb-step f i true true a (sym (not-false test t) ∙ e)
+
+pub allb-stops : (f : ℕ → Bool) (n i : ℕ) (test : Bool) → i < n → test ≡ f i → not test ≡ true → false ≡ allb n f
+allb-stops f n i test h e t = sym (allb-fails f n i h (sym e ∙ not-true test t))
 
 -- a range in two parts
 pub allb-split : (f : ℕ → Bool) (k m : ℕ) → allb (k + m) f ≡ (allb k f && allb m (λ (i : ℕ). f (k + i)))

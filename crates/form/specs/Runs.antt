@@ -1,31 +1,19 @@
 -- Records from a count on are unused: they are right if the run of their words is 0.
-use mathlib.Core.Path.{_≡_, sym, ap, ap₂, _∙_, fun-ext}
+use mathlib.Core.Path.{_≡_, sym, ap, ap₂, _∙_}
 use mathlib.Core.Bool.{Bool, _&&_}
 use mathlib.Core.List.{List}
-use Prim.Native.Nat.{ℕ, zero, suc, _+_, _*_, _-_, _≤_, _<_, min}
-use native.Mathlib.Nat.{zero-mul, suc-mul, add-mul, add-assoc}
+use Prim.Native.Nat.{ℕ, _+_, _*_, _-_, _≤_, _<_, min}
+use native.Mathlib.Nat.{add-mul, add-assoc}
 use native.Mathlib.Omega.{arith}
-use lib.ListN.{getD}
 use borrow.Author.Tests.{le-ltb}
-use Rattle.base.specs.Choice.{_==_}
 use Rattle.base.specs.Ranges.{allb, allb-split, allb-ext}
 use Rattle.table.specs.Field.{OfPlace, OfMessage, LiveCount}
 use Rattle.table.specs.Layout.{position, places, messages, placeWords, messageWords}
 use Rattle.table.specs.Words.{state}
 use Rattle.table.specs.Numbering.{used}
 use Rattle.rules.specs.Limits.{house}
-use Rattle.rules.specs.Form.{zeros, placeOk, messageOk}
-use Rattle.parts.specs.Zeros.{zerosFrom, zeros-place, zeros-message}
-
--- m records of w words each, one after the other, are 0
-zeros-records : (t : List ℕ) (at w m : ℕ) → zerosFrom t at (m * w) ≡ allb m (λ (i : ℕ). zerosFrom t (at + i * w) w)
-unfolding zerosFrom zeros allb
-zeros-records t at w zero = ap (λ (k : ℕ). allb k (λ (i : ℕ). getD t (at + i) 0 == 0)) (zero-mul w)
-zeros-records t at w (suc m) =
-    ap (λ (k : ℕ). allb k (λ (i : ℕ). getD t (at + i) 0 == 0)) (suc-mul m w)
-    ∙ allb-split (λ (i : ℕ). getD t (at + i) 0 == 0) (m * w) w
-    ∙ ap₂ (λ (x y : Bool). x && y) (zeros-records t at w m)
-    (ap (allb w) (fun-ext (λ (i : ℕ). ap (λ (j : ℕ). getD t j 0 == 0) (sym (add-assoc at (m * w) i)))))
+use Rattle.rules.specs.Form.{placeOk, messageOk}
+use Rattle.parts.specs.Zeros.{zerosFrom, zeros-records, zeros-place, zeros-message}
 
 -- Of n records of w words each, those from k on are unused: all are right if the first k are, and the rest is 0.
 unused : (t : List ℕ) (f : ℕ → Bool) (base w k n at : ℕ) (ok rest : Bool) → k ≤ n → ((p : ℕ) → k ≤ p → p < n → f p ≡ zerosFrom t (base + p * w) w) →

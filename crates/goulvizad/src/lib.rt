@@ -73,7 +73,7 @@ pub extern "C" fn goulvizad_set_gap(t: &mut [u32], gap: u32, values: &mut [u32])
     reporting::give_answer(answer, values)
 }
 
-// Whether the table has its length and is in form.
+// Whether the table has its length and is in form. The head is looked at here: a table that was never opened needs no further call.
 #[no_mangle]
 pub extern "C" fn goulvizad_in_form(t: &[u32]) -> u32
     ensures { λ r. ⌜ r ≡ formNumber (now (t .entry)) ⌝ }
@@ -81,5 +81,11 @@ pub extern "C" fn goulvizad_in_form(t: &[u32]) -> u32
     if t.len() != table::TABLE_WORDS {
         return UNFORMED;
     }
-    if form::in_form(t) { FORMED } else { UNFORMED }
+    if !records::head_ok(t) {
+        UNFORMED
+    } else if form::records_ok(t) {
+        FORMED
+    } else {
+        UNFORMED
+    }
 }

@@ -9,7 +9,7 @@ use native.Mathlib.Omega.{arith}
 use borrow.Author.Tests.{le-leb}
 use Rattle.base.specs.Choice.{_==_, _≤?_, _<?_, cond-ind}
 use Rattle.base.specs.Cases.{firstOf}
-use Rattle.table.specs.Field.{Field, State, OfHead, OfController, Known, End, OfPlace, OfMessage, Size, Incarnation, LiveCount, StableCount, Flag, Sender, Receiver, PairIncarnation, PairNumber, MessagePairIncarnation, MessagePairNumber, same, word, messageHead}
+use Rattle.table.specs.Field.{Field, State, OfHead, OfController, Known, End, OfPlace, OfMessage, Size, Incarnation, LiveCount, StableCount, Flag, Sender, Receiver, SendingNumber, PairIncarnation, PairNumber, MessagePairIncarnation, MessagePairNumber, same, word, messageHead}
 use Rattle.table.specs.Change.{put, put-ind, put-same, putPart, putStates, states-ind}
 use Rattle.table.specs.Layout.{controllers, places, messages}
 use Rattle.table.specs.Words.{state, words, agree-words}
@@ -19,11 +19,15 @@ use Rattle.rules.specs.Vector.{Vector, pair, placeVector, messageVector}
 use Rattle.rules.specs.Form.{stateReleased}
 use Rattle.rules.specs.Shared.{placeRecord, logged, loggedTo, causesIn, causes, newVector, placed, entered, restarted}
 use Rattle.rules.specs.Steps.{intervalAdded, noted, messageRefusals, releaseRefusals}
-use Rattle.laws.specs.Facts.{Near, Form, form, below-8, controllerForm, placeForm, messageForm, released-lt, message-near}
+use Rattle.laws.specs.Facts.{Near, Form, form, below-8, controllerForm, placeForm, messageForm, released-lt, no-message, message-near}
 use Rattle.laws.specs.Records.{placeVector-of, messageVector-of}
 use Rattle.laws.specs.Allowed.{messageAllowed, releaseAllowed}
 use Rattle.laws.specs.Agree.{incarnation-same, live-same, placeVector-same, messageVector-same, live-restarted}
 use Rattle.laws.specs.Answering.{Lent}
+
+-- message records from those in use on have no sending number: going along the records in use passes over no message
+abbrev pub Unsent : State → Type 0
+Unsent σ = (r : ℕ) → r < messages → used σ ≤ r → σ (SendingNumber r) ≡ 0
 
 -- a controller of the house, its incarnation and its live count: what logging and a checkpoint count on
 pub record Counts (σ : State) (c : ℕ) : Type 0 where
@@ -42,6 +46,7 @@ pub record Chain (σ : State) (c : ℕ) : Type 0 where
   pub near : (p : ℕ) → p < σ (LiveCount c) → Near (placeVector σ c p)
   pub used-le : used σ ≤ messages
   pub message-near : (r : ℕ) → r < messages → Near (messageVector σ r)
+  pub unsent : Unsent σ
 
 -- a controller of a state in form has it
 pub chain-form : (σ : State) (c : ℕ) → Form house σ → c < σ Size → Chain σ c
@@ -56,6 +61,7 @@ chain-form σ c f h =
       near = λ p q. placeForm f c p h q .vector .near;
       used-le = f .used-le;
       message-near = message-near f;
+      unsent = λ r l u. no-message f r (word (SendingNumber r)) l u (omega arith);
     }
 
 pub chain-counts : {σ : State} {c : ℕ} → Chain σ c → Counts σ c
@@ -82,14 +88,14 @@ counts-added σ c m r v w room =
 pub chain-of : (t : List ℕ) (c : ℕ) → Lent t → c < state t Size → Chain (state t) c
 chain-of t c l h = chain-form (state t) c (form house (state t) (l .good)) h
 
--- the words that it looks at: those of numbering, incarnations and live counts, and all flags and vectors
+-- the words that it looks at: those of numbering, incarnations and live counts, and all flags, sending numbers and vectors
 abbrev pub onChain : Field → Bool
 onChain (OfHead k) = true
 onChain (OfController c k) = (k == word (Incarnation c)) || (k == word (LiveCount c))
 onChain (Known holder owner i) = false
 onChain (End holder owner i) = false
 onChain (OfPlace c p k) = word (Flag c p) ≤? k
-onChain (OfMessage r k) = numbering (OfMessage r k) || (messageHead ≤? k)
+onChain (OfMessage r k) = numbering (OfMessage r k) || (word (SendingNumber r) ≤? k)
 
 numbering-on : (f : Field) → numbering f ≡ true → onChain f ≡ true
 numbering-on (OfHead k) e = refl
@@ -97,7 +103,7 @@ numbering-on (OfController c k) e = absurd (true≢false (sym e))
 numbering-on (Known holder owner i) e = absurd (true≢false (sym e))
 numbering-on (End holder owner i) e = absurd (true≢false (sym e))
 numbering-on (OfPlace c p k) e = absurd (true≢false (sym e))
-numbering-on (OfMessage r k) e = ap (λ b. b || (messageHead ≤? k)) e
+numbering-on (OfMessage r k) e = ap (λ b. b || (word (SendingNumber r) ≤? k)) e
 
 -- a change that leaves these words keeps it
 pub chain-kept : (σ τ : State) (c : ℕ) → ((f : Field) → onChain f ≡ true → τ f ≡ σ f) → Chain σ c → Chain τ c
@@ -114,6 +120,7 @@ chain-kept σ τ c h w =
       near = λ p l. subst Near (sym (vector-of p)) (w .near p (omega arith));
       used-le = omega (arith, w .used-le);
       message-near = λ r l. subst Near (sym (message-of r)) (w .message-near r l);
+      unsent = λ r l u. h (SendingNumber r) refl ∙ w .unsent r l (omega arith);
     }
   where
     vector-of : (p : ℕ) → placeVector τ c p ≡ placeVector σ c p
@@ -126,8 +133,8 @@ chain-kept σ τ c h w =
         messageVector-of τ σ r
         (λ owner l. (h (MessagePairIncarnation r owner) (past r (word (MessagePairIncarnation r owner)) (omega arith)), h (MessagePairNumber r owner) (past r (word (MessagePairNumber r owner)) (omega arith))))
       where
-        past : (r k : ℕ) → messageHead ≤ k → (numbering (OfMessage r k) || (messageHead ≤? k)) ≡ true
-        past r k l = ap (λ b. numbering (OfMessage r k) || b) (le-leb messageHead k l) ∙ or-true (numbering (OfMessage r k))
+        past : (r k : ℕ) → messageHead ≤ k → (numbering (OfMessage r k) || (word (SendingNumber r) ≤? k)) ≡ true
+        past r k l = ap (λ b. numbering (OfMessage r k) || b) (le-leb (word (SendingNumber r)) k (omega arith)) ∙ or-true (numbering (OfMessage r k))
 
 -- one other word was put, or states of messages were
 pub chain-put : (σ : State) (c : ℕ) (f : Field) (x : ℕ) → onChain f ≡ false → Chain σ c → Chain (put σ f x) c
@@ -158,6 +165,7 @@ chain-words σ c {t} q w =
       near = λ p l. subst Near (sym (placeVector-same (state t) σ e c p (w .named) (omega (arith, w .live-le)))) (w .near p (omega arith));
       used-le = omega (arith, used-agree (state t) σ e, w .used-le);
       message-near = λ r l. subst Near (sym (messageVector-same (state t) σ e r l)) (w .message-near r l);
+      unsent = λ r l u. e (SendingNumber r) (l, omega arith) ∙ w .unsent r l (omega (arith, used-agree (state t) σ e));
     }
 
 -- what starting anew at c after its k-th interval counts on

@@ -9,6 +9,7 @@ ghost use Rattle.table.specs.Words.{state, words};
 ghost use Rattle.table.specs.Numbering.{used};
 ghost use Rattle.rules.specs.Shared.{offeredAgain, causing, causesIn, causes, orphaned, heldOrDropped, dropHeld};
 ghost use Rattle.laws.specs.Chain.{Chain};
+ghost use Rattle.removal.specs.Dropping.{Sent};
 
 // The state of the cause in record r of an interval that c lost or undid: it is offered again, unless it is condemned to c.
 pub fn fate_of(t: &[u32], c: usize, r: usize) -> u32
@@ -81,12 +82,13 @@ pub fn drop_one(t: &mut [u32], c: usize, x: u32, r: usize)
 
 // Held messages from c with a sending number above that of the k-th interval are dropped.
 pub fn drop_held(t: &mut [u32], c: usize, k: u32)
-    requires { ⌜ (length (now t) ≡ tableWords) × (c < controllers) ⌝ }
+    requires { ⌜ (length (now t) ≡ tableWords) × (c < controllers) × Sent (state (now t)) ⌝ }
     ensures { λ _. ⌜ now (t .exit) ≡ words (dropHeld (state (now (t .entry))) c k) ⌝ }
 {
     let x = table::number_of(t, c, k);
+    let sent = table::records_used(t) as usize;
     let mut r = 0;
-    while r < table::MESSAGES {
+    while r < sent {
         drop_one(t, c, x, r);
         r += 1;
     }

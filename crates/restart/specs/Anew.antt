@@ -14,6 +14,8 @@ use Rattle.laws.specs.Facts.{Near}
 use Rattle.laws.specs.Agree.{agree-dropHeld, agree-entered}
 use Rattle.laws.specs.Chain.{Counts, counts-words, counts-restarted, Starts, starts-words, starts-causes}
 use Rattle.laws.specs.Kept.{then-capped, then-start}
+use Rattle.removal.specs.Dropping.{Sent}
+use Rattle.restart.specs.Sent.{begun-sent}
 
 -- the kept vector is near, and the new one is made of it
 pub kept-near : (σ : State) (c k : ℕ) (v : Vector) → Starts σ c k → v ≡ placeVector σ c (k - 1) → Near v
@@ -44,10 +46,13 @@ begins t t₁ t₂ c k own x v eo ex ev e₁ e₂ =
     called (λ σ. entered σ c (k + 1) (own + 1) x) _ e₁ e₂ (agree-entered _ _ (agree-words _ e₁) c (k + 1) refl refl)
     ∙ (λ d. words (entered (placed (state t) c k (eo d + 1) (ex d) (ev d)) c (k + 1) (eo d + 1) (ex d)))
 
--- the new incarnation has begun: the start has its counts, was checkpointed, if that was due, and held messages were dropped
+-- the new incarnation has begun: the start has its counts, was checkpointed, if that was due, and held messages were dropped in the records in use
 module _ (t t₁ : List ℕ) (c k : ℕ) (s : Starts (state t) c k) (e₁ : t₁ ≡ words (restarted (state t) c k)) where
   pub begun-counts : Counts (state t₁) c
   begun-counts = counts-words _ c e₁ (counts-restarted (state t) c k s)
+
+  pub begun-drops : (t₂ : List ℕ) → t₂ ≡ words (capped (state t₁) c) → Sent (state t₂)
+  begun-drops t₂ e₂ = begun-sent (state t) c k s (then-capped _ c (counts-restarted (state t) c k s) e₁ e₂)
 
   pub starts : (t₂ t₃ : List ℕ) → t₂ ≡ words (capped (state t₁) c) → t₃ ≡ words (dropHeld (state t₂) c k) → t₃ ≡ words (startAnew (state t) c k)
   unfolding startAnew

@@ -26,6 +26,8 @@ const AS_REFERENCE: &str = "house_reference";
 
 /// The checks of a table in a round.
 const CHECKS: usize = 3_000;
+/// How often a script is played in one run of the program, so that its start counts little.
+const REPEATED: usize = 20;
 /// How often each measure is taken. Every other time the reference goes first.
 const ROUNDS: usize = 9;
 
@@ -47,6 +49,7 @@ fn main() -> io::Result<()> {
         mixes::readings(),
         mixes::no_sense(),
         mixes::gapped(),
+        mixes::unopened(),
     ];
     println!("Medians of {ROUNDS} rounds; ratio is proved to reference.\n");
     heading("microseconds a step");
@@ -54,7 +57,9 @@ fn main() -> io::Result<()> {
     heading("microseconds a step in a list, the reference one by one");
     mixes.iter().for_each(time_runs);
     heading("microseconds a line of the program, its start included");
-    mixes.iter().for_each(time_lines);
+    mixes.iter().for_each(|mix| time_lines(mix, 1));
+    heading("microseconds a line, each script many times in one run");
+    mixes.iter().for_each(|mix| time_lines(mix, REPEATED));
     heading("microseconds a check that a table is in form");
     mixes.iter().for_each(time_checks);
     heading("microseconds a hearing, 64 live, one checkpoint at place 0");
@@ -136,18 +141,19 @@ fn time_runs(mix: &Mix) {
     row(mix.name, mix.steps(), times);
 }
 
-/// A mix in which the gap is set is no script.
-fn time_lines(mix: &Mix) {
+/// So many times the script of a mix; one in which the gap is set is no script.
+fn time_lines(mix: &Mix, repeated: usize) {
     let Some(script) = mix.script() else {
         return;
     };
+    let script = script.repeat(repeated);
     let expected = lines::run(&script);
     let time = |program| {
         let time = time_program(program, &script, &expected);
         time.expect("a program that plays the script")
     };
     let times = medians(|| time(house::program()), || time(reference_program()));
-    row(mix.name, mix.whole(), times);
+    row(mix.name, repeated * mix.whole(), times);
 }
 
 /// This program, as that of the reference.
@@ -174,17 +180,20 @@ fn time_program(program: Program, script: &[u8], expected: &[u8]) -> io::Result<
 
 fn time_checks(mix: &Mix) {
     let words = mix.outcome();
+    // One that was never opened is out of form.
+    let formed = words.iter().any(|&word| word != 0);
     let times = medians(
-        || time_check(&words, in_form),
-        || time_check(&words, table::in_form),
+        || time_check(&words, formed, in_form),
+        || time_check(&words, formed, table::in_form),
     );
     row(&mix.describe(&words), CHECKS, times);
 }
 
-fn time_check(words: &[u32], check: fn(&[u32]) -> bool) -> Duration {
+fn time_check(words: &[u32], formed: bool, check: fn(&[u32]) -> bool) -> Duration {
     let start = Instant::now();
     for _ in 0..CHECKS {
-        assert!(black_box(check(black_box(words))), "a table out of form");
+        let checked = black_box(check(black_box(words)));
+        assert_eq!(checked, formed, "the form of the table");
     }
     start.elapsed()
 }

@@ -132,6 +132,15 @@ pub fn no_sense() -> Mix {
     }
 }
 
+/// One step again and again on a table that was never opened, which is refused for its form each time.
+pub fn unopened() -> Mix {
+    Mix {
+        name: "a table of zeros",
+        opening: Vec::new(),
+        steps: vec![Command::Checkpoint { controller: 0 }; STEPS],
+    }
+}
+
 /// The house that these steps lead to.
 pub fn led_to(steps: &[Command]) -> Lent {
     let mut house = Lent {

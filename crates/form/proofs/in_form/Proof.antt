@@ -1,25 +1,21 @@
--- The tests are those of the definition, in its order; each call promises its own.
-use Rattle.base.specs.Cases.{allOf}
+-- A head that isn't in form settles the answer; where it is, the records do.
+use Rattle.base.specs.Cases.{failed}
 use Rattle.rules.specs.Form.{inForm}
+use mathlib.Core.Path.{sym, _∙_}
+use borrow.Author.Tests.{not-true, not-false}
 use borrow.Author.Needs.{needs}
 use Rattle.form.proofs.in_form.Statement.{statement}
 use Rattle.form.proofs.in_form.Tie as tie
 
 returns : tie.Need-returns
-unfolding inForm allOf
-returns c =
-    let x = c .before .before .before in
-    rw (
-      x .before .head-ok .ensures,
-      x .controllers-ok .ensures,
-      c .before .before .all-rows-ok .ensures,
-      c .before .all-places-ok .ensures,
-      c .messages-ok .ensures,
-      x .before .before .size .ensures,
-    )
+unfolding inForm
+returns c = sym (failed _ 0 (sym (c .before .head-ok .ensures) ∙ not-true _ (c .if1 .taken)))
+
+records-ok-requires : tie.Need-records-ok-requires
+records-ok-requires c κs = (search needs, sym (c .before .head-ok .ensures) ∙ not-false _ (c .if1 .left))
+
+returns-2 : tie.Need-returns-2
+returns-2 c = c .records-ok .ensures
 
 pub in-form-spec : {M : Type 1} → statement M
-in-form-spec =
-    tie.close
-    (tie.spec
-    (λ c κs. search needs) (λ c κs. search needs) (λ c κs. search needs) (λ c κs. search needs) (λ c κs. search needs) (λ c κs. search needs) returns)
+in-form-spec = tie.close (tie.spec (λ c κs. search needs) returns records-ok-requires returns-2)

@@ -1,5 +1,5 @@
--- The flag gathers the tests of the live places before p; the rest is one run of zeros (all-places).
-use Rattle.base.specs.Ranges.{allb, allb-zero, allb-step, allb-end}
+-- All live places before p have passed, or the first that doesn't settles the answer (allb-next, allb-stops); the rest is one run of zeros (all-places).
+use Rattle.base.specs.Ranges.{allb, allb-zero, allb-next, allb-stops, allb-end}
 use Rattle.table.specs.Field.{LiveCount}
 use Rattle.table.specs.Layout.{places}
 use Rattle.table.specs.Words.{state}
@@ -8,24 +8,31 @@ use Rattle.rules.specs.Form.{placeOk}
 use Rattle.form.specs.Runs.{all-places}
 use borrow.Author.Needs.{needs}
 use mathlib.Core.Path.{_≡_}
+use mathlib.Core.Bool.{true}
 use Prim.Native.Nat.{_-_, _≤_, min}
+use native.Mathlib.Omega.{arith}
 use Rattle.form.proofs.places_ok.Statement.{statement}
 use Rattle.form.proofs.places_ok.Tie as tie
 
 abbrev Inv-loop : tie.InvT-loop
-Inv-loop t n c live ok₀ p₀ ok p = (p ≤ live) × (live ≡ min (state t (LiveCount c)) places) × (ok ≡ allb p (placeOk house n (state t) c))
+Inv-loop t n c live p₀ p = (p ≤ live) × (live ≡ min (state t (LiveCount c)) places) × (true ≡ allb p (placeOk house n (state t) c))
 
 abbrev μ-loop : tie.MeasureT-loop
-μ-loop t n c live ok₀ p₀ ok p = live - p
+μ-loop t n c live p₀ p = live - p
 
 loop-holds : tie.Need-loop-holds Inv-loop μ-loop
 loop-holds c = (search needs, rw (c .before .live-count .ensures) at (c .at-most .ensures), allb-zero _)
 
-loop-again : tie.Need-loop-again Inv-loop μ-loop
-loop-again c = (search needs, c .before .before .loop .inv .1, allb-step _ _ _ _ (c .before .before .loop .inv .2) (c .place-ok .ensures))
-
 returns : tie.Need-returns Inv-loop μ-loop
-returns c =
+returns c = allb-stops _ _ _ _ (omega arith) (c .before .place-ok .ensures) (c .if1 .taken)
+
+loop-again : tie.Need-loop-again Inv-loop μ-loop
+loop-again c =
+    let l = c .before .before .before .loop .inv in
+    (search needs, l .1, allb-next _ _ _ (l .2) (c .before .place-ok .ensures) (c .if1 .left))
+
+returns-2 : tie.Need-returns-2 Inv-loop μ-loop
+returns-2 c =
     let l = c .before .before .before .loop .inv in
     all-places _ _ _ _ _ _ _ (l .1) (allb-end _ _ _ _ (l .2) (l .0) (c .before .before .loop-test .left)) (c .before .place-at .ensures) (c .all-zero .ensures)
 
@@ -33,6 +40,6 @@ pub places-ok-spec : {M : Type 1} → statement M
 places-ok-spec =
     tie.close
     (tie.spec
-    Inv-loop μ-loop (λ c κs. search needs) (λ c κs. search needs) loop-holds (λ c κs. search needs)
+    Inv-loop μ-loop (λ c κs. search needs) (λ c κs. search needs) loop-holds (λ c κs. search needs) returns
     (λ c. search needs) (λ c. search needs) loop-again (λ c. search needs) (λ c. search needs)
-    (λ c κs. search needs) (λ c κs. search needs) returns)
+    (λ c κs. search needs) (λ c κs. search needs) returns-2)

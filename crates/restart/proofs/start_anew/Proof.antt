@@ -1,11 +1,15 @@
--- The start has its counts (begun-counts), so that it can be checkpointed; held messages are dropped on the table of that (starts).
+-- The start has its counts (begun-counts), so that it can be checkpointed; held messages are dropped on the table of that (starts), whose records in use
+-- are those of before (begun-drops).
 use borrow.Author.Needs.{needs}
-use Rattle.restart.specs.Anew.{begun-counts, starts}
+use Rattle.restart.specs.Anew.{begun-counts, begun-drops, starts}
 use Rattle.restart.proofs.start_anew.Statement.{statement}
 use Rattle.restart.proofs.start_anew.Tie as tie
 
 cap-requires : tie.Need-cap-requires
 cap-requires c κs = (search needs, search begun-counts)
+
+drop-held-requires : tie.Need-drop-held-requires
+drop-held-requires c κs = (search needs, search needs, search begun-drops)
 
 returns : tie.Need-returns
 returns c = search starts
@@ -13,4 +17,4 @@ returns c = search starts
 pub start-anew-spec : {M : Type 1} → statement M
 start-anew-spec =
     tie.close (tie.spec
-    (λ c κs. search needs) cap-requires (λ c κs. search needs) (λ c. search needs) returns)
+    (λ c κs. search needs) cap-requires drop-held-requires (λ c. search needs) returns)
