@@ -20,7 +20,7 @@ use Rattle.laws.specs.Facts.{Form, form, ControllerForm, below-8, controllerFor
 use Rattle.laws.specs.Records.{part-at, part-other, clear-kept, length-place-record, length-filtered}
 use Rattle.keeping.specs.Untouched.{okAt, Tested, home, form-changed}
 use Rattle.keeping.specs.InRange.{pair-ok, filtered-ok, set-ok, controller-ok, free-ok, place-again, place-new}
-use Rattle.keeping.specs.Changes.{Fitting, number-is, number-le, kept-known}
+use Rattle.keeping.specs.Changes.{Fitting, number-is, number-le, kept-word}
 use Rattle.keeping.specs.Messages.{kept-state}
 
 -- the words of controller c and of its places
@@ -260,4 +260,4 @@ module _ (L : Limits) (fit : Fitting L) (σ : State) (e : inForm L σ ≡ true) 
   kept-restarted c k h k1 kl room il =
       let w = renewed-anew c k h k1 kl room il in
       let there = subst (λ n. c < n) (sym (w .others Size refl)) h in
-      kept-known L (anew σ c k) c c there there _ _ (number-le L fit σ e c (k + 1) (omega arith)) (kept-chain L σ (anew σ c k) c k h w e)
+      kept-word L (anew σ c k) c c there there (Known c c _) _ refl refl (number-le L fit σ e c (k + 1) (omega arith)) (kept-chain L σ (anew σ c k) c k h w e)

@@ -1,6 +1,6 @@
 -- The changes of a state that the rules make, each of which keeps the form.
-use mathlib.Core.Path.{_≡_, refl, sym, _∙_, subst}
-use mathlib.Core.Bool.{true, false}
+use mathlib.Core.Path.{_≡_, refl, sym, ap, _∙_, subst}
+use mathlib.Core.Bool.{true, false, true≢false}
 use mathlib.Core.List.{List}
 use Prim.Native.Nat.{ℕ, _+_, _*_, _≤_, _<_}
 use native.Mathlib.Omega.{arith}
@@ -8,15 +8,15 @@ use lib.ListN.{length, getD}
 use borrow.Author.Tests.{ltb-true}
 use Rattle.base.specs.Choice.{_==_, _<?_, cond-ind}
 use Rattle.base.specs.Ranges.{allb}
-use Rattle.table.specs.Field.{State, OfController, Known, End, Size, Gap, Degree, LiveCount, StableCount, Flag, PairIncarnation, PairNumber, placeHead, word, same}
+use Rattle.table.specs.Field.{Field, State, OfController, Known, End, Size, Gap, Degree, LiveCount, StableCount, Flag, PairIncarnation, PairNumber, placeHead, word, same}
 use Rattle.table.specs.Change.{put, put-ind, put-same, put-other, putPart, part-ind}
 use Rattle.table.specs.Numbering.{numberOf, number-fresh, numbers-put}
 use Rattle.rules.specs.Limits.{Limits, lastGap}
-use Rattle.rules.specs.Form.{zeros, vectorOk, headZeros, highest, inForm}
+use Rattle.rules.specs.Form.{zeros, vectorOk, highest, rowOk, headZeros, inForm}
 use Rattle.rules.specs.Shared.{newestPlace, logged, loggedTo, checkpointed, forced, capped}
-use Rattle.laws.specs.Facts.{form, below-8, controllerForm, placeForm, known-top, end-top, spare-words}
+use Rattle.laws.specs.Facts.{Form, form, below-8, controllerForm, placeForm, known-top, end-top, spare-words}
 use Rattle.laws.specs.Records.{placeVector-of}
-use Rattle.keeping.specs.Untouched.{okAt, form-put, form-part}
+use Rattle.keeping.specs.Untouched.{okAt, home, at-one-home, looked, form-put, form-part}
 use Rattle.keeping.specs.InRange.{head-ok, controller-ok, highest-is, row-ok, place-ok}
 
 -- Limits that let an interval stand in every place: without them an opening, or a delivery, would leave a number out of its range.
@@ -70,30 +70,30 @@ module _ (L : Limits) where
         (omega (arith, put-same σ (StableCount c) k)) (omega (arith, put-same σ (StableCount c) k))) e
 
   -- ROWS
-  module _ (σ : State) (holder owner : ℕ) (h : holder < σ Size) (o : owner < σ Size) where
-    -- a known word
-    pub kept-known : (i x : ℕ) → x ≤ L .numbers → inForm L σ ≡ true → inForm L (put σ (Known holder owner i) x) ≡ true
-    unfolding okAt put same
-    kept-known i x l e =
-        let f = form L σ e in
-        form-put L σ (Known holder owner i) x refl
-        (row-ok L (σ Size) (put σ (Known holder owner i) x) holder owner (λ j jl. (
-          put-ind (λ g y. g ≡ Known holder owner j → y ≤ highest L (σ Size) holder owner) σ (Known holder owner i) x (λ _. omega (arith, highest-is L (σ Size) holder owner h o))
-              (λ g _ q. subst (λ g. σ g ≤ highest L (σ Size) holder owner) (sym q) (known-top f holder owner j (below-8 f holder h) (below-8 f owner o) jl)) (Known holder owner j) refl,
-          end-top f holder owner j (below-8 f holder h) (below-8 f owner o) jl,
-        ))) e
+  -- a known or an end word of a row
+  pub kept-word : (σ : State) (holder owner : ℕ) → holder < σ Size → owner < σ Size → (f : Field) (x : ℕ) → home f ≡ Known holder owner 0 → looked f ≡ false → x ≤ L .numbers →
+      inForm L σ ≡ true → inForm L (put σ f x) ≡ true
+  unfolding okAt
+  kept-word σ holder owner h o f x r n l e =
+      form-put L σ f x n
+      (at-one-home L _ τ f (Known holder owner 0) r ∙ ap (λ k. rowOk L k τ holder owner) (put-other σ f Size x (λ z. true≢false (ap looked z ∙ n)))
+      ∙ row-ok L (σ Size) τ holder owner (λ j jl. (
+        word-le (Known holder owner j) (known-top w holder owner j (below-8 w holder h) (below-8 w owner o) jl),
+        word-le (End holder owner j) (end-top w holder owner j (below-8 w holder h) (below-8 w owner o) jl),
+      ))) e
+    where
+      w : Form L σ
+      w = form L σ e
 
-    -- an end word
-    pub kept-end : (i x : ℕ) → x ≤ L .numbers → inForm L σ ≡ true → inForm L (put σ (End holder owner i) x) ≡ true
-    unfolding okAt put same
-    kept-end i x l e =
-        let f = form L σ e in
-        form-put L σ (End holder owner i) x refl
-        (row-ok L (σ Size) (put σ (End holder owner i) x) holder owner (λ j jl. (
-          known-top f holder owner j (below-8 f holder h) (below-8 f owner o) jl,
-          put-ind (λ g y. g ≡ End holder owner j → y ≤ highest L (σ Size) holder owner) σ (End holder owner i) x (λ _. omega (arith, highest-is L (σ Size) holder owner h o))
-              (λ g _ q. subst (λ g. σ g ≤ highest L (σ Size) holder owner) (sym q) (end-top f holder owner j (below-8 f holder h) (below-8 f owner o) jl)) (End holder owner j) refl,
-        ))) e
+      τ : State
+      τ = put σ f x
+
+      top : ℕ
+      top = highest L (σ Size) holder owner
+
+      -- the word that was put, and any other
+      word-le : (g : Field) → σ g ≤ top → τ g ≤ top
+      word-le g u = put-ind (λ d y. d ≡ g → y ≤ top) σ f x (λ _. omega (arith, highest-is L (σ Size) holder owner h o)) (λ d _ q. subst (λ d. σ d ≤ top) (sym q) u) g refl
 
   -- T: a whole row of known words
   pub kept-row : (σ : State) (holder owner : ℕ) (w : List ℕ) → holder < σ Size → owner < σ Size → ((i : ℕ) → i < length w → getD w i 0 ≤ L .numbers) →
@@ -131,7 +131,7 @@ module _ (L : Limits) where
     unfolding logged put same
     kept-logged k p l e =
         let w = controllerForm (form L σ e) c h in
-        kept-known (put σ (StableCount c) k) c c h h _ _ (number-le fit σ e c k (omega (arith, w .live-le))) (kept-stable σ c h k p l e)
+        kept-word (put σ (StableCount c) k) c c h h (Known c c _) _ refl refl (number-le fit σ e c k (omega (arith, w .live-le))) (kept-stable σ c h k p l e)
 
     -- if any of them are not stable
     pub kept-loggedTo : (k : ℕ) → k ≤ σ (LiveCount c) → inForm L σ ≡ true → inForm L (loggedTo σ c k) ≡ true

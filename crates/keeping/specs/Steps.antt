@@ -27,7 +27,7 @@ use Rattle.laws.specs.Facts.{Form, form, below-8, controllerForm, placeForm, me
 use Rattle.laws.specs.Allowed.{openAllowed, degreeAllowed, sendAllowed, messageAllowed, releaseAllowed, logAllowed, checkpointAllowed, tellAllowed, crashAllowed, hearAllowed, gapAllowed}
 use Rattle.laws.specs.Records.{length-merged}
 use Rattle.keeping.specs.InRange.{held-ok, dropped-ok, filtered-ok, merged-ok}
-use Rattle.keeping.specs.Changes.{Fitting, number-is, number-le, logged-size, logged-word, kept-gap, kept-degree, kept-known, kept-end, kept-row, kept-logged, kept-loggedTo, kept-checkpointed, kept-capped}
+use Rattle.keeping.specs.Changes.{Fitting, number-is, number-le, logged-size, logged-word, kept-gap, kept-degree, kept-word, kept-row, kept-logged, kept-loggedTo, kept-checkpointed, kept-capped}
 use Rattle.keeping.specs.Messages.{kept-state, kept-causes, kept-dropHeld, kept-letOut, kept-posted}
 use Rattle.keeping.specs.Chains.{kept-added, kept-restarted}
 use Rattle.keeping.specs.Opening.{form-open}
@@ -143,7 +143,7 @@ module _ (L : Limits) where
           let h = a .controller-lt in
           let k = controllerForm facts c h in
           kept-removed _ c (σ (StableCount c)) h (k .stable-pos) (k .stable-le) (a .room) (a .incarnation-lt)
-          (kept-end L σ c c h h _ _ (number-le L fit σ e c (σ (StableCount c)) (omega (arith, a .room))) e))
+          (kept-word L σ c c h h (End c c _) _ refl refl (number-le L fit σ e c (σ (StableCount c)) (omega (arith, a .room))) e))
 
       -- H
       kept-stepHear : (hearer owner i : ℕ) → In (stepHear σ hearer owner i .left)
@@ -156,7 +156,7 @@ module _ (L : Limits) where
           let end = end-le facts owner owner i l l (omega (arith, a .incarnation-le)) in
           let known = known-le facts hearer owner i (below-8 facts hearer h) l (omega (arith, a .incarnation-le)) in
           let heard = noted σ hearer owner i in
-          let good : In heard = kept-known L (put σ (End hearer owner i) (σ (End owner owner i))) hearer owner h o i _ (omega arith) (kept-end L σ hearer owner h o i _ end e) in
+          let good : In heard = kept-word L (put σ (End hearer owner i) (σ (End owner owner i))) hearer owner h o (Known hearer owner i) _ refl refl (omega arith) (kept-word L σ hearer owner h o (End hearer owner i) _ refl refl end e) in
           let k = lowestCondemned heard hearer in
           cond-ind (λ (o : After). In (o .left)) (σ (LiveCount hearer) ≤? k) (λ _. good)
           (λ u. cond-ind (λ (o : After). In (o .left)) (lastIncarnation ≤? σ (Incarnation hearer)) (λ _. e)
