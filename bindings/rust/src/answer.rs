@@ -96,6 +96,7 @@ impl Mask {
 
 /// What came of a step, by the number that its call returned and the values that it wrote. None where
 /// that is no answer: another number, or values that aren't zero after its own.
+#[inline]
 pub(crate) fn read(number: u32, values: [u32; VALUE_WORDS]) -> Option<Result<Answer, Refusal>> {
     let answer = match (number, values) {
         (returned::DONE, [0, 0, 0, 0, 0, 0]) => Answer::Done,

@@ -120,6 +120,7 @@ pub use table::Table;
 ///
 /// # Panics
 /// If what comes back is no answer: the linked library is of another version then.
+#[inline]
 pub fn step(words: &mut [u32], ledger: &mut [u32], step: Step) -> Result<Answer, Refusal> {
     let (letter, numbers) = step.lettered();
     // No value is what stood here before, so a word that the call left out would be noticed.

@@ -99,6 +99,7 @@ extern "C" {
 /// assert_eq!(called(u32::from(b'O')), returned::DONE);
 /// assert_eq!(called(u32::from(b'Q')), returned::UNKNOWN_LETTER);
 /// ```
+#[inline]
 pub fn call(
     table: &mut [u32],
     ledger: &mut [u32],

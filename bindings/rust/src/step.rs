@@ -86,6 +86,7 @@ pub enum Step {
 
 impl Step {
     /// The step as the C interface takes it: its letter, and its numbers with zeros after them.
+    #[inline]
     pub fn lettered(self) -> (u8, [u32; 4]) {
         match self {
             Step::Open { n, degree } => (b'O', [n, degree, 0, 0]),
@@ -108,6 +109,7 @@ impl Step {
             } => (b'H', [hearer, crashed, incarnation, 0]),
         }
     }
+
     /// The words of the step in a list of the C interface.
     pub fn listed(self) -> [u32; STEP_WORDS] {
         let (letter, [a, b, c, d]) = self.lettered();
