@@ -16,11 +16,12 @@ use Rattle.rules.specs.Refusal.{LENGTH}
 use Rattle.rules.specs.Ledger.{blankLedger}
 use Rattle.rules.specs.Steps.{AfterBoth, refusingBoth, openHouse, openRefusals, stepOpen}
 use Rattle.rules.specs.Step.{perform, stepOn, OutBoth, writtenBoth, lent, step, Call, asks, stepCall}
-use Rattle.rules.specs.declared.Answer.the-variants.{Done, Refused}
+use Rattle.rules.specs.declared.Answer.the-variants.{Done}
 use Rattle.rules.specs.declared.Command.{Command}
 use Rattle.rules.specs.declared.Command.the-variants.{Open}
 use Rattle.model.specs.Model.{Model, openModel}
 use Rattle.laws.specs.Allowed.{openAllowed}
+use Rattle.laws.specs.Answering.{not-done}
 use Rattle.image.specs.Image.{image}
 use Rattle.image.specs.Open.{image-opened}
 use Rattle.image.specs.Outcome as O
@@ -65,10 +66,6 @@ pub record Opened (n k : ℕ) (o : OutBoth) : Type 0 where
   pub table-is : o .table ≡ words (openHouse n k)
   pub ledger-is : o .ledger ≡ blankLedger house
   pub model-is : modelOf (o .table) ≡ openModel n k
-
--- a refusal is not `done`
-not-done : {A : Type 0} (number : ℕ) → Refused number ≡ Done → A
-not-done number e = absurd (let z : _≡_ {A = ℕ} 0 1 = cc in omega arith)
 
 -- what a done opening leaves
 pub opening-done : (t g : List ℕ) (n k : ℕ) → step t g (Open n k) .answer ≡ Done → Opened n k (step t g (Open n k))

@@ -8,7 +8,7 @@ use lib.ListN.{length, set}
 use borrow.Author.Tests.{eqb-true, eq-eqb, ne-eqb}
 use Rattle.base.specs.Choice.{_==_, le?}
 use Rattle.table.specs.Field.{Field, State, OfHead, OfController, Known, End, OfPlace, OfMessage, Size, Incarnation, LiveCount, StableCount, Receiver, desk, same}
-use Rattle.table.specs.Change.{put, put-same, put-other, putPart, clearPlaces, clear-ind}
+use Rattle.table.specs.Change.{put, put-same, put-other, putPart, clearPlaces, clear-ind, differs}
 use Rattle.table.specs.Layout.{controllers, placeWords}
 use Rattle.table.specs.Numbering.{numberOf, used, lastGiven, Numbered, numbers-kept, numbering}
 use Rattle.rules.specs.Limits.{Limits, lastIncarnation}
@@ -96,10 +96,6 @@ kept-chain L σ τ c k h w e =
     passes (OfPlace a p j) t q = (λ d. placeOk L (size d) τ (eqb-true a c q d) p) ∙ places p (t .1)
     passes (OfMessage r j) t q = absurd (true≢false (sym q))
 
--- a word of something else is none of these
-away : (c : ℕ) (f g : Field) → ofChain c f ≡ true → ofChain c g ≡ false → g ≡ f → ⊥
-away c f g t q z = true≢false (sym t ∙ ap (ofChain c) (sym z) ∙ q)
-
 -- a delivery's chain, and that of a start, both before a word of anything else is written
 abbrev added : State → ℕ → ℕ → Vector → State
 added σ c m v =
@@ -168,7 +164,7 @@ module _ (L : Limits) (fit : Fitting L) (σ : State) (e : inForm L σ ≡ true) 
 
       others : (g : Field) → ofChain c g ≡ false → τ g ≡ σ g
       others g q =
-          put-other ρ (LiveCount c) g (live + 1) (away c (LiveCount c) g own q) ∙ part-other σ (OfPlace c live 0) g 0 words (λ j _. away c (OfPlace c live (0 + j)) g own q)
+          put-other ρ (LiveCount c) g (live + 1) (differs (ofChain c) (LiveCount c) g own q) ∙ part-other σ (OfPlace c live 0) g 0 words (λ j _. differs (ofChain c) (OfPlace c live (0 + j)) g own q)
 
       numbers : Numbered τ σ
       numbers = numbers-kept τ σ (chain-numbers σ τ c others)
@@ -237,9 +233,9 @@ module _ (L : Limits) (fit : Fitting L) (σ : State) (e : inForm L σ ≡ true) 
 
       others : (g : Field) → ofChain c g ≡ false → τ g ≡ σ g
       others g n =
-          put-other (put (put ρ (Incarnation c) i) (LiveCount c) (k + 1)) (StableCount c) g (k + 1) (away c (StableCount c) g own n)
-          ∙ put-other (put ρ (Incarnation c) i) (LiveCount c) g (k + 1) (away c (LiveCount c) g own n) ∙ put-other ρ (Incarnation c) g i (away c (Incarnation c) g own n)
-          ∙ part-other freed (OfPlace c k 0) g 0 words (λ j _. away c (OfPlace c k (0 + j)) g own n)
+          put-other (put (put ρ (Incarnation c) i) (LiveCount c) (k + 1)) (StableCount c) g (k + 1) (differs (ofChain c) (StableCount c) g own n)
+          ∙ put-other (put ρ (Incarnation c) i) (LiveCount c) g (k + 1) (differs (ofChain c) (LiveCount c) g own n) ∙ put-other ρ (Incarnation c) g i (differs (ofChain c) (Incarnation c) g own n)
+          ∙ part-other freed (OfPlace c k 0) g 0 words (λ j _. differs (ofChain c) (OfPlace c k (0 + j)) g own n)
           ∙ clear-ind (λ g y. ofChain c g ≡ false → y ≡ σ g) σ c k (σ (LiveCount c)) (λ y w _ _ n. absurd (true≢false (sym own ∙ n))) (λ g _ _. refl) g n
 
       numbers : Numbered τ σ

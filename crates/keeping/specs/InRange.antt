@@ -1,7 +1,7 @@
 -- A record whose words are in their ranges passes its test: the way back of `laws/specs/Facts.antt`. Vectors that the rules make of
 -- vectors in form are in form.
 use mathlib.Core.Path.{_≡_, refl, sym, ap, ap₂, _∙_, subst}
-use mathlib.Core.Bool.{Bool, true, false, cond, _&&_, _||_}
+use mathlib.Core.Bool.{Bool, true, false, cond, _&&_, _||_, or-true}
 use mathlib.Core.List.{[], _∷_}
 use Prim.Native.Nat.{ℕ, _+_, _*_, _≤_, _<_}
 use native.Mathlib.Omega.{arith}
@@ -145,12 +145,8 @@ module _ (L : Limits) (n : ℕ) where
       let e₁ = eq-eqb _ _ num in
       let e₂ = le-leb _ _ cause in
       let e₃ = le-leb _ _ flag in
-      let e₄ : ((0 <? p) || (σ (Flag c p) == 1)) ≡ true = le? 1 p (λ l. rw (lt-ltb 0 p l)) (λ l. last (0 <? p) (eq-eqb _ 1 (start (omega arith)))) in
+      let e₄ : ((0 <? p) || (σ (Flag c p) == 1)) ≡ true = le? 1 p (λ l. rw (lt-ltb 0 p l)) (λ l. ap (λ b. (0 <? p) || b) (eq-eqb (σ (Flag c p)) 1 (start (omega arith))) ∙ or-true (0 <? p)) in
       λ d. cond (o d) (allOf (e₀ d ∷ e₁ d ∷ e₂ d ∷ e₃ d ∷ e₄ d ∷ vector d ∷ [])) (zeros placeWords (λ (k : ℕ). σ (OfPlace c p k)))
-    where
-      last : (b : Bool) {x : Bool} → x ≡ true → (b || x) ≡ true
-      last true e = refl
-      last false e = e
 
   pub free-ok : (σ : State) (c p : ℕ) → σ (LiveCount c) ≤ p → ((k : ℕ) → k < placeWords → σ (OfPlace c p k) ≡ 0) → placeOk L n σ c p ≡ true
   unfolding placeOk

@@ -2,10 +2,11 @@
 use mathlib.Core.Path.{_≡_, refl, sym, ap, _∙_, subst}
 use mathlib.Core.Bool.{Bool, true, false, _||_, true≢false}
 use mathlib.Core.List.{List, []}
+use mathlib.Core.Logic.{_≢_}
 use Prim.Native.Nat.{ℕ, _+_, _-_, _*_, _≤_, _<_}
 use native.Mathlib.Omega.{arith}
 use lib.ListN.{length, getD}
-use borrow.Author.Tests.{eqb-true, ltb-true, ne-eqb, not-true}
+use borrow.Author.Tests.{eqb-true, eqb-false, ltb-true, ne-eqb, not-true}
 use Rattle.base.specs.Choice.{_==_, _<?_, and-left, and-right, cond-ind, le?}
 use Rattle.base.specs.Ranges.{allb}
 use Rattle.base.specs.Lists.{getD-tab}
@@ -70,8 +71,8 @@ module _ (L : Limits) where
       others (OfMessage r k) q = absurd (true≢false q)
 
       -- all words of a message but its state
-      rest-word : (r k : ℕ) → 1 ≤ k → putStates σ s (OfMessage r k) ≡ σ (OfMessage r k)
-      rest-word r k l = rw (ne-eqb k 0 (omega arith))
+      rest-word : (r k : ℕ) → k ≢ word (MessageState r) → putStates σ s (OfMessage r k) ≡ σ (OfMessage r k)
+      rest-word r k ne = rw (ne-eqb k (word (MessageState r)) ne)
 
       -- its vector stays
       vector : (r : ℕ) → messageVector σ r ≡ messageVector (putStates σ s) r
@@ -85,11 +86,15 @@ module _ (L : Limits) where
           message-ok L (σ Size) (putStates σ s) r (subst (λ n. r < n) (sym (numbers-states σ s .used-same)) l) (ok r l) (w .sender-lt) (w .receiver-ok) (w .incarnation-le) (w .number-pos) (w .number-le)
           (subst (λ v. vectorOk L (σ Size) v ≡ true) (vector r) (w .vector-ok))
 
+      unsent-word : (r k : ℕ) → r < L .messages → used σ ≤ r → k < messageWords → (b : Bool) → (k == word (MessageState r)) ≡ b → putStates σ s (OfMessage r k) ≡ 0
+      unsent-word r k rl l kl true q =
+          ap (λ k. putStates σ s (OfMessage r k)) (eqb-true k (word (MessageState r)) q) ∙ rest r rl l ∙ no-message f r (word (MessageState r)) rl l (omega arith)
+      unsent-word r k rl l kl false q = rest-word r k (eqb-false k (word (MessageState r)) q) ∙ no-message f r k rl l kl
+
       unsent-ok : (r : ℕ) → r < L .messages → used σ ≤ r → messageOk L (σ Size) (putStates σ s) r ≡ true
       unsent-ok r rl l =
           unused-ok L (σ Size) (putStates σ s) r (subst (λ n. n ≤ r) (sym (numbers-states σ s .used-same)) l)
-          (λ k kl. le? 1 k (λ p. rest-word r k p ∙ no-message f r k rl l kl)
-          (λ p. let z : 0 ≡ k = omega arith in subst (λ k. putStates σ s (OfMessage r k) ≡ 0) z (rest r rl l ∙ no-message f r 0 rl l (omega arith))))
+          (λ k kl. unsent-word r k rl l kl (k == word (MessageState r)) refl)
 
       passes : (g : Field) → Tested L g → inMessages (home g) ≡ true → okAt L (σ Size) (putStates σ s) g ≡ true
       passes (OfHead k) v q = absurd (true≢false (sym q))
@@ -129,7 +134,7 @@ module _ (L : Limits) where
       unsent : (r : ℕ) → r < L .messages → used σ ≤ r → orphaned σ c (numberOf σ c k) r ≡ true → ⊥
       unsent r rl l q =
           let held = eqb-true (σ (MessageState r)) stateHeld (and-left (σ (MessageState r) == stateHeld) _ q) in
-          omega (arith, no-message (form L σ e) r 0 rl l (omega arith))
+          omega (arith, no-message (form L σ e) r (word (MessageState r)) rl l (omega arith))
 
   -- another vector
   pub kept-vector : (σ : State) (r : ℕ) (v : Vector) → r < used σ → vectorOk L (σ Size) v ≡ true → inForm L σ ≡ true → inForm L (putPart σ (OfMessage r 0) messageHead (flat v)) ≡ true

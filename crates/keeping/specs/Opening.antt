@@ -9,7 +9,7 @@ use borrow.Author.Tests.{eqb-true, ltb-true, lt-ltb, le-ltb, ne-eqb}
 use Rattle.base.specs.Choice.{_==_, _<?_, and-left, and-right, cond-ind, le?}
 use Rattle.base.specs.Ranges.{allb}
 use Rattle.base.specs.Lists.{getD-tab}
-use Rattle.table.specs.Field.{Field, State, OfHead, OfController, Known, End, OfPlace, OfMessage, Size, LiveCount, word}
+use Rattle.table.specs.Field.{Field, State, OfHead, OfController, Known, End, OfPlace, OfMessage, Size, Degree, Incarnation, LiveCount, StableCount, word}
 use Rattle.table.specs.Layout.{controllers}
 use Rattle.table.specs.Numbering.{number-fresh, none-used}
 use Rattle.rules.specs.Limits.{Limits}
@@ -31,7 +31,8 @@ module _ (L : Limits) (fit : Fitting L) (n k : ℕ) (w : OpenAllowed n k) where
   controller c =
       le? (c + 1) n
       (λ h. let at : (j : ℕ) → σ (OfController c j) ≡ getD (firstController k) j 0 = λ j. rw (lt-ltb c n (omega arith)) in
-      controller-ok L n σ c (omega arith) (omega (arith, at 0, w .degree-le)) (omega (arith, at 1)) (omega (arith, at 2)) (omega (arith, at 2, fit .first)) (omega (arith, at 3)) (omega (arith, at 2, at 3)))
+      controller-ok L n σ c (omega arith) (omega (arith, at (word (Degree c)), w .degree-le)) (omega (arith, at (word (Incarnation c)))) (omega (arith, at (word (LiveCount c))))
+      (omega (arith, at (word (LiveCount c)), fit .first)) (omega (arith, at (word (StableCount c)))) (omega (arith, at (word (LiveCount c)), at (word (StableCount c)))))
       (λ h. no-controller-ok L n σ c (omega arith) (λ j _. rw (le-ltb c n (omega arith))))
 
   -- each knows its own first interval

@@ -26,6 +26,7 @@ use Rattle.rules.specs.declared.Command.the-variants.{Open, SetDegree, Send, Re
 use Rattle.laws.specs.Facts.{Form, form, below-8, controllerForm, placeForm, messageForm, released-lt, known-le, end-le}
 use Rattle.laws.specs.Allowed.{openAllowed, degreeAllowed, sendAllowed, messageAllowed, releaseAllowed, logAllowed, checkpointAllowed, tellAllowed, crashAllowed, hearAllowed, gapAllowed}
 use Rattle.laws.specs.Records.{length-merged}
+use Rattle.laws.specs.Answering.{not-done}
 use Rattle.keeping.specs.InRange.{held-ok, dropped-ok, filtered-ok, merged-ok}
 use Rattle.keeping.specs.Changes.{Fitting, number-is, number-le, logged-size, logged-word, kept-gap, kept-degree, kept-word, kept-row, kept-logged, kept-loggedTo, kept-checkpointed, kept-capped}
 use Rattle.keeping.specs.Messages.{kept-state, kept-causes, kept-dropHeld, kept-letOut, kept-posted}
@@ -203,4 +204,4 @@ pub form-opened : (L : Limits) → Fitting L → (σ : State) (g : List ℕ) (n 
 unfolding stepOn perform stepOpen refusingBoth
 form-opened L fit σ g n k =
     cond-ind (λ (o : AfterBoth). o .answer ≡ Done → inForm L (o .left) ≡ true) (firstOf (openRefusals L g n k) == 0)
-    (λ q _. form-open L fit n k (openAllowed L g n k (sym (eqb-true (firstOf (openRefusals L g n k)) 0 q)))) (λ _ z. absurd (let z : _≡_ {A = ℕ} 0 1 = cc in omega arith))
+    (λ q _. form-open L fit n k (openAllowed L g n k (sym (eqb-true (firstOf (openRefusals L g n k)) 0 q)))) (λ _. not-done (firstOf (openRefusals L g n k)))

@@ -5,7 +5,6 @@ use mathlib.Core.Bool.{Bool, true, false, not, cond, _&&_, _||_}
 use mathlib.Core.List.{List, [], _∷_}
 use mathlib.Core.Logic.{_≢_}
 use Prim.Native.Nat.{ℕ}
-use native.Mathlib.Omega.{arith}
 use lib.ListN.{length}
 use borrow.Author.Tests.{eq-eqb, eqb-true, eqb-false, leb-false, not-true}
 use Rattle.base.specs.Choice.{_==_, _≤?_, and-left, and-right, or-left, or-right, cond-ind}
@@ -25,7 +24,7 @@ use Rattle.rules.specs.declared.Answer.{Answer}
 use Rattle.rules.specs.declared.Answer.the-variants.{Done, Sent, Released, Held, Delivered, Dropped, Waits, Crashed, Heard, Rolled, Refused}
 use Rattle.rules.specs.declared.Command.{Command}
 use Rattle.rules.specs.declared.Command.the-variants.{Open, SetDegree, Send, Release, Deliver, Log, Checkpoint, Tell, Crash, Hear, SetGap}
-use Rattle.laws.specs.Answering.{Lent}
+use Rattle.laws.specs.Answering.{not-done, Lent}
 use Rattle.laws.specs.Ledger.{ledgerForm, blank-sound, appended-sound}
 use Rattle.keeping.specs.Kept.{kept, opened}
 
@@ -99,6 +98,7 @@ unfolding firstOf
 past-first b number xs e h = rw e (first-other xs h)
 
 module _ (L : Limits) (σ : State) (g : List ℕ) where
+  -- the answer is no refusal for a buffer
   abbrev Let : Answer → Type 0
   Let a = refusedByBuffer a ≡ false
 
@@ -177,17 +177,14 @@ pub sound-opened : (t g : List ℕ) (n k : ℕ) → step t g (Open n k) .answer 
 unfolding step lent stepOn perform stepOpen refusingBoth
 sound-opened t g n k e = record { table = opened t g n k (long e) e; ledger = blank e }
   where
-    other : {A : Type 0} (number : ℕ) → Refused number ≡ Done → A
-    other number z = absurd (let w : _≡_ {A = ℕ} 0 1 = cc in omega arith)
-
     long : step t g (Open n k) .answer ≡ Done → length t ≡ tableWords
-    long = cond-ind (λ (o : OutBoth). o .answer ≡ Done → length t ≡ tableWords) (length t == tableWords) (λ l _. eqb-true (length t) tableWords l) (λ _. other LENGTH)
+    long = cond-ind (λ (o : OutBoth). o .answer ≡ Done → length t ≡ tableWords) (length t == tableWords) (λ l _. eqb-true (length t) tableWords l) (λ _. not-done LENGTH)
 
     blank : step t g (Open n k) .answer ≡ Done → ledgerOk house (step t g (Open n k) .ledger) ≡ true
     blank =
         cond-ind (λ (o : OutBoth). o .answer ≡ Done → ledgerOk house (o .ledger) ≡ true) (length t == tableWords)
         (λ _. cond-ind (λ (o : AfterBoth). o .answer ≡ Done → ledgerOk house (o .ledger) ≡ true) (firstOf (openRefusals house g n k) == 0) (λ _ _. blank-sound house)
-        (λ _. other (firstOf (openRefusals house g n k)))) (λ _. other LENGTH)
+        (λ _. not-done (firstOf (openRefusals house g n k)))) (λ _. not-done LENGTH)
 
 -- and no step is refused for one of them
 pub sound-let : (t g : List ℕ) (x : Command) (number : ℕ) → Sound t g → step t g x .answer ≡ Refused number → (number ≢ LENGTH) × (number ≢ FORM) × (number ≢ LEDGER)

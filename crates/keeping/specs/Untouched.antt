@@ -10,7 +10,7 @@ use Rattle.base.specs.Choice.{_==_, _≤?_, _<?_}
 use Rattle.base.specs.Ranges.{allb-ext, allb-get, allb-all}
 use Rattle.base.specs.Cases.{allOf, passed}
 use Rattle.table.specs.Field.{Field, State, OfHead, OfController, Known, End, OfPlace, OfMessage, Size, Degree, Incarnation, LiveCount, StableCount, PlaceIncarnation, PlaceNumber, Cause, Flag, MessageState, Sender, Receiver, SendingIncarnation, SendingNumber, PairIncarnation, PairNumber, MessagePairIncarnation, MessagePairNumber, Gap, desk, word, spareFrom, spareAgain, wordOf, same, same-true, same-refl}
-use Rattle.table.specs.Change.{put, put-other, putPart}
+use Rattle.table.specs.Change.{differs, put, put-other, putPart}
 use Rattle.table.specs.Layout.{controllers, incarnations, headWords, controllerWords, placeWords, messageWords}
 use Rattle.table.specs.Numbering.{numberOf, used, lastGiven, numbering, Numbered, numbers-kept}
 use Rattle.rules.specs.Limits.{Limits, lastIncarnation, lastGap}
@@ -219,7 +219,7 @@ form-one L σ τ f steady others ok =
     (record {
       size = steady Size refl;
       numbers = numbers-kept τ σ (λ g e. steady g (numbering-looked g e));
-      others = λ g e. others g (λ z. true≢false (sym (same-refl (home f)) ∙ ap (λ h. same h (home f)) (sym z) ∙ e));
+      others = λ g e. others g (differs (λ h. same h (home f)) (home f) (home g) (same-refl (home f)) e);
       live = λ c p e. steady (LiveCount c) refl;
       passes = λ g v e. at-one-home L (τ Size) τ g f (same-true (home g) (home f) e) ∙ ok;
     })

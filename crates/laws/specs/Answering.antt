@@ -3,6 +3,7 @@ use mathlib.Core.Path.{_≡_, refl, sym, ap, _∙_}
 use mathlib.Core.Bool.{Bool, true, false, not, cond, _&&_}
 use mathlib.Core.List.{List}
 use Prim.Native.Nat.{ℕ}
+use native.Mathlib.Omega.{arith}
 use lib.ListN.{length}
 use borrow.Author.Tests.{eq-eqb, ne-eqb}
 use Rattle.base.specs.Cases.{Case, firstOf}
@@ -15,8 +16,12 @@ use Rattle.rules.specs.Form.{inForm}
 use Rattle.rules.specs.Steps.{After, refusing, AfterBoth, afterBoth, beside, refusingBoth}
 use Rattle.rules.specs.Step.{Out, out, written, OutBoth, outBoth, writtenBoth, looksAtForm, perform, stepOn, lent, step}
 use Rattle.rules.specs.declared.Answer.{Answer}
-use Rattle.rules.specs.declared.Answer.the-variants.{Refused}
+use Rattle.rules.specs.declared.Answer.the-variants.{Done, Refused}
 use Rattle.rules.specs.declared.Command.{Command}
+
+-- a refusal is not `done`
+pub not-done : {A : Type 0} (number : ℕ) → Refused number ≡ Done → A
+not-done number e = absurd (let z : _≡_ {A = ℕ} 0 1 = cc in omega arith)
 
 -- a lent table that the host's refusals let pass
 pub record Lent (t : List ℕ) : Type 0 where

@@ -6,6 +6,8 @@ use Prim.Native.Nat.{ℕ, zero, suc, _+_, _*_, _/_, _%_}
 use lib.ListN.{length, getD, replicate}
 use Rattle.base.specs.Choice.{_==_}
 use Rattle.base.specs.Ranges.{allb}
+use Rattle.rules.specs.Report.{report}
+use Rattle.rules.specs.declared.Answer.the-variants.{Done}
 use Rattle.reporting.specs.Values.{valueRoom}
 use Rattle.lines.specs.Lines.{stepOf}
 use Rattle.lines.specs.declared.Parsed.{Parsed}
@@ -20,12 +22,12 @@ abbrev pub answerWords : ℕ
 answerWords = 7
 
 -- word k of step i
-abbrev pub wordOf : List ℕ → ℕ → ℕ → ℕ
-wordOf steps i k = getD steps (i * stepWords + k) 0
+abbrev pub stepWord : List ℕ → ℕ → ℕ → ℕ
+stepWord steps i k = getD steps (i * stepWords + k) 0
 
 -- which step it asks for, and whether its letter is known
 abbrev pub askedBy : List ℕ → ℕ → Parsed
-askedBy steps i = stepOf (wordOf steps i 0) (wordOf steps i 1) (wordOf steps i 2) (wordOf steps i 3)
+askedBy steps i = stepOf (stepWord steps i 0) (stepWord steps i 1) (stepWord steps i 2) (stepWord steps i 3)
 
 abbrev pub known : Parsed → Bool
 known (Asks x) = true
@@ -36,11 +38,15 @@ abbrev pub noValues : List ℕ
 noValues = replicate valueRoom 0
 
 abbrev pub callBy : List ℕ → List ℕ → List ℕ → ℕ → Returned
-callBy t g steps i = call t g noValues (wordOf steps i 0) (wordOf steps i 1) (wordOf steps i 2) (wordOf steps i 3) (wordOf steps i 4)
+callBy t g steps i = call t g noValues (stepWord steps i 0) (stepWord steps i 1) (stepWord steps i 2) (stepWord steps i 3) (stepWord steps i 4)
 
 -- what a run returns that is done: the number of the answer `done`
 abbrev pub ranAll : ℕ
 ranAll = 0
+
+pub ran-all-is-done : ranAll ≡ report Done .number
+unfolding report
+ran-all-is-done = refl
 
 -- one step more: on the table and the ledger that those before it left, with its answer behind theirs
 unfoldable pub oneMore : List ℕ → Returned → ℕ → Returned

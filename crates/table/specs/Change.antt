@@ -40,7 +40,7 @@ unfoldable pub putStates : State → (ℕ → ℕ) → State
 putStates σ s g = cond (isState g) (s (owner g)) (σ g)
 
 -- a test that holds of f fails at g: g is not f
-differs : (test : Field → Bool) (f g : Field) → test f ≡ true → test g ≡ false → g ≢ f
+pub differs : (test : Field → Bool) (f g : Field) → test f ≡ true → test g ≡ false → g ≢ f
 differs test f g t e z = absurd (true≢false (sym t ∙ ap test (sym z) ∙ e))
 
 pub put-ind : (P : Field → ℕ → Type 0) (σ : State) (f : Field) (v : ℕ) → P f v → ((g : Field) → g ≢ f → P g (σ g)) →

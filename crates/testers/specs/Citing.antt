@@ -29,6 +29,7 @@ use Rattle.rules.specs.declared.Command.the-variants.{Open, SetDegree, Send, Re
 use Rattle.history.specs.History.{changedAt, answers, valueAt}
 use Rattle.laws.specs.Records.{length-message-record}
 use Rattle.laws.specs.Allowed.{sendAllowed, releaseAllowed}
+use Rattle.laws.specs.Answering.{not-done}
 use Rattle.laws.specs.StepWords.{Writable, every-letOut, every-step}
 use Rattle.history.specs.Demand.{Run, callIn, next, justOpened}
 use Rattle.history.specs.Citations.{Citation, Citations, noCitations, sentWith, letOutTo, citedStep, cited, pairOf, ledgerOf}
@@ -325,8 +326,5 @@ cites-opened t g n k =
     let cites : OutBoth → Type 0 = λ o. o .answer ≡ Done → Cites (state (o .table)) (o .ledger) noCitations in
     let cases = openRefusals house g n k in
     cond-ind cites (length t == tableWords)
-    (λ _. cond-ind (λ (o : AfterBoth). cites (writtenBoth o)) (firstOf cases == 0) (λ _ _. on-words _ (opened-cites n k)) (λ _ e. absurd (refused-not-done e)))
-    (λ _ e. absurd (refused-not-done e))
-  where
-    refused-not-done : {number : ℕ} → Refused number ≡ Done → ⊥
-    refused-not-done e = let z = ap (λ a. report a .number) e in omega arith
+    (λ _. cond-ind (λ (o : AfterBoth). cites (writtenBoth o)) (firstOf cases == 0) (λ _ _. on-words _ (opened-cites n k)) (λ _. not-done (firstOf cases)))
+    (λ _. not-done _)
