@@ -8,5 +8,6 @@ pub mod Answering
 pub mod Mask
 pub mod Kept
 pub mod StepWords
+pub mod Fixed
 pub mod Beside
 pub mod Ledger

@@ -7,13 +7,13 @@ use mathlib.Core.Logic.{_≢_}
 use Prim.Native.Nat.{ℕ, _≤_, _<_}
 use native.Mathlib.Omega.{arith}
 use lib.ListN.{length, getD, length-append}
-use borrow.Author.Tests.{eqb-true, eqb-false, ne-eqb, le-ltb, leb-false, not-true, not-false}
-use Rattle.base.specs.Choice.{_==_, _≤?_, _<?_, cond-ind, and-right, le?}
+use borrow.Author.Tests.{eqb-true, eqb-false, ne-eqb, leb-false, not-true, not-false}
+use Rattle.base.specs.Choice.{_==_, _≤?_, cond-ind, le?}
 use Rattle.base.specs.Cases.{Case, firstOf}
-use Rattle.table.specs.Field.{Field, State, OfHead, OfController, OfPlace, OfMessage, Known, End, Receiver, Payload, MessageState, Sender, word, messageHead, desk}
+use Rattle.table.specs.Field.{Field, State, OfMessage, Receiver, Payload, MessageState, Sender, word, desk}
 use Rattle.table.specs.Layout.{messages, messageWords, tableWords}
 use Rattle.table.specs.Words.{state, words, Agree, agree-words}
-use Rattle.table.specs.Numbering.{used, nextMessage, recordOf, posted, posted-used, posted-new, posted-record, posted-at, posted-kept, posted-missing, numbering, numbers-kept, none-used, used-agree, record-agree}
+use Rattle.table.specs.Numbering.{used, nextMessage, recordOf, posted, posted-used, posted-new, posted-record, posted-at, posted-kept, posted-missing, none-used, used-agree, record-agree}
 use Rattle.rules.specs.Limits.{house, lastEntry}
 use Rattle.rules.specs.Ledger.{countOf, entryOf, appended, blankLedger}
 use Rattle.rules.specs.Refusal.{LENGTH, FORM, LEDGER-USED-UP}
@@ -30,7 +30,8 @@ use Rattle.history.specs.History.{changedAt, answers, valueAt}
 use Rattle.laws.specs.Records.{length-message-record}
 use Rattle.laws.specs.Allowed.{sendAllowed, releaseAllowed}
 use Rattle.laws.specs.Answering.{not-done}
-use Rattle.laws.specs.StepWords.{Writable, every-letOut, every-step}
+use Rattle.laws.specs.StepWords.{every-letOut}
+use Rattle.laws.specs.Fixed.{Fixed, numbers-fixed, fixed-writable, plain, fixed-step}
 use Rattle.history.specs.Demand.{Run, callIn, next, justOpened}
 use Rattle.history.specs.Citations.{Citation, Citations, noCitations, sentWith, letOutTo, citedStep, cited, pairOf, ledgerOf}
 use Rattle.testers.specs.Ledgers.{count-ledger, ledger-none, ledger-more}
@@ -54,52 +55,16 @@ named-agree σ τ q e h =
       payload = λ m l. let r = record-agree σ τ e m room in e (Payload (recordOf σ m)) (omega arith, omega arith) ∙ ap (λ r. τ (Payload r)) r ∙ h .payload m (omega arith);
     }
 
--- the words that no step but O and S writes: the head but for the gap, and what a message's record has between its state and its vector
-abbrev fixed : Field → Bool
-fixed (OfHead k) = numbering (OfHead k)
-fixed (OfController c k) = false
-fixed (Known holder owner i) = false
-fixed (End holder owner i) = false
-fixed (OfPlace c p k) = false
-fixed (OfMessage r k) = (word (MessageState r) <? k) && (k <? messageHead)
-
-numbering-fixed : (f : Field) → numbering f ≡ true → fixed f ≡ true
-numbering-fixed (OfHead k) e = e
-numbering-fixed (OfController c k) e = e
-numbering-fixed (Known holder owner i) e = e
-numbering-fixed (End holder owner i) e = e
-numbering-fixed (OfPlace c p k) e = e
-numbering-fixed (OfMessage r k) e = absurd (true≢false (sym e))
-
--- a change that leaves them leaves receivers and payloads
-named-kept : (σ τ : State) (q : Citations) → ((f : Field) → fixed f ≡ true → τ f ≡ σ f) → Named σ q → Named τ q
+-- a change that leaves the words that no step but O and S writes leaves receivers and payloads
+named-kept : (σ τ : State) (q : Citations) → ((f : Field) → Fixed σ f (τ f)) → Named σ q → Named τ q
 named-kept σ τ q h n =
-    let k = numbers-kept τ σ (λ f e. h f (numbering-fixed f e)) in
+    let k = numbers-fixed σ τ h in
     let u = k .used-same in
     let rm = n .room in
     record {
       room = omega arith;
       receiver = λ m l. let r = k .record-same m in h (Receiver (recordOf τ m)) refl ∙ ap (λ r. σ (Receiver r)) r ∙ n .receiver m (omega arith);
       payload = λ m l. let r = k .record-same m in h (Payload (recordOf τ m)) refl ∙ ap (λ r. σ (Payload r)) r ∙ n .payload m (omega arith);
-    }
-
--- the steps other than O and S leave them
-abbrev Kept : State → Field → ℕ → Type 0
-Kept σ g x = fixed g ≡ true → x ≡ σ g
-
-kept-writable : (σ : State) → Writable (Kept σ)
-kept-writable σ =
-    record {
-      gap = λ x e. absurd (true≢false (sym e));
-      controller = λ c k x e. absurd (true≢false (sym e));
-      known = λ holder owner i x e. absurd (true≢false (sym e));
-      end = λ holder owner i x e. absurd (true≢false (sym e));
-      place = λ c p k x e. absurd (true≢false (sym e));
-      vector = λ r k x l e. absurd (true≢false (sym (and-right (word (MessageState r) <? k) _ e) ∙ le-ltb k messageHead l));
-      released = λ r e. absurd (true≢false (sym e));
-      delivered = λ r e. absurd (true≢false (sym e));
-      dropped = λ r e. absurd (true≢false (sym e));
-      published = λ r e. absurd (true≢false (sym e));
     }
 
 -- S: a message put into its record
@@ -135,20 +100,6 @@ pub record Cites (σ : State) (g : List ℕ) (q : Citations) : Type 0 where
   pub few : length (q .published) ≤ lastEntry
   pub ledger-is : g ≡ ledgerOf (q .published)
 
--- neither O nor S
-abbrev plain : Command → Bool
-plain (Open n k) = false
-plain (SetDegree c k) = true
-plain (Send s r p) = false
-plain (Release m) = true
-plain (Deliver m) = true
-plain (Log c n) = true
-plain (Checkpoint c) = true
-plain (Tell a b) = true
-plain (Crash c) = true
-plain (Hear b a i) = true
-plain (SetGap n) = true
-
 -- a refused step feeds nothing
 cited-refused : (x : Command) (number : ℕ) (q : Citations) → citedStep x (Refused number) q ≡ q
 unfolding citedStep answers report
@@ -179,7 +130,7 @@ module _ (σ : State) (g : List ℕ) (q : Citations) (c : Cites σ g q) where
   goes-refused x number = subst (Cites σ g) (sym (cited-refused x number q)) c
 
   -- a step that leaves receivers, payloads and the ledger, and feeds nothing
-  goes-beside : (x : Command) (o : AfterBoth) → ((f : Field) → Kept σ f (o .left f)) → o .ledger ≡ g → citedStep x (o .answer) q ≡ q → Goes x o
+  goes-beside : (x : Command) (o : AfterBoth) → ((f : Field) → Fixed σ f (o .left f)) → o .ledger ≡ g → citedStep x (o .answer) q ≡ q → Goes x o
   goes-beside x o h e n =
       subst (Cites (o .left) (o .ledger)) (sym n) (record { named = named-kept σ (o .left) q h (c .named); few = c .few; ledger-is = e ∙ c .ledger-is })
 
@@ -206,10 +157,10 @@ module _ (σ : State) (g : List ℕ) (q : Citations) (c : Cites σ g q) where
     unfolding letOutTo
     published-as b e = ap (λ b. q .published ++ cond b (citation ∷ []) []) (ap (λ x. x == desk) (sym (c .named .receiver m l)) ∙ e)
 
-    let-named : (v : Vector) (st : ℕ) → Kept σ (MessageState r) st → Named (letOut σ r v st) (letOutTo q m)
+    let-named : (v : Vector) (st : ℕ) → Fixed σ (MessageState r) st → Named (letOut σ r v st) (letOutTo q m)
     unfolding letOutTo
     let-named v st k =
-        let n = named-kept σ (letOut σ r v st) q (every-letOut (Kept σ) (kept-writable σ) r st v k (λ f _. refl)) (c .named) in
+        let n = named-kept σ (letOut σ r v st) q (every-letOut (Fixed σ) (fixed-writable σ) r st v k (λ f _. refl)) (c .named) in
         record { room = n .room; receiver = n .receiver; payload = n .payload }
 
     -- to a controller
@@ -267,8 +218,7 @@ module _ (σ : State) (g : List ℕ) (q : Citations) (c : Cites σ g q) where
   goes-other : (x : Command) → plain x ≡ true → perform house σ g x .ledger ≡ g → ((a : Answer) → citedStep x a q ≡ q) → Goes x (stepOn house σ g x)
   unfolding stepOn
   goes-other x p e n =
-      goes-beside x (stepOn house σ g x)
-      (every-step (Kept σ) (kept-writable σ) σ (λ f _. refl) house g x (λ i k z. absurd (true≢false (sym p ∙ ap plain z))) (λ _ _ _ z. absurd (true≢false (sym p ∙ ap plain z))))
+      goes-beside x (stepOn house σ g x) (fixed-step house σ g x p)
       (cond-ind (λ (o : AfterBoth). o .ledger ≡ g) (looksAtForm x && not (inForm house σ)) (λ _. refl) (λ _. e)) (n _)
 
   -- every step but an opening that is done
