@@ -34,10 +34,11 @@ use Rattle.history.specs.Examples.{ListingLine}
 use Rattle.image.specs.Mask.{count}
 use Rattle.image.specs.Tables.{opening-done}
 use Rattle.laws.specs.Beside.{looksAtLedger}
-use Rattle.keeping.specs.Unrefused.{Sound, sound-step, sound-opened, sound-let}
+use Rattle.keeping.specs.Unrefused.{sound-let}
 use Rattle.demand.specs.Demanded.{demand-3}
 use Rattle.demand.specs.Beyond.{ledger-cites}
 use Rattle.demand.specs.Ceiled.{ceiling}
+use Rattle.demand.specs.InForm.{sound-after}
 use Rattle.testers.specs.StepSame.{same-written, step-words}
 use Rattle.testers.specs.Refused.{keeps-refused}
 use Rattle.testers.specs.NoneLost.{none-lost}
@@ -230,24 +231,16 @@ no-letter-sets-the-gap = no-letter
 pub no-line-sets-the-gap : (line : List ℕ) (q : ℕ) → parse line ≢ Asks (SetGap q)
 no-line-sets-the-gap = no-line
 
--- along a list both buffers stay in form
-sound-along : (s : Run) (l : List Call) → Sound (s .table) (s .ledger) → Sound (runs s l .table) (runs s l .ledger)
-unfolding runs next stepCall
-sound-along s [] h = h
-sound-along s (asks x ∷ l) h = sound-along (next (asks x) s) l (sound-step (s .table) (s .ledger) x h)
-
 -- 13. A house in form stays in form: from an opening that is done, no call of any list is refused for its buffers, with 1 (the table's
 -- length), 2 (its form) or 14 (the ledger). Whatever calls stand before it, openings too, are done or refused as they may be.
 pub never-refused-for-its-buffers : (t g : List ℕ) (n k : ℕ) → step t g (Open n k) .answer ≡ Done → (before : List Call) (x : Command) (number : ℕ) →
     stepIn (upTo t g n k before) x .answer ≡ Refused number → (number ≢ LENGTH) × (number ≢ FORM) × (number ≢ LEDGER)
-unfolding justOpened
 never-refused-for-its-buffers t g n k done before x number =
     let r = upTo t g n k before in
-    sound-let (r .table) (r .ledger) x number (sound-along (justOpened t g n k) before (sound-opened t g n k done))
+    sound-let (r .table) (r .ledger) x number (sound-after t g n k done before)
 
 -- and every table of such a list is in form
 pub always-in-form : (t g : List ℕ) (n k : ℕ) → step t g (Open n k) .answer ≡ Done → (l : List Call) →
     let u = upTo t g n k l .table in
     (length u ≡ tableWords) × (inForm house (state u) ≡ true)
-unfolding justOpened
-always-in-form t g n k done l = let s = sound-along (justOpened t g n k) l (sound-opened t g n k done) in (s .table .long, s .table .good)
+always-in-form t g n k done l = let s = sound-after t g n k done l in (s .table .long, s .table .good)

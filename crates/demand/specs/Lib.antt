@@ -1,5 +1,7 @@
 pub mod Demanded
+pub mod Informing
 pub mod Beyond
 pub mod Agreement
 pub mod Ceiled
+pub mod InForm
 pub mod Claims

@@ -3,3 +3,4 @@ pub mod Citations
 pub mod Demand
 pub mod Examples
 pub mod Ceiling
+pub mod Progress

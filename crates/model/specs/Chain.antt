@@ -32,7 +32,7 @@ rest-on : (c : ℕ) (begunIn : ℕ → ℕ) (n : ℕ) (y : Interval) → OnChain
 rest-on c begunIn n y r = record { pos = r .pos; top = omega (arith, r .top); is = r .is }
 
 -- a member of a longer list is its first or one of the rest
-member-cases : (y j : Interval) (l : List Interval) → Is (member y (j ∷ l)) → (y ≡ j) ⊎ Is (member y l)
+pub member-cases : (y j : Interval) (l : List Interval) → Is (member y (j ∷ l)) → (y ≡ j) ⊎ Is (member y l)
 unfolding member
 member-cases y j l m = go (or-cases (sameInterval y j) (member y l) m)
   where
@@ -41,12 +41,12 @@ member-cases y j l m = go (or-cases (sameInterval y j) (member y l) m)
     go (inr e) = inr e
 
 -- the first of a list
-member-head : (y : Interval) (l : List Interval) → Is (member y (y ∷ l))
+pub member-head : (y : Interval) (l : List Interval) → Is (member y (y ∷ l))
 unfolding member
 member-head y l = or-first (sameInterval y y) (member y l) (sameInterval-refl y)
 
 -- one of the rest of a list
-member-tail : (y j : Interval) (l : List Interval) → Is (member y l) → Is (member y (j ∷ l))
+pub member-tail : (y j : Interval) (l : List Interval) → Is (member y l) → Is (member y (j ∷ l))
 unfolding member
 member-tail y j l = or-second (sameInterval y j) (member y l)
 

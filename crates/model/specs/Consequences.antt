@@ -18,7 +18,7 @@ use Rattle.model.specs.Keeping.{Keeps}
 -- what is live
 module _ {n : ℕ} {μ : Model} {h : History} (v : Inv n μ h) (b : ℕ) (below : b < n) where
   -- a member of the chain is a live number of the model
-  on-chain : (y : Interval) → Is (member y (h .chain b)) → OnChain b (μ .controller b .begunIn) (μ .controller b .live) y
+  pub on-chain : (y : Interval) → Is (member y (h .chain b)) → OnChain b (μ .controller b .begunIn) (μ .controller b .live) y
   on-chain y e = member-chain _ _ _ y (rw (v .controller-ok b below .shape .chain-is) at e)
 
   -- a live interval is begun

@@ -18,4 +18,8 @@ pub mod Recovery
 pub mod Close
 pub mod Opening
 pub mod Consequences
+pub mod Paper
+pub mod Securing
+pub mod Informed
 pub mod Runs
+pub mod Stability

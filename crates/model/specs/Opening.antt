@@ -20,7 +20,7 @@ module _ (n k : ℕ) where
   h = opening n k
 
   -- interval (0,1) of each controller is begun, and no other
-  first-only : (y : Interval) → Is (h .begun y) → (y .owner < n) × (y .incarnation ≡ 0) × (y .number ≡ 1)
+  pub first-only : (y : Interval) → Is (h .begun y) → (y .owner < n) × (y .incarnation ≡ 0) × (y .number ≡ 1)
   unfolding opening
   first-only y e =
       let rest = and-right (y .owner <? n) ((y .incarnation == 0) && (y .number == 1)) e in (

@@ -93,6 +93,10 @@ pub record HearsOf (n : ℕ) (μ : Model) (hearer crashed i : ℕ) : Type 0 wher
   pub ended : 1 ≤ μ .controller crashed .ends crashed i
   pub unheard : μ .controller hearer .ends crashed i ≡ 0
 
+-- the hearer is not the controller that crashed, which has heard its own crash
+pub hears-other : {n : ℕ} {μ : Model} {b a i : ℕ} → HearsOf n μ b a i → b ≢ a
+hears-other {μ = μ} {b} {a} {i} O e = let w : μ .controller b .ends a i ≡ μ .controller a .ends a i = rw e in omega (arith, O .ended, O .unheard)
+
 -- the hearer with the end word of that crash noted
 abbrev pub notedController : Model → ℕ → ℕ → ℕ → Controller
 notedController μ hearer crashed i = noteController (μ .controller hearer) crashed i (μ .controller crashed .ends crashed i)
@@ -109,7 +113,7 @@ pub record LowestCondemned (n : ℕ) (k : Controller) (j : ℕ) : Type 0 where
   pub lowest : (x : ℕ) → 2 ≤ x → x ≤ j → Condemned n k (k .vec x) → ⊥
 
 module _ {n : ℕ} {μ : Model} {h : History} (v : Inv n μ h) {b a i : ℕ} (O : HearsOf n μ b a i) where
-  open HearsOf O using (hearer-below, crashed-below, ended, unheard)
+  open HearsOf O using (hearer-below, crashed-below, ended)
 
   -- the controller with the end word noted
   abbrev noted : Controller
@@ -119,17 +123,13 @@ module _ {n : ℕ} {μ : Model} {h : History} (v : Inv n μ h) {b a i : ℕ} (O 
   abbrev heard : History
   heard = hearing h b a i
 
-  -- b is not the controller that crashed, which has heard its own crash
-  other : b ≢ a
-  other e = let w : μ .controller b .ends a i ≡ μ .controller a .ends a i = rw e in omega (arith, ended, unheard)
-
   -- what is marked
   marks : Hears n h b (μ .controller b) a i (μ .controller a .ends a i)
   marks =
       record {
         order = v .history;
         ok = v .controller-ok b hearer-below;
-        other = other;
+        other = hears-other O;
         pos = ended;
         kept =
             let d = v .controller-ok a crashed-below .ended in
@@ -153,7 +153,7 @@ module _ {n : ℕ} {μ : Model} {h : History} (v : Inv n μ h) {b a i : ℕ} (O 
   -- and their end words agree
   controllers-agree : EndsAgree controllers
   unfolding noteController
-  controllers-agree = agree-heard (μ .controller) b noted (v .agree) a i refl other
+  controllers-agree = agree-heard (μ .controller) b noted (v .agree) a i refl (hears-other O)
 
   -- the live interval with number x
   abbrev live : ℕ → Interval
@@ -189,7 +189,7 @@ module _ {n : ℕ} {μ : Model} {h : History} (v : Inv n μ h) {b a i : ℕ} (O 
   -- the hearer's own incarnation has not ended
   not-ended : noted .ends b (noted .incarnation) ≡ 0
   unfolding noteController
-  not-ended = changedAt₂-other (μ .controller b .ends) a i _ b _ (λ p q. other p) ∙ v .settled b hearer-below .not-ended
+  not-ended = changedAt₂-other (μ .controller b .ends) a i _ b _ (λ p q. hears-other O p) ∙ v .settled b hearer-below .not-ended
 
   -- heard: nothing must be undone
   pub keeps-heard : NoneCondemned n (notedController μ b a i) → Keeps n μ h (putController μ b (notedController μ b a i)) (hearing h b a i)
@@ -304,7 +304,7 @@ module _ {n : ℕ} {μ : Model} {h : History} (v : Inv n μ h) {b a i : ℕ} (O 
               heard-back marks c ne y (logged-back logs c y (grown-back (renews-grows restart-after) c y begun r));
           ok = renewed-controller restart-after;
           settled = grown-settled (renews-grows restart-after);
-          agree = agree-heard (μ .controller) b _ (v .agree) a i ends-is other;
+          agree = agree-heard (μ .controller) b _ (v .agree) a i ends-is (hears-other O);
           sending-is = refl;
           receiver-is = refl;
           flags = grown-flags (renews-grows restart-after) kept-flags;

@@ -22,7 +22,7 @@ unfolding renewed
 renewed-old j new none f x l = rw (le-leb x j l)
 
 -- what it gives to the new number
-renewed-new : {A : Type 0} (j : ℕ) (new none : A) (f : ℕ → A) → renewed j new none f (j + 1) ≡ new
+pub renewed-new : {A : Type 0} (j : ℕ) (new none : A) (f : ℕ → A) → renewed j new none f (j + 1) ≡ new
 unfolding renewed
 renewed-new j new none f = rw (lt-leb (j + 1) j (omega arith), eq-eqb (j + 1) (j + 1) refl)
 

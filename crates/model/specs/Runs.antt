@@ -51,7 +51,7 @@ module _ (n : ℕ) (Reads : Run → Model → Type 0) where
     pub lets-out : {r : Run} (s : Holds r) (m echoed mask : ℕ) → stepIn r (Release m) .answer ≡ Released echoed mask → LetsOut (s .model) m mask
 
 -- runs of a list in two parts
-runs-append : (r : Run) (l l′ : List Call) → runs r (l ++ l′) ≡ runs (runs r l) l′
+pub runs-append : (r : Run) (l l′ : List Call) → runs r (l ++ l′) ≡ runs (runs r l) l′
 unfolding runs
 runs-append r [] l′ = refl
 runs-append r (x ∷ l) l′ = runs-append (next x r) l l′
