@@ -1,0 +1,362 @@
+-- What C, T, R and D answer on a table and a ledger in form, in terms of the model.
+use mathlib.Core.Path.{_≡_, refl, sym, ap, _∙_, subst}
+use mathlib.Core.Bool.{Bool, true, false, not, cond, _&&_, and-false}
+use mathlib.Core.List.{List}
+use mathlib.Core.Logic.{_≢_, _⊎_, inl, inr}
+use Prim.Native.Nat.{ℕ, zero, suc, _+_, _≤_, _<_}
+use native.Mathlib.Omega.{arith}
+use lib.Count.{ones, onesIn}
+use lib.ListN.{length}
+use borrow.Author.Tests.{eq-eqb, ne-eqb, leb-true, le-leb, lt-leb, not-false}
+use Rattle.base.specs.Choice.{_==_, _≤?_, _<?_, cond-ind, le?}
+use Rattle.base.specs.Ranges.{anyb-none}
+use Rattle.base.specs.Cases.{Case, firstOf, none, hit, skip}
+use Rattle.table.specs.Field.{State, OfMessage, Size, Known, Degree, Incarnation, LiveCount, StableCount, Flag, MessageState, Sender, Receiver, word, same}
+use Rattle.table.specs.Change.{put, putPart}
+use Rattle.table.specs.Layout.{controllers, messageWords, tableWords}
+use Rattle.table.specs.Words.{state, Agree, agree-words}
+use Rattle.table.specs.Numbering.{numberOf, used, recordOf, number-next, Numbered, numbers-kept, numbers-put, numbers-part, numbers-trans, used-agree, record-agree}
+use Rattle.rules.specs.Limits.{Limits, house}
+use Rattle.rules.specs.Refusal.{FORM, LEDGER, CONTROLLER, MESSAGE, SAME-CONTROLLER, STATE, PLACES-USED-UP, LEDGER-USED-UP}
+use Rattle.rules.specs.Vector.{Vector, empty, pairOf, placeVector, messageVector, filtered, condemned, maskTo, mask, conflictPair, conflict}
+use Rattle.rules.specs.Form.{stateHeld, stateReleased, forDesk, inForm}
+use Rattle.rules.specs.Ledger.{countOf, ledgerOk}
+use Rattle.rules.specs.Shared.{newestPlace, logged, loggedTo, checkpointed}
+use Rattle.rules.specs.Steps.{After, after, AfterBoth, beside, refuse, refusing, refusingBoth, mayGo, messageRefusals, release, releaseRefusals, stepRelease, intervalBegins, deliver, stepDeliver, checkpointRefusals, stepCheckpoint, toldRow, told, tellRefusals, stepTell}
+use Rattle.rules.specs.Step.{perform, stepOn, OutBoth, writtenBoth, lent, step}
+use Rattle.rules.specs.declared.Answer.{Answer}
+use Rattle.rules.specs.declared.Answer.the-variants.{Done, Released, Delivered, Dropped, Refused}
+use Rattle.rules.specs.declared.Command.{Command}
+use Rattle.rules.specs.declared.Command.the-variants.{Release, Deliver, Checkpoint, Tell}
+use Rattle.laws.specs.Facts.{Form, form, messageForm, released-lt}
+use Rattle.keeping.specs.Unrefused.{Sound}
+use Rattle.model.specs.Model.{Vec, full, releasedVec, filtered as filteredFor}
+use Rattle.model.specs.Tests.{fails, passes, eq?}
+use Rattle.model.specs.Vectors.{Condemned}
+use Rattle.image.specs.Image.{vecOf, image}
+use Rattle.image.specs.Controllers.{numbers-loggedTo}
+use Rattle.image.specs.Vectors.{length-message}
+use Rattle.image.specs.Tests.{spared, condemned-for, filtered-is, released-is}
+use Rattle.image.specs.Reads.{message-vec-is}
+use Rattle.image.specs.Tables.{modelOf, sizeOf}
+
+-- EMPTY PAIRS
+-- a pair of the model is empty where that of the words is
+empty-of : (v : Vector) (a : ℕ) → full (vecOf v a) ≡ false → empty (pairOf v a) ≡ true
+unfolding full
+empty-of v a e = not-false (empty (pairOf v a)) e
+
+-- a vector of empty pairs names nobody
+mask-none : (n : ℕ) (v : Vector) → ((a : ℕ) → full (vecOf v a) ≡ false) → maskTo n v ≡ 0
+unfolding maskTo
+mask-none zero v h = refl
+mask-none (suc n) v h = rw (empty-of v n (h n), mask-none n v h)
+
+-- and a delivery does not wait for it
+conflict-empty : (c : ℕ) (v w : Vector) → ((a : ℕ) → full (vecOf w a) ≡ false) → conflict c v w ≡ false
+unfolding conflict conflictPair
+conflict-empty c v w h = anyb-none _ controllers (λ a _. rw (empty-of w a (h a), and-false) (and-false (not (a == c))))
+
+-- a message that names nobody may go, to the desk too
+nobody-goes : (σ : State) (r : ℕ) → mayGo σ r 0 ≡ true
+unfolding mayGo ones onesIn
+nobody-goes σ r = cond-ind (λ b. b ≡ true) (forDesk σ r) (λ _. refl) (λ _. le-leb 0 (σ (Degree (σ (Sender r)))) (omega arith))
+
+-- STATES
+-- where no case applies, the step is done
+pub unrefused : (cases : List Case) (σ : State) (o : After) → 0 ≡ firstOf cases → refusing cases σ o ≡ o
+unfolding refusing
+unrefused cases σ o e = rw (eq-eqb (firstOf cases) 0 (sym e))
+
+-- the same of a step that looks at both buffers
+unrefused-both : (cases : List Case) (σ : State) (g : List ℕ) (o : AfterBoth) → 0 ≡ firstOf cases → refusingBoth cases σ g o ≡ o
+unfolding refusingBoth
+unrefused-both cases σ g o e = rw (eq-eqb (firstOf cases) 0 (sym e))
+
+-- what is let out is published where it is for the desk, and the ledger may be full then
+published : (b full : Bool) (letting refused publishing : AfterBoth) → publishing .answer ≡ letting .answer →
+    cond (not b) letting (cond full refused publishing) .answer ≡ cond (b && full) (refused .answer) (letting .answer)
+published true true _ _ _ e = refl
+published true false _ _ _ e = e
+published false _ _ _ _ e = refl
+
+-- neither refusal by its message applies
+message-let : (σ : State) (r wanted : ℕ) → r < used σ → σ (MessageState r) ≡ wanted → 0 ≡ firstOf (messageRefusals σ r wanted)
+message-let σ r wanted l e = skip _ MESSAGE 0 _ (lt-leb (used σ) r l) (skip _ STATE 0 _ (ap not (eq-eqb (σ (MessageState r)) wanted e)) none)
+
+module _ (L : Limits) (σ : State) (g : List ℕ) (good : inForm L σ ≡ true) where
+  -- what is known of a state in form
+  f : Form L σ
+  f = form L σ good
+
+  -- a step on a state in form is what its rule says
+  pub performed : (x : Command) → stepOn L σ g x ≡ perform L σ g x
+  unfolding stepOn
+  performed x = rw (good, and-false)
+
+  -- C
+  checkpoint-done : (c : ℕ) → c < σ Size → stepOn L σ g (Checkpoint c) .answer ≡ Done
+  unfolding perform stepCheckpoint
+  checkpoint-done c l =
+      ap (λ (o : AfterBoth). o .answer) (performed (Checkpoint c))
+      ∙ ap (λ (o : After). o .answer) (unrefused (checkpointRefusals σ c) σ _ (skip _ CONTROLLER 0 _ (lt-leb (σ Size) c l) none))
+
+  -- T
+  tell-done : (owner holder : ℕ) → owner < σ Size → holder < σ Size → owner ≢ holder → stepOn L σ g (Tell owner holder) .answer ≡ Done
+  unfolding perform stepTell
+  tell-done owner holder ol hl ne =
+      ap (λ (o : AfterBoth). o .answer) (performed (Tell owner holder))
+      ∙ ap (λ (o : After). o .answer) (unrefused (tellRefusals σ owner holder) σ _
+      (skip _ CONTROLLER 0 _ (rw (lt-leb (σ Size) owner ol, lt-leb (σ Size) holder hl)) (skip _ SAME-CONTROLLER 0 _ (ne-eqb owner holder ne) none)))
+
+  module _ (m : ℕ) where
+    -- the record of message m, and its receiver
+    abbrev r : ℕ
+    r = recordOf σ m
+
+    abbrev c : ℕ
+    c = σ (Receiver r)
+
+    -- R: a held message whose filtered vector is empty is let out, unless it is for the desk and the ledger is full
+    release-out : ledgerOk L g ≡ true → r < used σ → σ (MessageState r) ≡ stateHeld → ((a : ℕ) → full (releasedVec (image σ) m a) ≡ false) →
+        stepOn L σ g (Release m) .answer ≡ cond (forDesk σ r && (L .entries ≤? countOf g)) (Refused LEDGER-USED-UP) (Released m 0)
+    unfolding perform stepRelease release mask
+    release-out ok l e h =
+        let v = filtered σ (σ (Sender r)) (messageVector σ r) in
+        let nobody : maskTo controllers v ≡ 0 =
+        mask-none controllers v (subst (λ (w : Vec). (a : ℕ) → full (w a) ≡ false) (sym (released-is σ f m l)) h) in
+        ap (λ (o : AfterBoth). o .answer) (performed (Release m)
+        ∙ unrefused-both (releaseRefusals L σ g r) σ g _ (skip _ LEDGER 0 _ (ap not ok) (message-let σ r stateHeld l e)))
+        ∙ rw (nobody, nobody-goes σ r) (published (forDesk σ r) (L .entries ≤? countOf g) _ _ _ refl)
+
+    -- D: what is neither refused as unknown nor for its state is a released message
+    deliverable : stepOn L σ g (Deliver m) .answer ≢ Refused MESSAGE → stepOn L σ g (Deliver m) .answer ≢ Refused STATE →
+        (r < used σ) × (σ (MessageState r) ≡ stateReleased)
+    unfolding perform stepDeliver refusing
+    deliverable p q =
+        let here : r < used σ = le? (used σ) r (λ u. absurd (p (refused-as MESSAGE refl (hit _ MESSAGE _ (le-leb (used σ) r u))))) (λ u. u) in
+        let unlike : σ (MessageState r) ≢ stateReleased → stepOn L σ g (Deliver m) .answer ≡ Refused STATE =
+        λ ne. refused-as STATE refl (skip _ MESSAGE STATE _ (lt-leb (used σ) r here)
+        (hit _ STATE _ (ap not (ne-eqb (σ (MessageState r)) stateReleased ne)))) in
+        (here, eq? (σ (MessageState r)) stateReleased (λ z. z) (λ ne. absurd (q (unlike ne))))
+      where
+        refused-as : (n : ℕ) → (n == 0) ≡ false → n ≡ firstOf (messageRefusals σ r stateReleased) → stepOn L σ g (Deliver m) .answer ≡ Refused n
+        refused-as n ne e =
+            ap (λ (o : AfterBoth). o .answer) (performed (Deliver m))
+            ∙ ap (λ k. cond (k == 0) (deliver L σ m r) (refuse k σ) .answer) (sym e) ∙ ap (λ b. cond b (deliver L σ m r) (refuse n σ) .answer) ne
+
+    module _ (l : r < used σ) (e : σ (MessageState r) ≡ stateReleased) where
+      -- it is condemned to its receiver
+      abbrev IsCondemned : Type 0
+      IsCondemned = Condemned (σ Size) (image σ .controller c) (image σ .message m .vec)
+
+      -- which is a controller of the house
+      below : c < controllers
+      below = omega (arith, released-lt f r l e, f .size-le)
+
+      -- a released message is delivered as the rule says
+      delivered : stepOn L σ g (Deliver m) .answer ≡ deliver L σ m r .answer
+      unfolding perform stepDeliver
+      delivered =
+          ap (λ (o : AfterBoth). o .answer) (performed (Deliver m))
+          ∙ ap (λ (o : After). o .answer) (unrefused (messageRefusals σ r stateReleased) σ _ (message-let σ r stateReleased l e))
+
+      -- the words say of its vector what the model says: where the model has it condemned, so have the words
+      condemned-true : IsCondemned → condemned σ c (messageVector σ r) ≡ true
+      condemned-true z =
+          passes (condemned σ c (messageVector σ r)) (λ q. spared σ c below (messageVector σ r) (messageForm f r l .vector) (length-message σ r) q
+          (subst (Condemned (σ Size) (image σ .controller c)) (message-vec-is σ m l) z))
+
+      -- and where the words have it condemned, so has the model
+      condemned-model : condemned σ c (messageVector σ r) ≡ true → IsCondemned
+      condemned-model q =
+          subst (Condemned (σ Size) (image σ .controller c)) (sym (message-vec-is σ m l))
+          (condemned-for σ c below (messageVector σ r) (messageForm f r l .vector) (length-message σ r) q)
+
+      -- a condemned message is dropped
+      deliver-drops : IsCondemned → stepOn L σ g (Deliver m) .answer ≡ Dropped m
+      unfolding deliver
+      deliver-drops z = delivered ∙ rw (condemned-true z)
+
+      -- and no other is
+      drops-condemned : stepOn L σ g (Deliver m) .answer ≡ Dropped m → IsCondemned
+      unfolding deliver intervalBegins
+      drops-condemned q = condemned-model (only (sym delivered ∙ q))
+        where
+          only : deliver L σ m r .answer ≡ Dropped m → condemned σ c (messageVector σ r) ≡ true
+          only =
+              let P : After → Type 0 = λ o. o .answer ≡ Dropped m → condemned σ c (messageVector σ r) ≡ true in
+              cond-ind P (condemned σ c (messageVector σ r)) (λ q _. q)
+              (λ _. cond-ind P (conflict c _ _) (λ _ q. absurd (let z : _≡_ {A = ℕ} 0 1 = cc in omega arith))
+              (λ _. cond-ind P (L .places ≤? σ (LiveCount c)) (λ _ q. absurd (let z : _≡_ {A = ℕ} 0 1 = cc in omega arith))
+              (λ _ q. absurd (let z : _≡_ {A = ℕ} 0 1 = cc in omega arith))))
+
+      -- the answer of a delivery, or the refusal where the receiver's places are used up
+      abbrev Goes : Answer → Type 0
+      Goes a =
+          (a ≡ Delivered m (σ (Incarnation c)) (numberOf σ c (σ (LiveCount c)) + 1)) ⊎ ((a ≡ Refused PLACES-USED-UP) × (L .places ≤ σ (LiveCount c)))
+
+      -- so answers D to a message that is not condemned and whose filtered vector is empty
+      deliver-goes : (IsCondemned → ⊥) → ((a : ℕ) → full (filteredFor (image σ .controller c) (image σ .message m .vec) a) ≡ false) →
+          Goes (stepOn L σ g (Deliver m) .answer)
+      unfolding deliver intervalBegins
+      deliver-goes kept h =
+          let v = messageVector σ r in
+          let ours = filtered σ c (placeVector σ c (newestPlace σ c)) in
+          let theirs : vecOf (filtered σ c v) ≡ filteredFor (image σ .controller c) (image σ .message m .vec) =
+          filtered-is σ c below v (messageForm f r l .vector) (length-message σ r)
+          ∙ ap (filteredFor (image σ .controller c)) (sym (message-vec-is σ m l)) in
+          let spares : condemned σ c v ≡ false = fails (condemned σ c v) (λ q. kept (condemned-model q)) in
+          let agrees : conflict c ours (filtered σ c v) ≡ false =
+          conflict-empty c ours (filtered σ c v) (subst (λ (w : Vec). (a : ℕ) → full (w a) ≡ false) (sym theirs) h) in
+          subst Goes (sym delivered)
+          (rw (spares, agrees) (cond-ind (λ (o : After). Goes (o .answer)) (L .places ≤? σ (LiveCount c))
+          (λ q. inr (refl, leb-true (L .places) (σ (LiveCount c)) q))
+          (λ _. inl (ap (Delivered m (σ (Incarnation c))) (number-next σ c (σ (LiveCount c)))))))
+
+-- C and T: they write no word of a message
+pub data Spreads : Command → Type 0 where
+  by-checkpoint : (c : ℕ) → Spreads (Checkpoint c)
+  by-telling : (owner holder : ℕ) → Spreads (Tell owner holder)
+
+-- τ has the messages of σ, numbered alike, in a house of as many controllers
+record Leaves (σ τ : State) : Type 0 where
+  size-same : τ Size ≡ σ Size
+  numbers : Numbered τ σ
+  word-same : (r k : ℕ) → τ (OfMessage r k) ≡ σ (OfMessage r k)
+
+-- a state has its own
+leaves-self : (σ : State) → Leaves σ σ
+leaves-self σ = record { size-same = refl; numbers = numbers-kept σ σ (λ f _. refl); word-same = λ r k. refl }
+
+-- what a checkpoint leaves
+leaves-checkpointed : (σ : State) (c : ℕ) → Leaves σ (checkpointed σ c)
+unfolding checkpointed loggedTo logged put same
+leaves-checkpointed σ c =
+    let more = σ (StableCount c) <? σ (LiveCount c) in
+    record {
+      size-same = cond-ind (λ (τ : State). τ Size ≡ σ Size) more (λ _. refl) (λ _. refl);
+      numbers = numbers-trans _ _ σ (numbers-put _ (Flag c (newestPlace σ c)) _ refl) (numbers-loggedTo σ c (σ (LiveCount c)));
+      word-same = λ r k. cond-ind (λ (τ : State). τ (OfMessage r k) ≡ σ (OfMessage r k)) more (λ _. refl) (λ _. refl);
+    }
+
+-- what telling leaves
+leaves-told : (σ : State) (owner holder : ℕ) → Leaves σ (told σ owner holder)
+unfolding told putPart
+leaves-told σ owner holder =
+    record { size-same = refl; numbers = numbers-part σ (Known holder owner 0) 0 (toldRow σ owner holder) (λ i l. refl); word-same = λ r k. refl }
+
+module _ (L : Limits) (σ : State) (g : List ℕ) where
+  -- the messages are left, and the ledger
+  abbrev Kept : AfterBoth → Type 0
+  Kept o = Leaves σ (o .left) × (o .ledger ≡ g)
+
+  -- a refusal leaves both
+  kept-looked : (cases : List Case) (o : After) → Leaves σ (o .left) →
+      Kept (cond (not (inForm L σ)) (beside (refuse FORM σ) g) (beside (refusing cases σ o) g))
+  unfolding refusing
+  kept-looked cases o h =
+      cond-ind Kept (not (inForm L σ)) (λ _. (leaves-self σ, refl))
+      (λ _. (cond-ind (λ (o : After). Leaves σ (o .left)) (firstOf cases == 0) (λ _. h) (λ _. leaves-self σ), refl))
+
+  -- and so do C and T
+  spread-kept : (x : Command) → Spreads x → Kept (stepOn L σ g x)
+  unfolding stepOn perform stepCheckpoint stepTell
+  spread-kept x (by-checkpoint c) = kept-looked (checkpointRefusals σ c) (after Done (checkpointed σ c)) (leaves-checkpointed σ c)
+  spread-kept x (by-telling owner holder) = kept-looked (tellRefusals σ owner holder) (after Done (told σ owner holder)) (leaves-told σ owner holder)
+
+-- TABLES AND LEDGERS OF WORDS
+-- where message m stands in a table, and its receiver
+abbrev pub recordIn : List ℕ → ℕ → ℕ
+recordIn t m = recordOf (state t) m
+
+abbrev pub receiverIn : List ℕ → ℕ → ℕ
+receiverIn t m = state t (Receiver (recordIn t m))
+
+-- what a step left has the messages of t, and the ledger is still g
+pub record MessagesStay (t g : List ℕ) (o : OutBoth) : Type 0 where
+  pub size-same : sizeOf (o .table) ≡ sizeOf t
+  pub used-same : used (state (o .table)) ≡ used (state t)
+  pub record-same : (m : ℕ) → recordOf (state (o .table)) m ≡ recordOf (state t) m
+  pub word-same : (r k : ℕ) → r < used (state t) → k < messageWords → state (o .table) (OfMessage r k) ≡ state t (OfMessage r k)
+  pub ledger-same : o .ledger ≡ g
+
+-- among them the states
+pub state-stays : {t g : List ℕ} {o : OutBoth} → MessagesStay t g o → (r : ℕ) → r < used (state t) →
+    state (o .table) (MessageState r) ≡ state t (MessageState r)
+state-stays h r l = h .word-same r (word (MessageState r)) l (omega arith)
+
+module _ (t g : List ℕ) (s : Sound t g) where
+  -- the state of the table is in form
+  good : inForm house (state t) ≡ true
+  good = s .table .good
+
+  -- the step on the table is the step on its state
+  on-state : (x : Command) → step t g x ≡ writtenBoth (stepOn house (state t) g x)
+  unfolding step lent
+  on-state x = rw (eq-eqb (length t) tableWords (s .table .long))
+
+  -- and answers the same
+  pub same-answer : (x : Command) → step t g x .answer ≡ stepOn house (state t) g x .answer
+  same-answer x = ap (λ (o : OutBoth). o .answer) (on-state x)
+
+  -- C is done at every controller of the house
+  pub checkpoint-answers : (c : ℕ) → c < sizeOf t → step t g (Checkpoint c) .answer ≡ Done
+  checkpoint-answers c l = same-answer (Checkpoint c) ∙ checkpoint-done house (state t) g good c l
+
+  -- T is done between every two
+  pub tell-answers : (owner holder : ℕ) → owner < sizeOf t → holder < sizeOf t → owner ≢ holder → step t g (Tell owner holder) .answer ≡ Done
+  tell-answers owner holder ol hl ne = same-answer (Tell owner holder) ∙ tell-done house (state t) g good owner holder ol hl ne
+
+  -- C and T leave all messages
+  pub messages-stay : (x : Command) → Spreads x → MessagesStay t g (step t g x)
+  messages-stay x h =
+      let o = stepOn house (state t) g x in
+      let agree : Agree (state (step t g x .table)) (o .left) = agree-words (o .left) (ap (λ (o : OutBoth). o .table) (on-state x)) in
+      let kept = spread-kept house (state t) g x h in
+      let numbers = kept .0 .numbers in
+      let count : used (state (step t g x .table)) ≡ used (state t) = used-agree _ (o .left) agree ∙ numbers .used-same in
+      let room = form house (state t) good .used-le in
+      record {
+        size-same = agree Size (omega arith) ∙ kept .0 .size-same;
+        used-same = count;
+        record-same = λ m. record-agree _ (o .left) agree m (omega arith) ∙ numbers .record-same m;
+        word-same = λ r k l kl. agree (OfMessage r k) (omega arith, kl) ∙ kept .0 .word-same r k;
+        ledger-same = ap (λ (o : OutBoth). o .ledger) (on-state x) ∙ kept .1;
+      }
+
+  module _ (m : ℕ) where
+    -- R lets a held message out whose filtered vector is empty, with mask 0, unless it is for the desk and the ledger is full
+    pub release-answers : recordIn t m < used (state t) → state t (MessageState (recordIn t m)) ≡ stateHeld →
+        ((a : ℕ) → full (releasedVec (modelOf t) m a) ≡ false) →
+        step t g (Release m) .answer ≡ cond (forDesk (state t) (recordIn t m) && (house .entries ≤? countOf g)) (Refused LEDGER-USED-UP) (Released m 0)
+    release-answers l e h = same-answer (Release m) ∙ release-out house (state t) g good m (s .ledger) l e h
+
+    -- a message whose delivery is refused neither as unknown nor for its state is released
+    pub deliverable-is : step t g (Deliver m) .answer ≢ Refused MESSAGE → step t g (Deliver m) .answer ≢ Refused STATE →
+        (recordIn t m < used (state t)) × (state t (MessageState (recordIn t m)) ≡ stateReleased)
+    deliverable-is p q = deliverable house (state t) g good m (λ z. p (same-answer (Deliver m) ∙ z)) (λ z. q (same-answer (Deliver m) ∙ z))
+
+    module _ (l : recordIn t m < used (state t)) (e : state t (MessageState (recordIn t m)) ≡ stateReleased) where
+      -- its receiver is a controller
+      pub receiver-below : receiverIn t m < sizeOf t
+      receiver-below = released-lt (form house (state t) good) (recordIn t m) l e
+
+      -- D drops it where its vector is condemned to the receiver
+      pub delivery-drops : Condemned (sizeOf t) (modelOf t .controller (receiverIn t m)) (modelOf t .message m .vec) →
+          step t g (Deliver m) .answer ≡ Dropped m
+      delivery-drops z = same-answer (Deliver m) ∙ deliver-drops house (state t) g good m l e z
+
+      -- and only there
+      pub dropped-condemned : step t g (Deliver m) .answer ≡ Dropped m →
+          Condemned (sizeOf t) (modelOf t .controller (receiverIn t m)) (modelOf t .message m .vec)
+      dropped-condemned q = drops-condemned house (state t) g good m l e (sym (same-answer (Deliver m)) ∙ q)
+
+      -- D delivers it where it is not condemned and its filtered vector is empty, unless the receiver's places are used up
+      pub delivery-goes : (Condemned (sizeOf t) (modelOf t .controller (receiverIn t m)) (modelOf t .message m .vec) → ⊥) →
+          ((a : ℕ) → full (filteredFor (modelOf t .controller (receiverIn t m)) (modelOf t .message m .vec) a) ≡ false) →
+          (step t g (Deliver m) .answer
+          ≡ Delivered m (state t (Incarnation (receiverIn t m))) (numberOf (state t) (receiverIn t m) (state t (LiveCount (receiverIn t m))) + 1))
+          ⊎ ((step t g (Deliver m) .answer ≡ Refused PLACES-USED-UP) × (house .places ≤ state t (LiveCount (receiverIn t m))))
+      delivery-goes kept h =
+          subst (Goes house (state t) g good m l e) (sym (same-answer (Deliver m))) (deliver-goes house (state t) g good m l e kept h)

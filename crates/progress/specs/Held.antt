@@ -1,0 +1,239 @@
+-- What ends the holding of a message: a release lets it out, or its sender starts anew at or below its sending number. No other step does.
+use mathlib.Core.Path.{_≡_, refl, sym, ap, _∙_, subst}
+use mathlib.Core.Bool.{true, not, _&&_}
+use mathlib.Core.List.{List}
+use mathlib.Core.Logic.{_≢_, _⊎_, inl, inr, ⊎-elim}
+use Prim.Native.Nat.{ℕ, _+_, _-_, _≤_, _<_}
+use native.Mathlib.Decide.{ℕ-discrete}
+use native.Mathlib.Omega.{arith}
+use borrow.Author.Tests.{eqb-true, ltb-true, ne-eqb}
+use Rattle.base.specs.Choice.{_==_, _≤?_, _<?_, cond-ind, and-left, and-right}
+use Rattle.base.specs.Ranges.{anyb-some}
+use Rattle.base.specs.Cases.{Case, firstOf}
+use Rattle.table.specs.Field.{State, End, OfMessage, Size, Incarnation, LiveCount, Cause, MessageState, Sender, SendingNumber, same, messageHead}
+use Rattle.table.specs.Change.{put, put-same, put-other, putPart, clearPlaces, putStates, states-at}
+use Rattle.table.specs.Numbering.{numberOf, used, recordOf, messageOf, number-next, Numbered, numbers-states, numbers-trans, posted-kept}
+use Rattle.rules.specs.Limits.{Limits, lastIncarnation}
+use Rattle.rules.specs.Vector.{Vector, messageVector, flat, filtered, condemned, mask, conflict}
+use Rattle.rules.specs.Form.{stateHeld, stateReleased, stateDropped, statePublished, forDesk, inForm}
+use Rattle.rules.specs.Ledger.{countOf}
+use Rattle.rules.specs.Shared.{capped, loggedTo, causing, causedIn, causesIn, causes, newVector, placed, entered, restarted, orphaned, heldOrDropped, dropHeld, startAnew, removed}
+use Rattle.rules.specs.Steps.{After, AfterBoth, afterBoth, beside, refusing, refusingBoth, stepOpen, openRefusals, sent, stepSend, letOut, mayGo, release, stepRelease, intervalAdded, intervalBegins, deliver, stepDeliver, crashed, stepCrash, noted, lowestCondemned, rolledBack, hear, stepHear}
+use Rattle.rules.specs.Step.{perform, looksAtForm, stepOn}
+use Rattle.rules.specs.declared.Answer.{Answer}
+use Rattle.rules.specs.declared.Answer.the-variants.{Done, Released}
+use Rattle.rules.specs.declared.Command.{Command}
+use Rattle.rules.specs.declared.Command.the-variants.{Open, SetDegree, Send, Release, Deliver, Log, Checkpoint, Tell, Crash, Hear, SetGap}
+use Rattle.laws.specs.Records.{part-other}
+use Rattle.laws.specs.Agree.{live-restarted}
+use Rattle.laws.specs.Allowed.{messageAllowed, crashAllowed, hearAllowed}
+use Rattle.image.specs.Anew.{numbers-restarted}
+use Rattle.progress.specs.Unmoved.{Unmoved, numbers-unmoved, unmoved-put, unmoved-loggedTo, unmoved-capped, unmoved-noted, unmoved-degree, unmoved-log, unmoved-checkpoint, unmoved-tell, unmoved-gap}
+use Rattle.progress.specs.Causes.{NoneCauses, none-unmoved}
+
+-- c starts anew, by a step from σ to τ, with an interval of the number x or a lower one
+pub record Anew (σ τ : State) (c x : ℕ) : Type 0 where
+  pub incarnation-is : τ (Incarnation c) ≡ σ (Incarnation c) + 1
+  pub number-le : numberOf τ c (τ (LiveCount c)) ≤ x
+
+-- what ends the holding of the message in record r, by a step from σ to τ
+pub data Leaves (σ τ : State) (r : ℕ) : Command → Answer → Type 0 where
+  -- a release lets it out
+  let-out : (m mask : ℕ) → recordOf σ m ≡ r → Leaves σ τ r (Release m) (Released m mask)
+  -- its sender starts anew, at or below its sending number
+  undone : (x : Command) (a : Answer) → Anew σ τ (σ (Sender r)) (σ (SendingNumber r)) → Leaves σ τ r x a
+
+-- INTERVALS REMOVED
+-- a held message is not among their causes
+held-causes : (σ : State) (c k : ℕ) → c < σ Size → NoneCauses σ → (r : ℕ) → r < used σ → σ (MessageState r) ≡ stateHeld →
+    causes σ c k (MessageState r) ≡ stateHeld
+unfolding causes causesIn causedIn
+held-causes σ c k cl n r u h =
+    states-at σ _ r
+    ∙ cond-ind (λ x. x ≡ stateHeld) (causedIn σ c k (σ (LiveCount c) - k) r)
+    (λ e. let s = anyb-some (λ (j : ℕ). σ (Cause c (k + j)) == messageOf σ r) (σ (LiveCount c) - k) (and-right (causing σ r) _ e) in
+    absurd (n .not-cause c (k + s .index) r cl (omega (arith, s .below)) u h (eqb-true _ _ (s .passes)))) (λ _. h)
+
+-- it is dropped only where c sent it, above the k-th number
+held-dropped : (σ : State) (c k r : ℕ) → σ (MessageState r) ≡ stateHeld →
+    (dropHeld σ c k (MessageState r) ≡ stateHeld) ⊎ ((σ (Sender r) ≡ c) × (numberOf σ c k < σ (SendingNumber r)))
+unfolding dropHeld heldOrDropped putStates
+held-dropped σ c k r h =
+    cond-ind (λ x. (x ≡ stateHeld) ⊎ ((σ (Sender r) ≡ c) × (numberOf σ c k < σ (SendingNumber r)))) (orphaned σ c (numberOf σ c k) r)
+    (λ e. let q = and-right (σ (MessageState r) == stateHeld) _ e in
+    inr (eqb-true _ _ (and-left (σ (Sender r) == c) _ q), ltb-true _ _ (and-right (σ (Sender r) == c) _ q))) (λ _. inl h)
+
+-- a start: all numbers stay, and so does what a message's record has before its vector
+numbers-begun : (σ : State) (c k : ℕ) → Numbered (capped (restarted σ c k) c) σ
+numbers-begun σ c k = numbers-trans _ _ σ (numbers-unmoved _ _ (unmoved-capped (restarted σ c k) c)) (numbers-restarted σ c k)
+
+numbers-anew : (σ : State) (c k : ℕ) → Numbered (startAnew σ c k) σ
+unfolding startAnew dropHeld
+numbers-anew σ c k = numbers-trans _ _ σ (numbers-states (capped (restarted σ c k) c) _) (numbers-begun σ c k)
+
+begun-word : (σ : State) (c k r w : ℕ) → (w <? messageHead) ≡ true → capped (restarted σ c k) c (OfMessage r w) ≡ σ (OfMessage r w)
+unfolding restarted entered placed put same putPart clearPlaces
+begun-word σ c k r w e = unmoved-capped (restarted σ c k) c (OfMessage r w) e
+
+-- its incarnation is the next, and its number that after the k-th
+start-anew : (σ : State) (c k x : ℕ) → numberOf σ c k < x → Anew σ (startAnew σ c k) c x
+unfolding startAnew dropHeld putStates restarted entered put same
+start-anew σ c k x l =
+    let i = σ (Incarnation c) + 1 in
+    let ρ = restarted σ c k in
+    let stay = unmoved-capped ρ c in
+    let live = stay (LiveCount c) refl ∙ live-restarted σ c k in
+    let number = ap (numberOf (startAnew σ c k) c) live ∙ numbers-anew σ c k .number c (k + 1) ∙ number-next σ c k in
+    record {
+      incarnation-is = stay (Incarnation c) refl ∙ put-same (placed σ c k i (numberOf σ c (k + 1)) (newVector σ c k)) (Incarnation c) i;
+      number-le = subst (λ y. y ≤ x) (sym number) (omega arith);
+    }
+
+-- so it stays held, or it was sent from one of them
+held-removed : (σ : State) (c k : ℕ) → c < σ Size → NoneCauses σ → (r : ℕ) → r < used σ → σ (MessageState r) ≡ stateHeld →
+    (removed σ c k (MessageState r) ≡ stateHeld) ⊎ ((σ (Sender r) ≡ c) × Anew σ (removed σ c k) c (σ (SendingNumber r)))
+unfolding removed startAnew causes causesIn putStates
+held-removed σ c k cl n r u h =
+    let α = causes σ c k in
+    let τ = capped (restarted α c k) c in
+    let word = begun-word α c k r in
+    ⊎-elim inl
+    (λ (d : (τ (Sender r) ≡ c) × (numberOf τ c k < τ (SendingNumber r))).
+    let y : numberOf τ c k ≡ numberOf α c k = numbers-begun α c k .number c k in
+    let z : τ (SendingNumber r) ≡ σ (SendingNumber r) = word _ refl in
+    let w = start-anew α c k (σ (SendingNumber r)) (omega (arith, d .1)) in
+    inr (sym (word _ refl) ∙ d .0, record { incarnation-is = w .incarnation-is; number-le = w .number-le }))
+    (held-dropped τ c k r (word _ refl ∙ held-causes σ c k cl n r u h))
+
+-- D: the states of other messages stay
+added-state : (σ : State) (c m i : ℕ) (v : Vector) (r : ℕ) → r ≢ i → intervalAdded σ c m i v (MessageState r) ≡ σ (MessageState r)
+unfolding intervalAdded put same putPart
+added-state σ c m i v r ne = rw (ne-eqb r i ne)
+
+-- THE STEPS
+module _ (L : Limits) (σ : State) (n : NoneCauses σ) (r : ℕ) (u : r < used σ) (h : σ (MessageState r) ≡ stateHeld) where
+  -- after step x, which left o
+  abbrev Goes : Command → AfterBoth → Type 0
+  Goes x o = (o .left (MessageState r) ≡ stateHeld) ⊎ Leaves σ (o .left) r x (o .answer)
+
+  -- a step after its refusals
+  goes-refusing : (x : Command) (g : List ℕ) (cases : List Case) (o : After) → (0 ≡ firstOf cases → Goes x (beside o g)) →
+      Goes x (beside (refusing cases σ o) g)
+  unfolding refusing
+  goes-refusing x g cases o w = cond-ind (λ o. Goes x (beside o g)) (firstOf cases == 0) (λ e. w (sym (eqb-true (firstOf cases) 0 e))) (λ _. inl h)
+
+  goes-refusingBoth : (x : Command) (g : List ℕ) (cases : List Case) (o : AfterBoth) → Goes x o → Goes x (refusingBoth cases σ g o)
+  unfolding refusingBoth
+  goes-refusingBoth x g cases o w = cond-ind (Goes x) (firstOf cases == 0) (λ _. w) (λ _. inl h)
+
+  -- K, L, C, T and the gap
+  goes-unmoved : (x : Command) (g : List ℕ) (o : After) → Unmoved σ (o .left) → Goes x (beside o g)
+  goes-unmoved x g o w = inl (w (MessageState r) refl ∙ h)
+
+  -- O, where it isn't done
+  goes-open : (g : List ℕ) (m k : ℕ) → stepOpen L σ g m k .answer ≢ Done → Goes (Open m k) (stepOpen L σ g m k)
+  unfolding stepOpen refusingBoth
+  goes-open g m k =
+      cond-ind (λ (o : AfterBoth). o .answer ≢ Done → Goes (Open m k) o) (firstOf (openRefusals L g m k) == 0)
+      (λ _ ne. absurd (ne refl)) (λ _ _. inl h)
+
+  -- S puts another record
+  goes-send : (g : List ℕ) (sender receiver payload : ℕ) → Goes (Send sender receiver payload) (beside (stepSend L σ sender receiver payload) g)
+  unfolding stepSend sent
+  goes-send g sender receiver payload =
+      goes-refusing _ g _ _ (λ _. let ne : r ≢ used σ = λ z. absurd (omega arith) in
+      inl (posted-kept σ _ (MessageState r) refl (rw (ne-eqb r (used σ) ne)) ∙ h))
+
+  -- R lets it out, or another
+  goes-out : (m mask : ℕ) (v : Vector) (st : ℕ) (g : List ℕ) → Goes (Release m) (afterBoth (Released m mask) (letOut σ (recordOf σ m) v st) g)
+  unfolding letOut
+  goes-out m mask v st g =
+      let i = recordOf σ m in
+      elim (ℕ-discrete i r) [
+        | yes e ↦ inr (let-out m mask e)
+        | no e ↦
+            inl
+            (put-other _ (MessageState i) (MessageState r) st (λ q. e (cc))
+            ∙ part-other σ (OfMessage i 0) (MessageState r) messageHead (flat v) (λ j _ q. e (cc)) ∙ h)
+      ]
+
+  goes-release : (g : List ℕ) (m : ℕ) → Goes (Release m) (stepRelease L σ g m)
+  unfolding stepRelease release
+  goes-release g m =
+      goes-refusingBoth _ g _ _
+      (let i = recordOf σ m in
+      let v = filtered σ (σ (Sender i)) (messageVector σ i) in
+      cond-ind (Goes (Release m)) (not (mayGo σ i (mask v))) (λ _. inl h)
+      (λ _. cond-ind (Goes (Release m)) (not (forDesk σ i)) (λ _. goes-out m (mask v) v stateReleased g)
+      (λ _. cond-ind (Goes (Release m)) (L .entries ≤? countOf g) (λ _. inl h) (λ _. goes-out m (mask v) v statePublished g))))
+
+  -- D: a message that is released is another
+  goes-deliver : (g : List ℕ) (m : ℕ) → Goes (Deliver m) (beside (stepDeliver L σ m) g)
+  unfolding stepDeliver deliver intervalBegins
+  goes-deliver g m =
+      goes-refusing _ g _ _
+      (λ q. let i = recordOf σ m in
+      let released = messageAllowed σ i stateReleased q .state-is in
+      let ne : r ≢ i = λ z. absurd (let e : σ (MessageState r) ≡ σ (MessageState i) = ap (λ j. σ (MessageState j)) z in omega arith) in
+      let goes : After → Type 0 = λ o. Goes (Deliver m) (beside o g) in
+      cond-ind goes (condemned σ _ _) (λ _. inl (put-other σ (MessageState i) (MessageState r) stateDropped (λ q. ne (cc)) ∙ h))
+      (λ _. cond-ind goes (conflict _ _ _) (λ _. inl h)
+      (λ _. cond-ind goes (L .places ≤? σ (LiveCount _)) (λ _. inl h)
+      (λ _. inl (unmoved-capped _ _ (MessageState r) refl ∙ added-state σ _ m i _ r ne ∙ h)))))
+
+  -- X and H remove intervals, after other words have changed
+  goes-removed : (x : Command) (a : Answer) (g : List ℕ) (ρ : State) (c k : ℕ) → Unmoved σ ρ → c < σ Size → Goes x (afterBoth a (removed ρ c k) g)
+  goes-removed x a g ρ c k w cl =
+      let τ = removed ρ c k in
+      let size : ρ Size ≡ σ Size = w Size refl in
+      let count = numbers-unmoved σ ρ w .used-same in
+      ⊎-elim inl
+      (λ d. let c-is : c ≡ σ (Sender r) = sym (d .0) ∙ w (Sender r) refl in
+      let next = d .1 .incarnation-is ∙ ap (λ i. i + 1) (w (Incarnation c) refl) in
+      let low = subst (λ y. numberOf τ c (τ (LiveCount c)) ≤ y) (w (SendingNumber r) refl) (d .1 .number-le) in
+      inr (undone x a (subst (λ c. Anew σ τ c (σ (SendingNumber r))) c-is (record { incarnation-is = next; number-le = low }))))
+      (held-removed ρ c k (omega arith) (none-unmoved σ ρ w n) r (omega arith) (w (MessageState r) refl ∙ h))
+
+  goes-crash : (g : List ℕ) (c : ℕ) → Goes (Crash c) (beside (stepCrash L σ c) g)
+  unfolding stepCrash crashed
+  goes-crash g c =
+      goes-refusing _ g _ _
+      (λ q. goes-removed _ _ g _ c _ (unmoved-put σ σ (End c c _) _ refl (λ _ _. refl)) (crashAllowed L σ c q .controller-lt))
+
+  goes-hear : (g : List ℕ) (hearer owner i : ℕ) → Goes (Hear hearer owner i) (beside (stepHear σ hearer owner i) g)
+  unfolding stepHear hear rolledBack
+  goes-hear g hearer owner i =
+      goes-refusing _ g _ _
+      (λ q. let goes : After → Type 0 = λ o. Goes (Hear hearer owner i) (beside o g) in
+      let heard = noted σ hearer owner i in
+      let k = lowestCondemned heard hearer in
+      let note = unmoved-noted σ hearer owner i in
+      cond-ind goes (σ (LiveCount hearer) ≤? k) (λ _. inl (note (MessageState r) refl ∙ h))
+      (λ _. cond-ind goes (lastIncarnation ≤? σ (Incarnation hearer)) (λ _. inl h)
+      (λ _. goes-removed _ _ g (loggedTo heard hearer k) hearer k (λ f e. unmoved-loggedTo heard hearer k f e ∙ note f e)
+      (hearAllowed σ hearer owner i q .hearer-lt))))
+
+  -- every step after the host's refusals
+  goes-perform : (g : List ℕ) (x : Command) → ((m k : ℕ) → x ≡ Open m k → perform L σ g x .answer ≢ Done) → Goes x (perform L σ g x)
+  unfolding perform
+  goes-perform g (Open m k) ne = goes-open g m k (ne m k refl)
+  goes-perform g (SetDegree c k) ne = goes-unmoved _ g _ (unmoved-degree σ c k)
+  goes-perform g (Send sender receiver payload) ne = goes-send g sender receiver payload
+  goes-perform g (Release m) ne = goes-release g m
+  goes-perform g (Deliver m) ne = goes-deliver g m
+  goes-perform g (Log c q) ne = goes-unmoved _ g _ (unmoved-log σ c q)
+  goes-perform g (Checkpoint c) ne = goes-unmoved _ g _ (unmoved-checkpoint σ c)
+  goes-perform g (Tell owner holder) ne = goes-unmoved _ g _ (unmoved-tell σ owner holder)
+  goes-perform g (Crash c) ne = goes-crash g c
+  goes-perform g (Hear hearer owner i) ne = goes-hear g hearer owner i
+  goes-perform g (SetGap q) ne = goes-unmoved _ g _ (unmoved-gap σ q)
+
+-- every step but an opening that is done: a held message stays held, unless one of these lets it go
+pub stays-held : (L : Limits) (σ : State) (g : List ℕ) (x : Command) → NoneCauses σ → (r : ℕ) → r < used σ → σ (MessageState r) ≡ stateHeld →
+    let o = stepOn L σ g x in
+    ((n k : ℕ) → x ≡ Open n k → o .answer ≢ Done) → (o .left (MessageState r) ≡ stateHeld) ⊎ Leaves σ (o .left) r x (o .answer)
+unfolding stepOn
+stays-held L σ g x n r u h =
+    cond-ind
+    (λ (o : AfterBoth). ((m k : ℕ) → x ≡ Open m k → o .answer ≢ Done) → (o .left (MessageState r) ≡ stateHeld) ⊎ Leaves σ (o .left) r x (o .answer))
+    (looksAtForm x && not (inForm L σ)) (λ _ _. inl h) (λ _. goes-perform L σ n r u h g x)

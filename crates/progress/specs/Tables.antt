@@ -1,0 +1,183 @@
+-- The same of tables of words: what a step on a lent table leaves are the words of what it leaves on the state.
+use mathlib.Core.Path.{_≡_, refl, sym, ap, _∙_, subst}
+use mathlib.Core.Bool.{not}
+use mathlib.Core.List.{List}
+use mathlib.Core.Logic.{_≢_, _⊎_, inl, inr, ⊎-elim}
+use Prim.Native.Nat.{ℕ, _≤_, _<_}
+use native.Mathlib.Omega.{arith}
+use lib.ListN.{length}
+use borrow.Author.Tests.{eq-eqb, ltb-true}
+use Rattle.base.specs.Choice.{_==_, _<?_, cond-ind, and-right}
+use Rattle.base.specs.Cases.{firstOf}
+use Rattle.table.specs.Field.{State, OfMessage, Size, Incarnation, LiveCount, Cause, MessageState, Sender, SendingNumber, word, messageHead}
+use Rattle.table.specs.Layout.{controllers, tableWords}
+use Rattle.table.specs.Words.{state, Agree, agree-words}
+use Rattle.table.specs.Numbering.{numberOf, used, recordOf, nextMessage, posted, none-used, posted-used, posted-new, posted-at, number-same, used-agree, record-agree, message-agree}
+use Rattle.rules.specs.Limits.{Limits, house}
+use Rattle.rules.specs.Vector.{Vector}
+use Rattle.rules.specs.Form.{stateHeld, inForm}
+use Rattle.rules.specs.Steps.{After, AfterBoth, refusing, openHouse, messageRecord, sent, sendRefusals, stepSend}
+use Rattle.rules.specs.Step.{perform, stepOn, writtenBoth, lent, step}
+use Rattle.rules.specs.declared.Answer.{Answer}
+use Rattle.rules.specs.declared.Answer.the-variants.{Done, Sent, Refused}
+use Rattle.rules.specs.declared.Command.{Command}
+use Rattle.rules.specs.declared.Command.the-variants.{Open, Send}
+use Rattle.laws.specs.Facts.{Form, form, below-8, controllerForm, messageForm}
+use Rattle.laws.specs.Records.{length-message-record}
+use Rattle.laws.specs.Answering.{Lent}
+use Rattle.keeping.specs.Steps.{form-kept}
+use Rattle.keeping.specs.Kept.{house-fits}
+use Rattle.image.specs.Tables.{opening-done}
+use Rattle.progress.specs.Causes.{NoneCauses, none-unsent, none-causes-kept}
+use Rattle.progress.specs.Held.{Leaves, let-out, undone, stays-held}
+use Rattle.progress.specs.There.{Stays, there-stays, stays-step}
+
+-- STATES WITH THE SAME WORDS
+module _ (σ τ : State) (e : Agree σ τ) (f : Form house τ) where
+  -- no held message is a cause
+  none-agree : NoneCauses τ → NoneCauses σ
+  none-agree n =
+      record {
+        not-cause = λ c p r cl pl rl held q.
+            let named : c < τ Size = subst (λ s. c < s) (e Size (omega arith)) cl in
+            let live = e (LiveCount c) (below-8 f c named, omega arith) in
+            let top = controllerForm f c named .live-le in
+            let count = used-agree σ τ e in
+            let few = f .used-le in
+            n .not-cause c p r named (omega arith) (omega arith) (sym (e (MessageState r) (omega arith, omega arith)) ∙ held)
+            (sym (e (Cause c p) (below-8 f c named, omega arith, omega arith)) ∙ q ∙ message-agree σ τ e r (omega arith));
+      }
+
+  -- messages are there
+  stays-agree : (ρ : State) → Stays ρ τ → Stays ρ σ
+  stays-agree ρ s =
+      let count = used-agree σ τ e in
+      let few = f .used-le in
+      let more = s .used-le in
+      record {
+        used-le = omega arith;
+        record-same = λ m l. record-agree σ τ e m (omega arith) ∙ s .record-same m l;
+        word-same = λ r k l q.
+            let h = ltb-true k messageHead (and-right (word (MessageState r) <? k) _ q) in
+            e (OfMessage r k) (omega arith, omega arith) ∙ s .word-same r k l q;
+      }
+
+  -- a sender starts anew
+  leaves-agree : (ρ : State) (r : ℕ) → ρ (Sender r) < controllers → {x : Command} {a : Answer} → Leaves ρ τ r x a → Leaves ρ σ r x a
+  leaves-agree ρ r cl (let-out m mask q) = let-out m mask q
+  leaves-agree ρ r cl (undone x a w) =
+      let c = ρ (Sender r) in
+      let number = number-same σ τ e c (σ (LiveCount c)) cl ∙ ap (numberOf τ c) (e (LiveCount c) (cl, omega arith)) in
+      undone x a
+      (record {
+        incarnation-is = e (Incarnation c) (cl, omega arith) ∙ w .incarnation-is;
+        number-le = subst (λ y. y ≤ ρ (SendingNumber r)) (sym number) (w .number-le);
+      })
+
+-- A STEP ON A LENT TABLE
+module _ (t g : List ℕ) (x : Command) (h : Lent t) where
+  -- the state that is left
+  abbrev τ : State
+  τ = stepOn house (state t) g x .left
+
+  -- it is the step on the state
+  step-is : step t g x ≡ writtenBoth (stepOn house (state t) g x)
+  unfolding step lent
+  step-is = rw (eq-eqb (length t) tableWords (h .long))
+
+  -- the table that is left has its words
+  left-agree : Agree (state (step t g x .table)) τ
+  left-agree = agree-words τ (ap (λ o. o .table) step-is)
+
+  -- and the answer is its answer
+  answer-is : step t g x .answer ≡ stepOn house (state t) g x .answer
+  answer-is = ap (λ o. o .answer) step-is
+
+  -- it is in form
+  left-form : Form house τ
+  left-form = form house τ (form-kept house house-fits (state t) g x (h .good))
+
+-- every step on a lent table leaves none that causes a live interval
+pub none-causes-step : (t g : List ℕ) (x : Command) → Lent t → NoneCauses (state t) → NoneCauses (state (step t g x .table))
+none-causes-step t g x h n = none-agree _ _ (left-agree t g x h) (left-form t g x h) (none-causes-kept house (state t) g x (h .good) n)
+
+-- an opening that is done leaves none, whatever stood there
+pub none-causes-open : (t g : List ℕ) (n k : ℕ) → step t g (Open n k) .answer ≡ Done → NoneCauses (state (step t g (Open n k) .table))
+unfolding openHouse
+none-causes-open t g n k d =
+    none-unsent _ (used-agree _ (openHouse n k) (agree-words (openHouse n k) (opening-done t g n k d .table-is)) ∙ none-used (openHouse n k) refl)
+
+-- every step but an opening that is done leaves the messages of the table there
+pub there-step : (t g : List ℕ) (x : Command) → Lent t → ((n k : ℕ) → x ≡ Open n k → step t g x .answer ≢ Done) →
+    Stays (state t) (state (step t g x .table))
+there-step t g x h ne =
+    stays-agree _ _ (left-agree t g x h) (left-form t g x h) (state t) (stays-step house (state t) g x (λ n k e d. ne n k e (answer-is t g x h ∙ d)))
+
+-- it leaves a held one held, unless it lets it out or its sender starts anew
+pub held-step : (t g : List ℕ) (x : Command) → Lent t → NoneCauses (state t) → (m : ℕ) → let σ = state t in
+    let τ = state (step t g x .table) in
+    recordOf σ m < used σ → σ (MessageState (recordOf σ m)) ≡ stateHeld → ((n k : ℕ) → x ≡ Open n k → step t g x .answer ≢ Done) →
+    (recordOf τ m < used τ)
+    × (recordOf τ m ≡ recordOf σ m)
+    × ((τ (MessageState (recordOf τ m)) ≡ stateHeld) ⊎ Leaves σ τ (recordOf σ m) x (step t g x .answer))
+held-step t g x h n m l held ne =
+    let σ = state t in
+    let o = stepOn house σ g x in
+    let τ = state (step t g x .table) in
+    let r = recordOf σ m in
+    let e = left-agree t g x h in
+    let f = form house σ (h .good) in
+    let few = f .used-le in
+    let there = there-stays σ τ (there-step t g x h ne) m l in
+    let sender = below-8 f _ (messageForm f r l .sender-lt) in
+    let goes : (τ (MessageState r) ≡ stateHeld) ⊎ Leaves σ τ r x (o .answer) =
+    ⊎-elim (λ q. inl (e (MessageState r) (omega arith, omega arith) ∙ q)) (λ w. inr (leaves-agree τ (o .left) e (left-form t g x h) σ r sender w))
+    (stays-held house σ g x n r l held (λ i k z d. ne i k z (answer-is t g x h ∙ d))) in (
+      there .1,
+      there .0,
+      subst (λ i. (τ (MessageState i) ≡ stateHeld) ⊎ Leaves σ τ r x (step t g x .answer)) (sym (there .0))
+          (subst (λ a. (τ (MessageState r) ≡ stateHeld) ⊎ Leaves σ τ r x a) (sym (answer-is t g x h)) goes),
+    )
+
+-- A MESSAGE SENT
+-- m is there, and held
+abbrev HeldIn : State → ℕ → Type 0
+HeldIn σ m = (recordOf σ m < used σ) × (σ (MessageState (recordOf σ m)) ≡ stateHeld)
+
+-- a new record has the state held
+posted-held : (σ : State) (sender receiver i x payload : ℕ) (v : Vector) →
+    HeldIn (posted σ (messageRecord stateHeld sender receiver i x payload v)) (nextMessage σ)
+unfolding messageRecord
+posted-held σ sender receiver i x payload v =
+    let w = messageRecord stateHeld sender receiver i x payload v in
+    let new = posted-new σ w in
+    let first = posted-at σ w (word (MessageState 0)) (omega (arith, length-message-record stateHeld sender receiver i x payload v)) in
+    (omega (arith, posted-used σ w), ap (λ r. posted σ w (MessageState r)) new ∙ first)
+
+-- a refusal sends none
+not-sent : {A : Type 0} (number m : ℕ) → Refused number ≡ Sent m → A
+not-sent number m e = absurd (let z : _≡_ {A = ℕ} 0 1 = cc in omega arith)
+
+-- S, on a state
+sent-state : (L : Limits) (σ : State) (g : List ℕ) (s r p m : ℕ) → let o = stepOn L σ g (Send s r p) in
+    o .answer ≡ Sent m → HeldIn (o .left) m
+unfolding stepOn perform stepSend refusing sent
+sent-state L σ g s r p m =
+    cond-ind (λ (o : AfterBoth). o .answer ≡ Sent m → HeldIn (o .left) m) (not (inForm L σ)) (λ _. not-sent _ m)
+    (λ _. cond-ind (λ (o : After). o .answer ≡ Sent m → HeldIn (o .left) m) (firstOf (sendRefusals L σ s r) == 0)
+    (λ _ e. let z : nextMessage σ ≡ m = cc in subst (HeldIn (sent σ s r p)) z (posted-held σ s r _ _ p _)) (λ _. not-sent _ m))
+
+-- a send on a lent table leaves its message there, held
+pub sent-held : (t g : List ℕ) (s r p m : ℕ) → Lent t → step t g (Send s r p) .answer ≡ Sent m → let τ = state (step t g (Send s r p) .table) in
+    (recordOf τ m < used τ) × (τ (MessageState (recordOf τ m)) ≡ stateHeld)
+sent-held t g s r p m h d =
+    let x = Send s r p in
+    let ρ = stepOn house (state t) g x .left in
+    let τ = state (step t g x .table) in
+    let e = left-agree t g x h in
+    let few = left-form t g x h .used-le in
+    let count = used-agree τ ρ e in
+    let q = sent-state house (state t) g s r p m (sym (answer-is t g x h) ∙ d) in
+    let same = record-agree τ ρ e m (omega arith) in
+    let l : recordOf τ m < used τ = omega (arith, q .0) in
+    (l, e (MessageState (recordOf τ m)) (omega arith, omega arith) ∙ ap (λ r. ρ (MessageState r)) same ∙ q .1)

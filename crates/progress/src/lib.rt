@@ -1,0 +1,1 @@
+// What C, T, R and D answer on buffers in form (specs/).
