@@ -1,0 +1,137 @@
+-- The delivery of a released message, for every list of calls: it doesn't wait once its receiver was informed (`Arrives`).
+use mathlib.Core.Path.{_≡_, sym, _∙_, ap, subst}
+use mathlib.Core.Bool.{Bool, false}
+use mathlib.Core.List.{List, []}
+use mathlib.Core.Logic.{_⊎_, inl, inr, ⊎-elim, _↔_}
+use Prim.Native.Nat.{ℕ, _+_, _<_}
+use native.Mathlib.Omega.{arith}
+use Rattle.table.specs.Field.{Incarnation, LiveCount}
+use Rattle.table.specs.Layout.{controllers}
+use Rattle.table.specs.Words.{state}
+use Rattle.table.specs.Numbering.{numberOf, used, recordOf, present-pos, present-given}
+use Rattle.rules.specs.Form.{stateReleased}
+use Rattle.rules.specs.Step.{Call}
+use Rattle.rules.specs.declared.Answer.the-variants.{Delivered}
+use Rattle.history.specs.History.{Interval, History, newest}
+use Rattle.history.specs.Demand.{Run, FromOpening, RestsOnLost, end}
+use Rattle.history.specs.Progress.{Orphan, HasHeard, Deliverable, Arrives}
+use Rattle.model.specs.Model.{full, filtered}
+use Rattle.model.specs.Invariant.{newest-is}
+use Rattle.model.specs.Paper.{theorem-3-message}
+use Rattle.model.specs.Vectors.{Condemned}
+use Rattle.image.specs.Reads.{incarnation-is, live-is, sent-is, to-is}
+use Rattle.image.specs.Outcome as O
+use Rattle.image.specs.Tables.{sizeOf, opening-done}
+use Rattle.progress.specs.Answers.{recordIn, receiverIn, deliverable-is, receiver-below, delivery-drops, dropped-condemned, delivery-goes}
+use Rattle.demand.specs.Demanded.{table-inv}
+use Rattle.demand.specs.Informing as I
+use Rattle.paper.specs.Extending.{Ready, modelIn, stateOfMessage, Extends}
+use Rattle.paper.specs.Crashes.{heard-loss}
+use Rattle.keeping.specs.Unrefused.{Sound}
+use Rattle.paper.specs.Told.{last, ready, then, Told, told}
+
+module _ (t g : List ℕ) (n k : ℕ) (l : List Call) (O : FromOpening t g n k l) (m : ℕ) (can : Deliverable t g n k l m) (heard : HasHeard t g n k l (end t g n k l .receiver m)) where
+  -- its receiver, and the history at the end of the list
+  abbrev c : ℕ
+  c = end t g n k l .receiver m
+
+  abbrev h : History
+  h = end t g n k l
+
+  abbrev u : List ℕ
+  u = last t g n k l O .table
+
+  s : Ready n (last t g n k l O)
+  s = ready t g n k l O
+
+  is-released : (recordIn u m < used (state u)) × (stateOfMessage u m ≡ stateReleased)
+  is-released = deliverable-is u (last t g n k l O .ledger) (s .sound) m (can .is-there) (can .is-released)
+
+  here : recordOf (state u) m < used (state u)
+  here = is-released .0
+
+  below : c < n
+  below =
+      let message = table-inv (s .holds) .message-ok m (present-pos _ m here) (omega (arith, sent-is (state u), present-given _ m here)) in
+      let receiver = message .receiver-is ∙ to-is (state u) m here in
+      omega (arith, s .holds .reads .size-is, receiver-below u (last t g n k l O .ledger) (s .sound) m here (is-released .1))
+
+  -- after the receiver was informed
+  T : Told t g n k l O c m
+  T = told t g n k l O c m below here
+
+  abbrev after : Run
+  after = then t g n k l O c m
+
+  same : Extends (last t g n k l O) after
+  same = T .go .extends
+
+  sound : Sound (after .table) (after .ledger)
+  sound = T .go .ready .sound
+
+  released : stateOfMessage (after .table) m ≡ stateReleased
+  released = T .state-is ∙ is-released .1
+
+  -- its vector is condemned to its receiver
+  abbrev Doomed : Type 0
+  Doomed = Condemned n (modelIn after .controller c) (modelIn after .message m .vec)
+
+  -- which the delivery sees by the words
+  doomed-is : Condemned (sizeOf (after .table)) (modelIn after .controller (receiverIn (after .table) m)) (modelIn after .message m .vec) ≡ Doomed
+  doomed-is = λ d. Condemned (T .go .ready .holds .reads .size-is d) (modelIn after .controller (T .receiver-is d)) (modelIn after .message m .vec)
+
+  -- just where the sending interval rests on a lost one
+  doomed-orphan : Doomed ↔ Orphan h (h .sending m)
+  doomed-orphan = (
+    λ z. let r = judged .0 z in
+        record { on = r .on; crash = r .crash; rests = sym (rests-same (r .on)) ∙ r .rests; lost = sym (lost-same (r .on) (r .crash)) ∙ r .lost },
+    λ o. let r = heard-loss t g n k l O c heard (h .sending m) o in
+        judged .1 (record {
+          on = r .on;
+          crash = r .crash;
+          rests = rests-same (r .on) ∙ r .rests;
+          lost = lost-same (r .on) (r .crash) ∙ r .lost;
+          heard = ap (λ (f : ℕ → ℕ → ℕ → Bool). f c (r .on .owner) (r .crash)) (same .heard-is) ∙ r .heard;
+        }),
+  )
+    where
+      h′ : History
+      h′ = after .history
+
+      judged : Doomed ↔ RestsOnLost h′ h′ c (h′ .sending m)
+      judged =
+          theorem-3-message (T .inv) m c (present-pos _ m (T .there)) (omega (arith, sent-is (state (after .table)), present-given _ m (T .there))) below
+
+      rests-same : (j : Interval) → h′ .rests (h′ .sending m) j ≡ h .rests (h .sending m) j
+      rests-same j = λ d. same .rests-is d (same .sending-is d m) j
+
+      lost-same : (j : Interval) (crash : ℕ) → h′ .lost j crash ≡ h .lost j crash
+      lost-same j crash = λ d. same .lost-is d j crash
+
+  -- the interval that begins, by the words and by the history
+  begins : let σ = state (after .table) in let b = receiverIn (after .table) m in
+      Delivered m (σ (Incarnation b)) (numberOf σ b (σ (LiveCount b)) + 1) ≡ Delivered m (h .incarnation c) (newest (h .chain c) .number + 1)
+  begins =
+      let σ = state (after .table) in
+      let shape = T .inv .controller-ok c below .shape in
+      let near : c < controllers = omega (arith, below, opening-done t g n k (O .done) .size-le) in
+      let i : σ (Incarnation c) ≡ h .incarnation c =
+      sym (incarnation-is σ c near) ∙ sym (shape .incarnation-is) ∙ ap (λ (f : ℕ → ℕ). f c) (same .incarnation-is) in
+      let x : numberOf σ c (σ (LiveCount c)) ≡ newest (h .chain c) .number =
+      sym (live-is σ c near) ∙ sym (ap (λ (y : Interval). y .number) (newest-is shape)) ∙ ap (λ (f : ℕ → List Interval). newest (f c) .number) (same .chain-is) in
+      (λ d. let b = T .receiver-is d in Delivered m (σ (Incarnation b)) (numberOf σ b (σ (LiveCount b)) + 1)) ∙ (λ d. Delivered m (i d) (x d + 1))
+
+  -- Where its receiver has heard every crash, it doesn't wait.
+  pub arrives : Arrives t g n k l m
+  arrives =
+      record {
+        done = T .go .done;
+        dropped = (
+          λ e. doomed-orphan .0 (subst (λ X. X) doomed-is (dropped-condemned (after .table) (after .ledger) sound m (T .there) released e)),
+          λ o. delivery-drops (after .table) (after .ledger) sound m (T .there) released (subst (λ X. X) (sym doomed-is) (doomed-orphan .1 o)),
+        );
+        otherwise = λ none.
+            ⊎-elim (λ e. inl (e ∙ begins)) (λ e. inr (e .0))
+            (delivery-goes (after .table) (after .ledger) sound m (T .there) released (λ z. none (doomed-orphan .0 (subst (λ X. X) doomed-is z)))
+            (subst (λ b. (a : ℕ) → full (filtered (modelIn after .controller b) (modelIn after .message m .vec) a) ≡ false) (sym (T .receiver-is)) (T .emptied none)));
+      }
