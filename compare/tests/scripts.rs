@@ -26,12 +26,19 @@ fn listing_a() -> Vec<(String, String)> {
     lines(&script).into_iter().zip(lines(&answers)).collect()
 }
 
-/// The examples that README and the guide show: Listing A, the worked example of the method's paper, a
-/// message that is offered again after a crash, readings for the desk, and a rollback that replays from a
-/// later checkpoint.
+/// The examples that README, the guide and the page for operators show: Listing A, the worked example of the
+/// method's paper, a message that is offered again after a crash, readings for the desk, a rollback that
+/// replays from a later checkpoint, and a held reading that is got out.
 #[test]
 fn stored_examples_are_answered_as_stored() {
-    for name in ["listing_a", "paper", "offered_again", "desk", "replayed"] {
+    for name in [
+        "listing_a",
+        "paper",
+        "offered_again",
+        "desk",
+        "replayed",
+        "reading_out",
+    ] {
         let [script, expected] = stored(name);
         assert_eq!(played(&script), expected, "{name}");
         assert_eq!(lines::run(&script), expected, "{name}");
