@@ -19,7 +19,7 @@ use Rattle.rules.specs.Vector.{placeVector, messageVector, flat, knownSt
 use Rattle.rules.specs.Form.{stateHeld, stateReleased, stateDropped, statePublished, stateOk, zeros, pairOk, vectorOk, highest, rowOk, placeOk, headZeros, headOk}
 use Rattle.rules.specs.Ledger.{countAt, ledgerWords, countOf, appended, blankLedger}
 use Rattle.rules.specs.Shared.{placeRecord, logged, loggedTo, checkpointed, forced, capped, causing, causedIn, causesIn, causes, offeredAgain, newVector, placed, entered, restarted, heldOrDropped, dropHeld, startAnew, removed, latestFlagged, replayed}
-use Rattle.rules.specs.Steps.{refusing, refusingBoth, openHouse, stepOpen, stepGap, letOut, mayGo, release, intervalAdded, intervalBegins, deliver, crashed, noted, lowestCondemned, rolledBack, hear}
+use Rattle.rules.specs.Steps.{refusing, refusingBoth, openHouse, stepOpen, stepGap, letOut, mayGo, release, intervalAdded, intervalBegins, deliver, toldRow, told, crashed, noted, lowestCondemned, rolledBack, hear}
 use Rattle.rules.specs.Report.{report}
 use Rattle.rules.specs.Starred.{Row, _is_by_, rows-hold, no, yes, truth, answer}
 use Rattle.rules.specs.declared.Answer.the-variants.{Done, Released, Held, Rolled, Refused}
@@ -80,12 +80,17 @@ with-gap q = put (put (put (put blank (LiveCount 0) 3) (StableCount 0) 2) (Flag 
 abbrev in-head : ℕ → ℕ → State
 in-head k x = put (put blank Size 1) (OfHead k) x
 
+-- controller 1 knows its own intervals to be stable up to number 2 in incarnation 0, and up to 3 in incarnation 1; controller 0 knows
+-- nothing of it
+abbrev untold : State
+untold = put (put blank (Known 1 1 0) 2) (Known 1 1 1) 3
+
 -- what stands of its place p: the flag, and then the stable count and the number that it knows to be stable of its incarnation i
 abbrev stands : State → ℕ → ℕ → List ℕ
 stands σ p i = σ (Flag 0 p) ∷ σ (StableCount 0) ∷ σ (Known 0 0 i) ∷ []
 
 pub told-apart : List Row
-unfolding put same putPart clearPlaces putStates tab allb anyb numberOf used messageOf placeVector messageVector flat knownStable filterPair filtered condemnedPair condemned maskTo mask conflictPair conflict mergePair merged placeRecord logged loggedTo checkpointed forced capped causing causedIn causesIn causes offeredAgain newVector placed entered restarted heldOrDropped dropHeld startAnew removed latestFlagged replayed stateOk zeros pairOk vectorOk highest rowOk placeOk lastGiven headZeros headOk appended blankLedger splice allOf firstOf refusing refusingBoth openHouse stepOpen stepGap letOut mayGo release intervalAdded intervalBegins deliver crashed noted lowestCondemned rolledBack hear report first onesIn ones
+unfolding put same putPart clearPlaces putStates tab allb anyb numberOf used messageOf placeVector messageVector flat knownStable filterPair filtered condemnedPair condemned maskTo mask conflictPair conflict mergePair merged placeRecord logged loggedTo checkpointed forced capped causing causedIn causesIn causes offeredAgain newVector placed entered restarted heldOrDropped dropHeld startAnew removed latestFlagged replayed stateOk zeros pairOk vectorOk highest rowOk placeOk lastGiven headZeros headOk appended blankLedger splice allOf firstOf refusing refusingBoth openHouse stepOpen stepGap letOut mayGo release intervalAdded intervalBegins deliver toldRow told crashed noted lowestCondemned rolledBack hear report first onesIn ones
 told-apart =
     -- "Counting stored pairs at release instead of filtered ones": it would be held.
     (answer (release house since-logged [] 1 0 .answer) is answer (Released 1 0) by refl)
@@ -148,6 +153,10 @@ told-apart =
     ∷ (truth (headOk house (in-head 11 65)) is no by refl)
     ∷ (truth (headOk house (in-head 10 1)) is no by refl)
     ∷ (truth (headOk house (in-head 12 1)) is no by refl)
+    -- A telling of less than is known, or of one incarnation only; a checkpoint that leaves the newest interval unlogged. A held message
+    -- that rests on it would never go out.
+    ∷ ((told untold 1 0 (Known 0 1 0) ∷ told untold 1 0 (Known 0 1 1) ∷ []) is (2 ∷ 3 ∷ []) by refl)
+    ∷ (stands (checkpointed two-unstable 0) 2 0 is (1 ∷ 3 ∷ 3 ∷ []) by refl)
     -- A step that leaves a word out of its range, one row for each kind: an interval's words, a known word, a state, a pair.
     ∷ (truth (placeOk house 1 (deliver house (put (with-gap 4) SentCount 1) 1 0 .left) 0 3) is yes by refl)
     ∷ (truth (rowOk house 1 (rolledBack two-unstable 0 2) 0 0) is yes by refl)
