@@ -12,7 +12,7 @@ use Prim.Native.Nat.{ℕ, zero, suc, _+_, _≤_}
 use lib.ListN.{length}
 use Rattle.base.specs.Choice.{_==_, _≤?_}
 use Rattle.table.specs.Field.{desk}
-use Rattle.rules.specs.Limits.{lastIncarnation, lastEntry}
+use Rattle.rules.specs.Limits.{house, lastIncarnation, lastEntry}
 use Rattle.rules.specs.Refusal.{MESSAGE, STATE, PLACES-USED-UP, INCARNATIONS-USED-UP, LEDGER-USED-UP}
 use Rattle.rules.specs.Step.{Call, asks}
 use Rattle.rules.specs.declared.Answer.the-variants.{Done, Sent, Released, Delivered, Dropped, Crashed, Refused}
@@ -112,11 +112,11 @@ module _ (t g : List ℕ) (n k : ℕ) (l : List Call) where
     pub is-released : stepIn last (Deliver m) .answer ≢ Refused STATE
 
   -- "Then the delivery of m answers `dropped` exactly where its sending interval rests on one lost in the list, and otherwise
-  -- `delivered`, or is refused with 12: it doesn't wait."
+  -- `delivered`, or is refused with 12: it doesn't wait." Refused with 12 it is only where the receiver's numbers have come to the last place's.
   pub record Arrives (m : ℕ) : Type 0 where
     pub done : AllDone last (informing n (h .receiver m))
     pub dropped : (stepIn (informed (h .receiver m)) (Deliver m) .answer ≡ Dropped m) ↔ Orphan h (h .sending m)
     pub otherwise : (Orphan h (h .sending m) → ⊥) →
         let c = h .receiver m in
         let a = stepIn (informed c) (Deliver m) .answer in
-        (a ≡ Delivered m (h .incarnation c) (newest (h .chain c) .number + 1)) ⊎ (a ≡ Refused PLACES-USED-UP)
+        (a ≡ Delivered m (h .incarnation c) (newest (h .chain c) .number + 1)) ⊎ ((a ≡ Refused PLACES-USED-UP) × (house .places ≤ newest (h .chain c) .number))

@@ -11,7 +11,7 @@ use Rattle.history.specs.Demand.{RestsOnLost}
 use Rattle.model.specs.Model.{Vec, Model, full, releasedVec}
 use Rattle.model.specs.Tests.{Is, contrary, fails, passes}
 use Rattle.model.specs.Chain.{OnChain, member-chain, chain-member}
-use Rattle.model.specs.Invariant.{Spoilt, Covers, Tracks, ControllerOk, MessageOk, Inv, Ext, ext-refl, live-or-spoilt, rests-back, rests-on}
+use Rattle.model.specs.Invariant.{Spoilt, Covers, Tracks, MessageOk, Inv, Ext, ext-refl, live-or-spoilt, rests-back, rests-on}
 use Rattle.model.specs.Vectors.{Condemned, full-pos, pos-full, filtered-ind, filtered-tracks, condemned-spoilt}
 use Rattle.model.specs.Keeping.{Keeps}
 
@@ -20,6 +20,12 @@ module _ {n : ℕ} {μ : Model} {h : History} (v : Inv n μ h) (b : ℕ) (below 
   -- a member of the chain is a live number of the model
   pub on-chain : (y : Interval) → Is (member y (h .chain b)) → OnChain b (μ .controller b .begunIn) (μ .controller b .live) y
   on-chain y e = member-chain _ _ _ y (rw (v .controller-ok b below .shape .chain-is) at e)
+
+  -- and a live number of the model is one
+  pub chain-live : (y : Interval) → OnChain b (μ .controller b .begunIn) (μ .controller b .live) y → Is (member y (h .chain b))
+  chain-live y o =
+      subst (λ q. Is (member q (h .chain b))) (sym (o .is))
+      (rw (v .controller-ok b below .shape .chain-is) (chain-member b (μ .controller b .begunIn) (μ .controller b .live) (y .number) (o .pos) (o .top)))
 
   -- a live interval is begun
   pub live-begun : (y : Interval) → Is (member y (h .chain b)) → Is (h .begun y)
@@ -35,15 +41,7 @@ module _ {n : ℕ} {μ : Model} {h : History} (v : Inv n μ h) (b : ℕ) (below 
 
   -- an interval of b that is begun is live, or rests on one lost in a crash that b has heard
   pub live-or-lost : (y : Interval) → y .owner ≡ b → Is (h .begun y) → Is (member y (h .chain b)) ⊎ RestsOnLost h h b y
-  live-or-lost y e z = ⊎-elim (λ o. inl (live o)) (λ r. inr r) (live-or-spoilt (v .history) ok y e z)
-    where
-      ok : ControllerOk h b (μ .controller b)
-      ok = v .controller-ok b below
-
-      live : OnChain b (μ .controller b .begunIn) (μ .controller b .live) y → Is (member y (h .chain b))
-      live o =
-          subst (λ q. Is (member q (h .chain b))) (sym (o .is))
-          (rw (ok .shape .chain-is) (chain-member b (μ .controller b .begunIn) (μ .controller b .live) (y .number) (o .pos) (o .top)))
+  live-or-lost y e z = ⊎-elim (λ o. inl (chain-live y o)) (λ r. inr r) (live-or-spoilt (v .history) (v .controller-ok b below) y e z)
 
 -- "Every accepted hearing undid exactly those live intervals of its controller that rest on one lost in a crash which that
 -- controller has heard by then": h is the history before the hearing, h′ the one after it, and `whole` that at the end of the list.

@@ -20,6 +20,7 @@ pub mod Opening
 pub mod Consequences
 pub mod Paper
 pub mod Securing
+pub mod Lasting
 pub mod Informed
 pub mod Runs
 pub mod Stability

@@ -3,12 +3,13 @@ use mathlib.Core.Path.{_≡_, sym, _∙_, ap, subst}
 use mathlib.Core.Bool.{Bool, false}
 use mathlib.Core.List.{List, []}
 use mathlib.Core.Logic.{_⊎_, inl, inr, ⊎-elim, _↔_}
-use Prim.Native.Nat.{ℕ, _+_, _<_}
+use Prim.Native.Nat.{ℕ, _+_, _<_, _≤_}
 use native.Mathlib.Omega.{arith}
-use Rattle.table.specs.Field.{Incarnation, LiveCount}
+use Rattle.table.specs.Field.{State, Incarnation, LiveCount}
 use Rattle.table.specs.Layout.{controllers}
 use Rattle.table.specs.Words.{state}
-use Rattle.table.specs.Numbering.{numberOf, used, recordOf, present-pos, present-given}
+use Rattle.table.specs.Numbering.{numberOf, number-from, used, recordOf, present-pos, present-given}
+use Rattle.rules.specs.Limits.{house}
 use Rattle.rules.specs.Form.{stateReleased}
 use Rattle.rules.specs.Step.{Call}
 use Rattle.rules.specs.declared.Answer.the-variants.{Delivered}
@@ -108,18 +109,33 @@ module _ (t g : List ℕ) (n k : ℕ) (l : List Call) (O : FromOpening t g n k l
       lost-same : (j : Interval) (crash : ℕ) → h′ .lost j crash ≡ h .lost j crash
       lost-same j crash = λ d. same .lost-is d j crash
 
-  -- the interval that begins, by the words and by the history
-  begins : let σ = state (after .table) in let b = receiverIn (after .table) m in
+  -- the receiver's incarnation and its highest number, by the words and by the history
+  abbrev σ : State
+  σ = state (after .table)
+
+  near : c < controllers
+  near = omega (arith, below, opening-done t g n k (O .done) .size-le)
+
+  incarnation-then : σ (Incarnation c) ≡ h .incarnation c
+  incarnation-then = sym (incarnation-is σ c near) ∙ sym (T .inv .controller-ok c below .shape .incarnation-is) ∙ ap (λ (f : ℕ → ℕ). f c) (same .incarnation-is)
+
+  number-then : numberOf σ c (σ (LiveCount c)) ≡ newest (h .chain c) .number
+  number-then =
+      sym (live-is σ c near) ∙ sym (ap (λ (y : Interval). y .number) (newest-is (T .inv .controller-ok c below .shape)))
+      ∙ ap (λ (f : ℕ → List Interval). newest (f c) .number) (same .chain-is)
+
+  -- the interval that begins
+  begins : let b = receiverIn (after .table) m in
       Delivered m (σ (Incarnation b)) (numberOf σ b (σ (LiveCount b)) + 1) ≡ Delivered m (h .incarnation c) (newest (h .chain c) .number + 1)
   begins =
-      let σ = state (after .table) in
-      let shape = T .inv .controller-ok c below .shape in
-      let near : c < controllers = omega (arith, below, opening-done t g n k (O .done) .size-le) in
-      let i : σ (Incarnation c) ≡ h .incarnation c =
-      sym (incarnation-is σ c near) ∙ sym (shape .incarnation-is) ∙ ap (λ (f : ℕ → ℕ). f c) (same .incarnation-is) in
-      let x : numberOf σ c (σ (LiveCount c)) ≡ newest (h .chain c) .number =
-      sym (live-is σ c near) ∙ sym (ap (λ (y : Interval). y .number) (newest-is shape)) ∙ ap (λ (f : ℕ → List Interval). newest (f c) .number) (same .chain-is) in
-      (λ d. let b = T .receiver-is d in Delivered m (σ (Incarnation b)) (numberOf σ b (σ (LiveCount b)) + 1)) ∙ (λ d. Delivered m (i d) (x d + 1))
+      (λ d. let b = T .receiver-is d in Delivered m (σ (Incarnation b)) (numberOf σ b (σ (LiveCount b)) + 1))
+      ∙ (λ d. Delivered m (incarnation-then d) (number-then d + 1))
+
+  -- no place is left: the numbers have come that far
+  no-place : house .places ≤ σ (LiveCount (receiverIn (after .table) m)) → house .places ≤ newest (h .chain c) .number
+  no-place l =
+      let full = subst (λ b. house .places ≤ σ (LiveCount b)) (T .receiver-is) l in
+      omega (arith, number-then, number-from σ c (σ (LiveCount c)))
 
   -- Where its receiver has heard every crash, it doesn't wait.
   pub arrives : Arrives t g n k l m
@@ -131,7 +147,7 @@ module _ (t g : List ℕ) (n k : ℕ) (l : List Call) (O : FromOpening t g n k l
           λ o. delivery-drops (after .table) (after .ledger) sound m (T .there) released (subst (λ X. X) (sym doomed-is) (doomed-orphan .1 o)),
         );
         otherwise = λ none.
-            ⊎-elim (λ e. inl (e ∙ begins)) (λ e. inr (e .0))
+            ⊎-elim (λ e. inl (e ∙ begins)) (λ e. inr (e .0, no-place (e .1)))
             (delivery-goes (after .table) (after .ledger) sound m (T .there) released (λ z. none (doomed-orphan .0 (subst (λ X. X) doomed-is z)))
             (subst (λ b. (a : ℕ) → full (filtered (modelIn after .controller b) (modelIn after .message m .vec) a) ≡ false) (sym (T .receiver-is)) (T .emptied none)));
       }

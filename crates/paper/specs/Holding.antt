@@ -1,29 +1,29 @@
 -- A message that was sent in a list, that no release in it let out, and whose sending interval is live at its end, is held there.
 use mathlib.Core.Path.{_≡_, refl, sym, _∙_, ap, subst}
 use mathlib.Core.List.{List, [], _∷_, _++_, append-nil}
-use mathlib.Core.Logic.{_⊎_, ⊎-elim}
+use mathlib.Core.Logic.{_≢_, ⊎-elim}
 use Prim.Native.Nat.{ℕ, _+_, _≤_, _<_}
 use native.Mathlib.Omega.{arith}
 use Rattle.base.specs.Choice.{cond-ind, le?}
-use Rattle.table.specs.Field.{State, Incarnation, LiveCount, Sender, SendingIncarnation, SendingNumber}
+use Rattle.table.specs.Field.{State, Incarnation, LiveCount, MessageState, Sender, SendingIncarnation, SendingNumber}
 use Rattle.table.specs.Layout.{controllers}
 use Rattle.table.specs.Words.{state}
 use Rattle.table.specs.Numbering.{numberOf, used, lastGiven, recordOf, present-pos, present-given, given-present, record-one}
 use Rattle.rules.specs.Form.{stateHeld}
 use Rattle.rules.specs.Step.{step, Call, asks, stepCall}
 use Rattle.rules.specs.declared.Answer.{Answer}
-use Rattle.rules.specs.declared.Answer.the-variants.{Sent, Released}
+use Rattle.rules.specs.declared.Answer.the-variants.{Done, Sent, Released}
 use Rattle.rules.specs.declared.Command.{Command}
 use Rattle.rules.specs.declared.Command.the-variants.{Open, Send, Release}
 use Rattle.history.specs.History.{Interval, interval, History, member}
-use Rattle.history.specs.Demand.{Run, next, justOpened, FromOpening, upTo}
+use Rattle.history.specs.Demand.{Run, callIn, next, justOpened, FromOpening, upTo}
 use Rattle.history.specs.Progress.{SendingLive, NotLetOut}
 use Rattle.model.specs.Model.{Model, openModel, putController, putMessage, gapModel, loggedController, endController, beginController, anewController, forcedModel, capModel, sendMessage, releaseMessage}
 use Rattle.model.specs.Tests.{Is}
 use Rattle.model.specs.Invariant.{Inv, Ext, spoilt-on}
 use Rattle.model.specs.Consequences.{on-chain, live-clean, live-or-lost, sending-begun}
 use Rattle.model.specs.Recovery.{notedController}
-use Rattle.model.specs.Runs.{NoDoneOpening, AtCall, along}
+use Rattle.model.specs.Runs.{NoDoneOpening, NotDone, Holds, Later, AtCall, along}
 use Rattle.image.specs.Reads.{sent-is, incarnation-is, live-is, from-is}
 use Rattle.image.specs.Outcome as O
 use Rattle.image.specs.Outcome.{Outcome}
@@ -32,13 +32,13 @@ use Rattle.laws.specs.Answering.{Lent}
 use Rattle.keeping.specs.Unrefused.{Sound, sound-opened}
 use Rattle.progress.specs.Causes.{NoneCauses}
 use Rattle.progress.specs.Held.{Leaves, let-out, undone}
-use Rattle.progress.specs.Tables.{none-causes-step, none-causes-open, held-step, sent-held}
-use Rattle.demand.specs.Demanded.{table-inv, table-outcome, follows}
+use Rattle.progress.specs.Tables.{none-causes-step, none-causes-open, same-record, held-step, sent-held}
+use Rattle.demand.specs.Demanded.{ReadOff, table-inv, table-outcome, follows}
 use Rattle.demand.specs.InForm.{sound-next}
 use Rattle.paper.specs.Extending.{stateOfMessage}
 
 -- the call sent message m
-data Sends : Call → Answer → ℕ → Type 0 where
+pub data Sends : Call → Answer → ℕ → Type 0 where
   sends : (sender receiver payload m : ℕ) → Sends (asks (Send sender receiver payload)) (Sent m) m
 
 -- a forced checkpoint sends none
@@ -72,6 +72,24 @@ newly-sent {μ = μ} (O.rolled b a i j gone w y) o m l u =
     absurd (let z = capped-sent (putController μ b (anewController b (loggedController b (notedController μ b a i) j) j)) b in omega arith)
 newly-sent (O.gap-set q h) o m l u = absurd (omega arith)
 
+-- so was one that is in a record after it and was in none before
+pub just-sent : {n : ℕ} {r : Run} → Holds n (ReadOff n) r → (x : Call) → NotDone r x → (m : ℕ) → let σ = state (r .table) in
+    let τ = state (callIn r x .table) in
+    used σ ≤ recordOf σ m → recordOf τ m < used τ → Sends x (callIn r x .answer) m
+just-sent {r = r} s x unopened m gone here =
+    let σ = state (r .table) in
+    let τ = state (callIn r x .table) in
+    let more : modelOf (r .table) .sent < m =
+    le? m (lastGiven σ) (λ z. absurd (let q = given-present σ m (present-pos τ m here) z in omega arith)) (λ z. omega (arith, sent-is σ)) in
+    newly-sent (table-outcome s x) unopened m more (omega (arith, sent-is τ, present-given τ m here))
+
+-- one that was there before has the sending interval of before
+pub same-sending : {n : ℕ} {r r′ : Run} (s : Holds n (ReadOff n) r) → Later n (ReadOff n) s r′ → (m : ℕ) →
+    recordOf (state (r .table)) m < used (state (r .table)) → r′ .history .sending m ≡ r .history .sending m
+same-sending {r = r} s q m there =
+    let size = ap (λ (μ : Model). μ .sent) (s .reads .model-is) in
+    q .keeps .sending-same m (omega (arith, sent-is (state (r .table)), present-given (state (r .table)) m there))
+
 -- one call, in a run with model μ and history h, whose message m is there: its sending interval is begun
 module _ {n : ℕ} {h : History} (t : List ℕ) (v : Inv n (modelOf t) h) (m : ℕ) (l : recordOf (state t) m < used (state t)) where
   pos : 1 ≤ m
@@ -80,14 +98,16 @@ module _ {n : ℕ} {h : History} (t : List ℕ) (v : Inv n (modelOf t) h) (m : �
   given : m ≤ modelOf t .sent
   given = omega (arith, sent-is (state t), present-given (state t) m l)
 
-  sending-is : h .sending m ≡ interval (state t (Sender (recordOf (state t) m))) (state t (SendingIncarnation (recordOf (state t) m))) (state t (SendingNumber (recordOf (state t) m)))
+  pub sending-is : h .sending m ≡ interval (state t (Sender (recordOf (state t) m))) (state t (SendingIncarnation (recordOf (state t) m))) (state t (SendingNumber (recordOf (state t) m)))
   sending-is = v .message-ok m pos given .sending-is ∙ from-is (state t) m l
+
+  pub begun : Is (h .begun (h .sending m))
+  begun = sending-begun v m pos given
 
   -- where it is live later, it was live before
   live-before : {μ′ : Model} {h′ : History} → Inv n μ′ h′ → Ext h h′ → let y = h .sending m in Is (member y (h′ .chain (y .owner))) → Is (member y (h .chain (y .owner)))
   live-before v′ later live =
       let y = h .sending m in
-      let begun = sending-begun v m pos given in
       let below = v .history .owner-below y begun in
       ⊎-elim (λ z. z) (λ r. absurd (live-clean v′ (y .owner) below y live (spoilt-on later begun r))) (live-or-lost v (y .owner) below y refl begun)
 
@@ -98,7 +118,6 @@ module _ {n : ℕ} {h : History} (t : List ℕ) (v : Inv n (modelOf t) h) (m : �
       Is (member y (h′ .chain (y .owner))) → ⊥
   gone {h′} t′ v′ fits later low live =
       let y = h .sending m in
-      let begun = sending-begun v m pos given in
       let below = v .history .owner-below y begun in
       let c = y .owner in
       let σ = state t in
@@ -132,6 +151,16 @@ left t t′ v v′ m l fits (let-out i mask e) live =
     (mask, ap Release is, ap (λ i. Released i mask) is)
 left t t′ v v′ m l fits (undone x a anew) live = absurd (gone t v m l t′ v′ fits (anew .incarnation-is) (anew .number-le) live)
 
+-- at an opening no message is there
+pub none-there : (t g : List ℕ) (n k : ℕ) → step t g (Open n k) .answer ≡ Done → (m : ℕ) →
+    let σ = state (justOpened t g n k .table) in
+    recordOf σ m < used σ → ⊥
+unfolding justOpened openModel
+none-there t g n k done m here =
+    let σ = state (step t g (Open n k) .table) in
+    let none = ap (λ (μ : Model). μ .sent) (opening-done t g n k done .model-is) in
+    omega (arith, present-pos σ m here, present-given σ m here, sent-is σ)
+
 module _ (t g : List ℕ) (n k : ℕ) (l : List Call) (O : FromOpening t g n k l) (m : ℕ) (inside : NotLetOut t g n k l m) where
   -- in a run: m is held, where it is there and its sending interval is live; and what it takes to see that
   record Held (r : Run) : Type 0 where
@@ -141,16 +170,14 @@ module _ (t g : List ℕ) (n k : ℕ) (l : List Call) (O : FromOpening t g n k l
         let y = r .history .sending m in
         Is (member y (r .history .chain (y .owner))) → stateOfMessage (r .table) m ≡ stateHeld
 
-  -- at the opening no message is there
+  -- at the opening
   held-opened : Held (justOpened t g n k)
-  unfolding justOpened openModel
+  unfolding justOpened
   held-opened =
       record {
         sound = sound-opened t g n k (O .done);
         none = none-causes-open t g n k (O .done);
-        held = λ here live. let σ = state (step t g (Open n k) .table) in
-            let none = ap (λ (μ : Model). μ .sent) (opening-done t g n k (O .done) .model-is) in
-            absurd (omega (arith, present-pos σ m here, present-given σ m here, sent-is σ));
+        held = λ here live. absurd (none-there t g n k (O .done) m here);
       }
 
   -- each call keeps it: m was there and held, or the call sent it
@@ -182,23 +209,19 @@ module _ (t g : List ℕ) (n k : ℕ) (l : List Call) (O : FromOpening t g n k l
           let v′ = table-inv (s .one .holds) in
           let h = r .history in
           let keeps = s .one .keeps in
-          let size = ap (λ (μ : Model). μ .sent) (s .holds .reads .model-is) in
-          let same : later .sending m ≡ h .sending m = keeps .sending-same m (omega (arith, sent-is σ, present-given σ m there)) in
-          let live′ = subst (λ (y : Interval). Is (member y (later .chain (y .owner)))) same live in
-          let (here, record-is, after-it) =
-          held-step (r .table) (r .ledger) x (w .sound .table) (w .none) m there (w .held there (live-before (r .table) v m there v′ (keeps .ext) live′))
-          (λ size degree is. s .unopened size degree (ap asks is)) in
-          ⊎-elim (λ z. z)
-          (λ q. let (mask, is, answer) = left (r .table) u v v′ m there (opening-done t g n k (O .done) .size-le) q live′ in
+          let live′ = subst (λ (y : Interval). Is (member y (later .chain (y .owner)))) (same-sending (s .holds) (s .one) m there) live in
+          let unopened : (size degree : ℕ) → x ≡ Open size degree → step (r .table) (r .ledger) x .answer ≢ Done =
+          λ size degree is. s .unopened size degree (ap asks is) in
+          let lent = w .sound .table in
+          ap (λ i. state u (MessageState i)) (same-record (r .table) (r .ledger) x lent unopened m there)
+          ∙ ⊎-elim (λ z. z .is)
+          (λ q. let (mask, is, answer) = left (r .table) u v v′ m there (opening-done t g n k (O .done) .size-le) (q .0) live′ in
           absurd (inside before after m mask (e ∙ ap (λ x. before ++ asks x ∷ after) is)
           (subst (λ x. step (r .table) (r .ledger) x .answer ≡ Released m mask) is answer)))
-          after-it
+          (held-step (r .table) (r .ledger) x lent unopened m there (w .none) (w .held there (live-before (r .table) v m there v′ (keeps .ext) live′)))
 
       new : recordOf (state u) m < used (state u) → used σ ≤ recordOf σ m → stateOfMessage u m ≡ stateHeld
-      new here gone =
-          let given-here = present-given (state u) m here in
-          let more : modelOf (r .table) .sent < m = le? m (lastGiven σ) (λ z. absurd (let q = given-present σ m (present-pos (state u) m here) z in omega arith)) (λ z. omega (arith, sent-is σ)) in
-          sent-is-held (r .table) (r .ledger) (w .sound .table) (newly-sent (table-outcome (s .holds) (asks x)) (s .unopened) m more (omega (arith, sent-is (state u)))) refl
+      new here gone = sent-is-held (r .table) (r .ledger) (w .sound .table) (just-sent (s .holds) (asks x) (s .unopened) m gone here) refl
 
   -- so it is held at the end of the list
   pub is-held : recordOf (state (upTo t g n k l .table)) m < used (state (upTo t g n k l .table)) → SendingLive t g n k l m → stateOfMessage (upTo t g n k l .table) m ≡ stateHeld

@@ -5,4 +5,7 @@ pub mod Holding
 pub mod Told
 pub mod Released
 pub mod Delivered
+pub mod Discarded
 pub mod Theorems
+pub mod Lists
+pub mod Examples

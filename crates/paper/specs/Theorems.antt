@@ -9,8 +9,9 @@ use mathlib.Core.Logic.{_≢_, _↔_, ⊎-elim}
 use Prim.Native.Nat.{ℕ, _≤_, _<_}
 use native.Mathlib.Omega.{arith}
 use Rattle.table.specs.Layout.{controllers}
+use Rattle.rules.specs.Refusal.{STATE}
 use Rattle.rules.specs.Step.{Call, asks}
-use Rattle.rules.specs.declared.Answer.the-variants.{Done, Released}
+use Rattle.rules.specs.declared.Answer.the-variants.{Done, Released, Refused}
 use Rattle.rules.specs.declared.Command.the-variants.{Release, Tell}
 use Rattle.history.specs.History.{Interval, interval, History, member}
 use Rattle.history.specs.Demand.{callIn, stepIn, next, RestsOnLost, named, FromOpening, upTo, end}
@@ -35,6 +36,7 @@ use Rattle.paper.specs.Crashes.{heard-loss, can-hear}
 use Rattle.paper.specs.Told.{ready}
 use Rattle.paper.specs.Released.{sure-goes-out, goes-out}
 use Rattle.paper.specs.Delivered.{arrives}
+use Rattle.paper.specs.Discarded.{discarded}
 
 module _ (t g : List ℕ) (n k : ℕ) (l : List Call) (O : FromOpening t g n k l) where
   -- the history at the end of the list, and the known words and vectors of the table there
@@ -125,6 +127,11 @@ module _ (t g : List ℕ) (n k : ℕ) (l : List Call) (O : FromOpening t g n k l
   -- the same where its sending interval is no orphan, heard or not
   pub theorem-A-2-useful : (m : ℕ) → SentIn t g n k l m → NotLetOut t g n k l m → (Orphan h (h .sending m) → ⊥) → GoesOut t g n k l m
   theorem-A-2-useful = sure-goes-out t g n k l O
+
+  -- "lost in a failure, or discarded as an orphan": where its sending interval is live no more, it is held no more, and its release is
+  -- refused for its state
+  pub theorem-A-2-discarded : (m : ℕ) → SentIn t g n k l m → (SendingLive t g n k l m → ⊥) → stepIn (upTo t g n k l) (Release m) .answer ≡ Refused STATE
+  theorem-A-2-discarded = discarded t g n k l O
 
   -- the same of the delivery of a released message
   pub theorem-A-2-delivery : (m : ℕ) → Deliverable t g n k l m → HasHeard t g n k l (h .receiver m) → Arrives t g n k l m

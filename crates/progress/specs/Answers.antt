@@ -84,6 +84,10 @@ published false _ _ _ _ e = refl
 message-let : (σ : State) (r wanted : ℕ) → r < used σ → σ (MessageState r) ≡ wanted → 0 ≡ firstOf (messageRefusals σ r wanted)
 message-let σ r wanted l e = skip _ MESSAGE 0 _ (lt-leb (used σ) r l) (skip _ STATE 0 _ (ap not (eq-eqb (σ (MessageState r)) wanted e)) none)
 
+-- the second applies, that of its state
+message-refused : (σ : State) (r wanted : ℕ) → r < used σ → σ (MessageState r) ≢ wanted → STATE ≡ firstOf (messageRefusals σ r wanted)
+message-refused σ r wanted l ne = skip _ MESSAGE STATE _ (lt-leb (used σ) r l) (hit _ STATE _ (ap not (ne-eqb (σ (MessageState r)) wanted ne)))
+
 module _ (L : Limits) (σ : State) (g : List ℕ) (good : inForm L σ ≡ true) where
   -- what is known of a state in form
   f : Form L σ
@@ -129,6 +133,14 @@ module _ (L : Limits) (σ : State) (g : List ℕ) (good : inForm L σ ≡ true) 
         ∙ unrefused-both (releaseRefusals L σ g r) σ g _ (skip _ LEDGER 0 _ (ap not ok) (message-let σ r stateHeld l e)))
         ∙ rw (nobody, nobody-goes σ r) (published (forDesk σ r) (L .entries ≤? countOf g) _ _ _ refl)
 
+    -- one that is there and not held is refused for its state
+    not-held : ledgerOk L g ≡ true → r < used σ → σ (MessageState r) ≢ stateHeld → stepOn L σ g (Release m) .answer ≡ Refused STATE
+    unfolding perform stepRelease refusingBoth
+    not-held ok l ne =
+        ap (λ (o : AfterBoth). o .answer) (performed (Release m))
+        ∙ ap (λ k. cond (k == 0) (release L σ g m r) (beside (refuse k σ) g) .answer)
+        (sym (skip _ LEDGER STATE _ (ap not ok) (message-refused σ r stateHeld l ne)))
+
     -- D: what is neither refused as unknown nor for its state is a released message
     deliverable : stepOn L σ g (Deliver m) .answer ≢ Refused MESSAGE → stepOn L σ g (Deliver m) .answer ≢ Refused STATE →
         (r < used σ) × (σ (MessageState r) ≡ stateReleased)
@@ -136,8 +148,7 @@ module _ (L : Limits) (σ : State) (g : List ℕ) (good : inForm L σ ≡ true) 
     deliverable p q =
         let here : r < used σ = le? (used σ) r (λ u. absurd (p (refused-as MESSAGE refl (hit _ MESSAGE _ (le-leb (used σ) r u))))) (λ u. u) in
         let unlike : σ (MessageState r) ≢ stateReleased → stepOn L σ g (Deliver m) .answer ≡ Refused STATE =
-        λ ne. refused-as STATE refl (skip _ MESSAGE STATE _ (lt-leb (used σ) r here)
-        (hit _ STATE _ (ap not (ne-eqb (σ (MessageState r)) stateReleased ne)))) in
+        λ ne. refused-as STATE refl (message-refused σ r stateReleased here ne) in
         (here, eq? (σ (MessageState r)) stateReleased (λ z. z) (λ ne. absurd (q (unlike ne))))
       where
         refused-as : (n : ℕ) → (n == 0) ≡ false → n ≡ firstOf (messageRefusals σ r stateReleased) → stepOn L σ g (Deliver m) .answer ≡ Refused n
@@ -331,6 +342,10 @@ module _ (t g : List ℕ) (s : Sound t g) where
         ((a : ℕ) → full (releasedVec (modelOf t) m a) ≡ false) →
         step t g (Release m) .answer ≡ cond (forDesk (state t) (recordIn t m) && (house .entries ≤? countOf g)) (Refused LEDGER-USED-UP) (Released m 0)
     release-answers l e h = same-answer (Release m) ∙ release-out house (state t) g good m (s .ledger) l e h
+
+    -- R refuses a message that is there and not held, for its state
+    pub release-refused : recordIn t m < used (state t) → state t (MessageState (recordIn t m)) ≢ stateHeld → step t g (Release m) .answer ≡ Refused STATE
+    release-refused l ne = same-answer (Release m) ∙ not-held house (state t) g good m (s .ledger) l ne
 
     -- a message whose delivery is refused neither as unknown nor for its state is released
     pub deliverable-is : step t g (Deliver m) .answer ≢ Refused MESSAGE → step t g (Deliver m) .answer ≢ Refused STATE →

@@ -7,10 +7,10 @@ use Prim.Native.Nat.{ℕ, _+_, _≤_, _<_}
 use native.Mathlib.Decide.{ℕ-discrete}
 use native.Mathlib.Omega.{arith}
 use lib.ListN.{set}
-use borrow.Author.Tests.{eqb-true, leb-false, ne-eqb, le-ltb}
+use borrow.Author.Tests.{eqb-true, leb-false, ltb-false, eq-eqb, ne-eqb, le-ltb}
 use Rattle.base.specs.Choice.{_==_, _≤?_, cond-ind, le?}
 use Rattle.base.specs.Cases.{Case, firstOf}
-use Rattle.table.specs.Field.{Field, State, End, OfPlace, OfMessage, Size, Incarnation, LiveCount, StableCount, SentCount, Cause, MessageState, region, alike, word, same, messageHead}
+use Rattle.table.specs.Field.{Field, State, End, OfPlace, OfMessage, Size, Incarnation, LiveCount, StableCount, SentCount, Cause, MessageState, Sender, SendingNumber, region, alike, word, same, messageHead}
 use Rattle.table.specs.Change.{put, put-same, put-other, putPart, clearPlaces, putStates}
 use Rattle.table.specs.Numbering.{numberOf, used, recordOf, nextMessage, messageOf, posted, Numbered, numbers-put, numbers-states, none-used, present-pos, message-of-record, record-of-message, posted-used, posted-new, posted-record, posted-kept, posted-size}
 use Rattle.rules.specs.Limits.{Limits, lastIncarnation}
@@ -193,20 +193,30 @@ none-restarted σ c k l =
     })
     refl (numbers-restarted σ c k) (λ r h. h) (λ r u _ q. omega (arith, message-pos σ r u))
 
--- the causes of removed intervals are released or dropped
-none-causes : (σ : State) (c k : ℕ) → NoneCauses σ → NoneCauses (causes σ c k)
-unfolding causes causesIn offeredAgain
-none-causes σ c k =
-    none-states σ _ (λ r. let kept : ℕ → Type 0 = λ x. x ≡ stateHeld → σ (MessageState r) ≡ stateHeld in
+-- the causes of removed intervals are released or dropped: what is held then was held before
+pub causes-held : (σ : State) (c k r : ℕ) → causes σ c k (MessageState r) ≡ stateHeld → σ (MessageState r) ≡ stateHeld
+unfolding causes causesIn offeredAgain putStates
+causes-held σ c k r =
+    let kept : ℕ → Type 0 = λ x. x ≡ stateHeld → σ (MessageState r) ≡ stateHeld in
     cond-ind kept (causedIn σ c k _ r)
-    (λ _. cond-ind kept (condemned σ c (messageVector σ r)) (λ _ e. absurd (omega arith)) (λ _ e. absurd (omega arith))) (λ _ e. e))
+    (λ _. cond-ind kept (condemned σ c (messageVector σ r)) (λ _ e. absurd (omega arith)) (λ _ e. absurd (omega arith))) (λ _ e. e)
 
--- held messages are dropped
+none-causes : (σ : State) (c k : ℕ) → NoneCauses σ → NoneCauses (causes σ c k)
+unfolding causes causesIn putStates
+none-causes σ c k = none-states σ _ (causes-held σ c k)
+
+-- messages are dropped: what is held then was held before, and if c sent it, then up to the k-th number
+pub undropped : (σ : State) (c k r : ℕ) → dropHeld σ c k (MessageState r) ≡ stateHeld →
+    (σ (MessageState r) ≡ stateHeld) × (σ (Sender r) ≡ c → σ (SendingNumber r) ≤ numberOf σ c k)
+unfolding dropHeld heldOrDropped putStates
+undropped σ c k r =
+    cond-ind (λ x. x ≡ stateHeld → (σ (MessageState r) ≡ stateHeld) × (σ (Sender r) ≡ c → σ (SendingNumber r) ≤ numberOf σ c k))
+    (orphaned σ c (numberOf σ c k) r) (λ _ e. absurd (omega arith))
+    (λ q h. (h, λ s. ltb-false (numberOf σ c k) (σ (SendingNumber r)) (rw (eq-eqb (σ (MessageState r)) stateHeld h, eq-eqb (σ (Sender r)) c s) at q)))
+
 none-dropHeld : (σ : State) (c k : ℕ) → NoneCauses σ → NoneCauses (dropHeld σ c k)
-unfolding dropHeld heldOrDropped
-none-dropHeld σ c k =
-    none-states σ _ (λ r. cond-ind (λ x. x ≡ stateHeld → σ (MessageState r) ≡ stateHeld) (orphaned σ c (numberOf σ c k) r)
-    (λ _ e. absurd (omega arith)) (λ _ e. e))
+unfolding dropHeld putStates
+none-dropHeld σ c k = none-states σ _ (λ r h. undropped σ c k r h .0)
 
 -- intervals removed from place k on
 none-removed : (σ : State) (c k : ℕ) → k ≤ σ (LiveCount c) → NoneCauses σ → NoneCauses (removed σ c k)

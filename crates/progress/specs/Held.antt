@@ -1,12 +1,12 @@
--- What ends the holding of a message: a release lets it out, or its sender starts anew at or below its sending number. No other step does.
+-- What ends the holding of a message: a release lets it out, or its sender starts anew at or below its sending number. No other step does,
+-- and none makes a message held that was there and was not.
 use mathlib.Core.Path.{_≡_, refl, sym, ap, _∙_, subst}
 use mathlib.Core.Bool.{true, not, _&&_}
 use mathlib.Core.List.{List}
 use mathlib.Core.Logic.{_≢_, _⊎_, inl, inr, ⊎-elim}
 use Prim.Native.Nat.{ℕ, _+_, _-_, _≤_, _<_}
-use native.Mathlib.Decide.{ℕ-discrete}
 use native.Mathlib.Omega.{arith}
-use borrow.Author.Tests.{eqb-true, ltb-true, ne-eqb}
+use borrow.Author.Tests.{eqb-true, ltb-true, eq-eqb, ne-eqb}
 use Rattle.base.specs.Choice.{_==_, _≤?_, _<?_, cond-ind, and-left, and-right}
 use Rattle.base.specs.Ranges.{anyb-some}
 use Rattle.base.specs.Cases.{Case, firstOf}
@@ -15,21 +15,22 @@ use Rattle.table.specs.Change.{put, put-same, put-other, putPart, clearPlaces, 
 use Rattle.table.specs.Numbering.{numberOf, used, recordOf, messageOf, number-next, Numbered, numbers-states, numbers-trans, posted-kept}
 use Rattle.rules.specs.Limits.{Limits, lastIncarnation}
 use Rattle.rules.specs.Vector.{Vector, messageVector, flat, filtered, condemned, mask, conflict}
-use Rattle.rules.specs.Form.{stateHeld, stateReleased, stateDropped, statePublished, forDesk, inForm}
+use Rattle.rules.specs.Form.{stateHeld, stateReleased, stateDelivered, stateDropped, statePublished, forDesk, inForm}
 use Rattle.rules.specs.Ledger.{countOf}
 use Rattle.rules.specs.Shared.{capped, loggedTo, causing, causedIn, causesIn, causes, newVector, placed, entered, restarted, orphaned, heldOrDropped, dropHeld, startAnew, removed}
 use Rattle.rules.specs.Steps.{After, AfterBoth, afterBoth, beside, refusing, refusingBoth, stepOpen, openRefusals, sent, stepSend, letOut, mayGo, release, stepRelease, intervalAdded, intervalBegins, deliver, stepDeliver, crashed, stepCrash, noted, lowestCondemned, rolledBack, hear, stepHear}
 use Rattle.rules.specs.Step.{perform, looksAtForm, stepOn}
 use Rattle.rules.specs.declared.Answer.{Answer}
-use Rattle.rules.specs.declared.Answer.the-variants.{Done, Released}
+use Rattle.rules.specs.declared.Answer.the-variants.{Done, Released, Dropped}
 use Rattle.rules.specs.declared.Command.{Command}
 use Rattle.rules.specs.declared.Command.the-variants.{Open, SetDegree, Send, Release, Deliver, Log, Checkpoint, Tell, Crash, Hear, SetGap}
+use Rattle.model.specs.Tests.{eq?}
 use Rattle.laws.specs.Records.{part-other}
 use Rattle.laws.specs.Agree.{live-restarted}
 use Rattle.laws.specs.Allowed.{messageAllowed, crashAllowed, hearAllowed}
 use Rattle.image.specs.Anew.{numbers-restarted}
 use Rattle.progress.specs.Unmoved.{Unmoved, numbers-unmoved, unmoved-put, unmoved-loggedTo, unmoved-capped, unmoved-noted, unmoved-degree, unmoved-log, unmoved-checkpoint, unmoved-tell, unmoved-gap}
-use Rattle.progress.specs.Causes.{NoneCauses, none-unmoved}
+use Rattle.progress.specs.Causes.{NoneCauses, none-unmoved, causes-held, undropped}
 
 -- c starts anew, by a step from σ to τ, with an interval of the number x or a lower one
 pub record Anew (σ τ : State) (c x : ℕ) : Type 0 where
@@ -42,6 +43,23 @@ pub data Leaves (σ τ : State) (r : ℕ) : Command → Answer → Type 0 where
   let-out : (m mask : ℕ) → recordOf σ m ≡ r → Leaves σ τ r (Release m) (Released m mask)
   -- its sender starts anew, at or below its sending number
   undone : (x : Command) (a : Answer) → Anew σ τ (σ (Sender r)) (σ (SendingNumber r)) → Leaves σ τ r x a
+
+-- the sender of the message in record r has not started anew, by a step from σ to τ, or only above its sending number
+abbrev pub Spared : State → State → ℕ → Type 0
+Spared σ τ r = let c = σ (Sender r) in (τ (Incarnation c) ≡ σ (Incarnation c)) ⊎ (σ (SendingNumber r) < numberOf τ c (τ (LiveCount c)))
+
+-- the message in record r was held before such a step, and is so after it
+pub record KeptHeld (σ τ : State) (r : ℕ) : Type 0 where
+  pub was : σ (MessageState r) ≡ stateHeld
+  pub is : τ (MessageState r) ≡ stateHeld
+  pub low : Spared σ τ r
+
+-- the same with a change of other words before it
+spared-unmoved : (σ ρ τ : State) (r : ℕ) → Unmoved σ ρ → Spared ρ τ r → Spared σ τ r
+spared-unmoved σ ρ τ r w s =
+    let sender = w (Sender r) refl in
+    subst (λ c. (τ (Incarnation c) ≡ σ (Incarnation c)) ⊎ (σ (SendingNumber r) < numberOf τ c (τ (LiveCount c)))) sender
+    (⊎-elim (λ e. inl (e ∙ w (Incarnation (ρ (Sender r))) refl)) (λ l. inr (omega (arith, l, w (SendingNumber r) refl))) s)
 
 -- INTERVALS REMOVED
 -- a held message is not among their causes
@@ -75,19 +93,28 @@ begun-word : (σ : State) (c k r w : ℕ) → (w <? messageHead) ≡ true → ca
 unfolding restarted entered placed put same putPart clearPlaces
 begun-word σ c k r w e = unmoved-capped (restarted σ c k) c (OfMessage r w) e
 
--- its incarnation is the next, and its number that after the k-th
+-- the number of the new interval is that after the k-th
+start-number : (σ : State) (c k : ℕ) → let τ = startAnew σ c k in numberOf τ c (τ (LiveCount c)) ≡ numberOf σ c k + 1
+unfolding startAnew dropHeld putStates
+start-number σ c k =
+    let live = unmoved-capped (restarted σ c k) c (LiveCount c) refl ∙ live-restarted σ c k in
+    ap (numberOf (startAnew σ c k) c) live ∙ numbers-anew σ c k .number c (k + 1) ∙ number-next σ c k
+
+-- its incarnation is the next
 start-anew : (σ : State) (c k x : ℕ) → numberOf σ c k < x → Anew σ (startAnew σ c k) c x
 unfolding startAnew dropHeld putStates restarted entered put same
 start-anew σ c k x l =
     let i = σ (Incarnation c) + 1 in
-    let ρ = restarted σ c k in
-    let stay = unmoved-capped ρ c in
-    let live = stay (LiveCount c) refl ∙ live-restarted σ c k in
-    let number = ap (numberOf (startAnew σ c k) c) live ∙ numbers-anew σ c k .number c (k + 1) ∙ number-next σ c k in
     record {
-      incarnation-is = stay (Incarnation c) refl ∙ put-same (placed σ c k i (numberOf σ c (k + 1)) (newVector σ c k)) (Incarnation c) i;
-      number-le = subst (λ y. y ≤ x) (sym number) (omega arith);
+      incarnation-is =
+          unmoved-capped (restarted σ c k) c (Incarnation c) refl ∙ put-same (placed σ c k i (numberOf σ c (k + 1)) (newVector σ c k)) (Incarnation c) i;
+      number-le = omega (arith, start-number σ c k);
     }
+
+-- that of another controller stays
+start-other : (σ : State) (c k d : ℕ) → d ≢ c → startAnew σ c k (Incarnation d) ≡ σ (Incarnation d)
+unfolding startAnew dropHeld putStates restarted entered placed put same putPart clearPlaces
+start-other σ c k d ne = unmoved-capped (restarted σ c k) c (Incarnation d) refl ∙ rw (ne-eqb d c ne)
 
 -- so it stays held, or it was sent from one of them
 held-removed : (σ : State) (c k : ℕ) → c < σ Size → NoneCauses σ → (r : ℕ) → r < used σ → σ (MessageState r) ≡ stateHeld →
@@ -105,57 +132,88 @@ held-removed σ c k cl n r u h =
     inr (sym (word _ refl) ∙ d .0, record { incarnation-is = w .incarnation-is; number-le = w .number-le }))
     (held-dropped τ c k r (word _ refl ∙ held-causes σ c k cl n r u h))
 
--- D: the states of other messages stay
-added-state : (σ : State) (c m i : ℕ) (v : Vector) (r : ℕ) → r ≢ i → intervalAdded σ c m i v (MessageState r) ≡ σ (MessageState r)
-unfolding intervalAdded put same putPart
-added-state σ c m i v r ne = rw (ne-eqb r i ne)
+-- and what is held then was held before, and was not sent from one of them
+spared-removed : (σ : State) (c k r : ℕ) → removed σ c k (MessageState r) ≡ stateHeld → (σ (MessageState r) ≡ stateHeld) × Spared σ (removed σ c k) r
+unfolding removed startAnew causes causesIn putStates
+spared-removed σ c k r h =
+    let α = causes σ c k in
+    let τ = capped (restarted α c k) c in
+    let word = begun-word α c k r in
+    let (held, low) = undropped τ c k r h in
+    let ρ = removed σ c k in
+    let last = start-number α c k in
+    let kth : numberOf τ c k ≡ numberOf α c k = numbers-begun α c k .number c k in
+    let sending : τ (SendingNumber r) ≡ σ (SendingNumber r) = word _ refl in (
+      causes-held σ c k r (sym (word _ refl) ∙ held),
+      eq? (σ (Sender r)) c (λ e. inr (subst (λ d. σ (SendingNumber r) < numberOf ρ d (ρ (LiveCount d))) (sym e) (omega (arith, low (word _ refl ∙ e)))))
+          (λ ne. inl (start-other α c k _ ne)),
+    )
 
 -- THE STEPS
-module _ (L : Limits) (σ : State) (n : NoneCauses σ) (r : ℕ) (u : r < used σ) (h : σ (MessageState r) ≡ stateHeld) where
-  -- after step x, which left o
-  abbrev Goes : Command → AfterBoth → Type 0
-  Goes x o = (o .left (MessageState r) ≡ stateHeld) ⊎ Leaves σ (o .left) r x (o .answer)
+module _ (L : Limits) (σ : State) (r : ℕ) (u : r < used σ) where
+  -- after step x, which left o: where the message was held it is held still, unless this lets it go, and where it is held it was so before
+  record Goes (x : Command) (o : AfterBoth) : Type 0 where
+    on : NoneCauses σ → σ (MessageState r) ≡ stateHeld → (o .left (MessageState r) ≡ stateHeld) ⊎ Leaves σ (o .left) r x (o .answer)
+    back : o .left (MessageState r) ≡ stateHeld → (σ (MessageState r) ≡ stateHeld) × Spared σ (o .left) r
+
+  -- its state stays, and no controller starts anew
+  goes-kept : (x : Command) (o : AfterBoth) → o .left (MessageState r) ≡ σ (MessageState r) →
+      ((c : ℕ) → o .left (Incarnation c) ≡ σ (Incarnation c)) → Goes x o
+  goes-kept x o same stay = record { on = λ _ h. inl (same ∙ h); back = λ h. (sym same ∙ h, inl (stay _)) }
+
+  -- nothing changes
+  goes-same : (x : Command) (a : Answer) (g : List ℕ) → Goes x (afterBoth a σ g)
+  goes-same x a g = goes-kept x _ refl (λ _. refl)
+
+  -- the message in record i is not held then, another's state stays, and no controller starts anew
+  goes-put : (x : Command) (o : AfterBoth) (i : ℕ) → o .left (MessageState i) ≢ stateHeld →
+      (r ≢ i → o .left (MessageState r) ≡ σ (MessageState r)) → ((c : ℕ) → o .left (Incarnation c) ≡ σ (Incarnation c)) →
+      (r ≡ i → σ (MessageState r) ≡ stateHeld → Leaves σ (o .left) r x (o .answer)) → Goes x o
+  goes-put x o i ne other stay leaves =
+      eq? r i
+      (λ e. record { on = λ _ h. inr (leaves e h); back = λ h. absurd (ne (subst (λ j. o .left (MessageState j) ≡ stateHeld) e h)) })
+      (λ e. goes-kept x o (other e) stay)
 
   -- a step after its refusals
   goes-refusing : (x : Command) (g : List ℕ) (cases : List Case) (o : After) → (0 ≡ firstOf cases → Goes x (beside o g)) →
       Goes x (beside (refusing cases σ o) g)
   unfolding refusing
-  goes-refusing x g cases o w = cond-ind (λ o. Goes x (beside o g)) (firstOf cases == 0) (λ e. w (sym (eqb-true (firstOf cases) 0 e))) (λ _. inl h)
+  goes-refusing x g cases o w =
+      cond-ind (λ o. Goes x (beside o g)) (firstOf cases == 0) (λ e. w (sym (eqb-true (firstOf cases) 0 e))) (λ _. goes-same x _ g)
 
   goes-refusingBoth : (x : Command) (g : List ℕ) (cases : List Case) (o : AfterBoth) → Goes x o → Goes x (refusingBoth cases σ g o)
   unfolding refusingBoth
-  goes-refusingBoth x g cases o w = cond-ind (Goes x) (firstOf cases == 0) (λ _. w) (λ _. inl h)
+  goes-refusingBoth x g cases o w = cond-ind (Goes x) (firstOf cases == 0) (λ _. w) (λ _. goes-same x _ g)
 
   -- K, L, C, T and the gap
   goes-unmoved : (x : Command) (g : List ℕ) (o : After) → Unmoved σ (o .left) → Goes x (beside o g)
-  goes-unmoved x g o w = inl (w (MessageState r) refl ∙ h)
+  goes-unmoved x g o w = goes-kept x _ (w (MessageState r) refl) (λ c. w (Incarnation c) refl)
 
   -- O, where it isn't done
   goes-open : (g : List ℕ) (m k : ℕ) → stepOpen L σ g m k .answer ≢ Done → Goes (Open m k) (stepOpen L σ g m k)
   unfolding stepOpen refusingBoth
   goes-open g m k =
       cond-ind (λ (o : AfterBoth). o .answer ≢ Done → Goes (Open m k) o) (firstOf (openRefusals L g m k) == 0)
-      (λ _ ne. absurd (ne refl)) (λ _ _. inl h)
+      (λ _ ne. absurd (ne refl)) (λ _ _. goes-same _ _ g)
 
   -- S puts another record
   goes-send : (g : List ℕ) (sender receiver payload : ℕ) → Goes (Send sender receiver payload) (beside (stepSend L σ sender receiver payload) g)
   unfolding stepSend sent
   goes-send g sender receiver payload =
       goes-refusing _ g _ _ (λ _. let ne : r ≢ used σ = λ z. absurd (omega arith) in
-      inl (posted-kept σ _ (MessageState r) refl (rw (ne-eqb r (used σ) ne)) ∙ h))
+      goes-kept _ _ (posted-kept σ _ (MessageState r) refl (rw (ne-eqb r (used σ) ne))) (λ c. posted-kept σ _ (Incarnation c) refl refl))
 
   -- R lets it out, or another
-  goes-out : (m mask : ℕ) (v : Vector) (st : ℕ) (g : List ℕ) → Goes (Release m) (afterBoth (Released m mask) (letOut σ (recordOf σ m) v st) g)
-  unfolding letOut
-  goes-out m mask v st g =
+  goes-out : (m mask : ℕ) (v : Vector) (st : ℕ) (g : List ℕ) → st ≢ stateHeld →
+      Goes (Release m) (afterBoth (Released m mask) (letOut σ (recordOf σ m) v st) g)
+  unfolding letOut put same putPart
+  goes-out m mask v st g ne =
       let i = recordOf σ m in
-      elim (ℕ-discrete i r) [
-        | yes e ↦ inr (let-out m mask e)
-        | no e ↦
-            inl
-            (put-other _ (MessageState i) (MessageState r) st (λ q. e (cc))
-            ∙ part-other σ (OfMessage i 0) (MessageState r) messageHead (flat v) (λ j _ q. e (cc)) ∙ h)
-      ]
+      let stored = putPart σ (OfMessage i 0) messageHead (flat v) in
+      goes-put _ _ i (λ h. ne (sym (put-same stored (MessageState i) st) ∙ h))
+      (λ e. put-other stored (MessageState i) (MessageState r) st (λ q. e (cc))
+      ∙ part-other σ (OfMessage i 0) (MessageState r) messageHead (flat v) (λ j _ q. e (cc)))
+      (λ _. refl) (λ e _. let-out m mask (sym e))
 
   goes-release : (g : List ℕ) (m : ℕ) → Goes (Release m) (stepRelease L σ g m)
   unfolding stepRelease release
@@ -163,23 +221,41 @@ module _ (L : Limits) (σ : State) (n : NoneCauses σ) (r : ℕ) (u : r < used �
       goes-refusingBoth _ g _ _
       (let i = recordOf σ m in
       let v = filtered σ (σ (Sender i)) (messageVector σ i) in
-      cond-ind (Goes (Release m)) (not (mayGo σ i (mask v))) (λ _. inl h)
-      (λ _. cond-ind (Goes (Release m)) (not (forDesk σ i)) (λ _. goes-out m (mask v) v stateReleased g)
-      (λ _. cond-ind (Goes (Release m)) (L .entries ≤? countOf g) (λ _. inl h) (λ _. goes-out m (mask v) v statePublished g))))
+      cond-ind (Goes (Release m)) (not (mayGo σ i (mask v))) (λ _. goes-same _ _ g)
+      (λ _. cond-ind (Goes (Release m)) (not (forDesk σ i)) (λ _. goes-out m (mask v) v stateReleased g (omega arith))
+      (λ _. cond-ind (Goes (Release m)) (L .entries ≤? countOf g) (λ _. goes-same _ _ g)
+      (λ _. goes-out m (mask v) v statePublished _ (omega arith)))))
 
-  -- D: a message that is released is another
+  -- a message that is released is not held, so D changes the state of another
+  module _ (g : List ℕ) (m : ℕ) (released : σ (MessageState (recordOf σ m)) ≡ stateReleased) where
+    none-leaves : {A : Type 0} → r ≡ recordOf σ m → σ (MessageState r) ≡ stateHeld → A
+    none-leaves z h = absurd (let e : σ (MessageState r) ≡ σ (MessageState (recordOf σ m)) = ap (λ j. σ (MessageState j)) z in omega arith)
+
+    goes-dropped : Goes (Deliver m) (afterBoth (Dropped m) (put σ (MessageState (recordOf σ m)) stateDropped) g)
+    unfolding put same
+    goes-dropped =
+        let i = recordOf σ m in
+        goes-put _ _ i (λ h. omega (arith, put-same σ (MessageState i) stateDropped))
+        (λ e. put-other σ (MessageState i) (MessageState r) stateDropped (λ q. e (cc))) (λ _. refl) none-leaves
+
+    goes-begins : (c : ℕ) (v : Vector) → Goes (Deliver m) (beside (intervalBegins σ c m (recordOf σ m) v) g)
+    unfolding intervalBegins intervalAdded put same putPart
+    goes-begins c v =
+        let i = recordOf σ m in
+        let stay = unmoved-capped (intervalAdded σ c m i v) c in
+        let delivered : intervalAdded σ c m i v (MessageState i) ≡ stateDelivered = rw (eq-eqb i i refl) in
+        goes-put _ _ i (λ h. omega (arith, stay (MessageState i) refl))
+        (λ e. stay (MessageState r) refl ∙ rw (ne-eqb r i e)) (λ d. stay (Incarnation d) refl) none-leaves
+
   goes-deliver : (g : List ℕ) (m : ℕ) → Goes (Deliver m) (beside (stepDeliver L σ m) g)
-  unfolding stepDeliver deliver intervalBegins
+  unfolding stepDeliver deliver
   goes-deliver g m =
       goes-refusing _ g _ _
-      (λ q. let i = recordOf σ m in
-      let released = messageAllowed σ i stateReleased q .state-is in
-      let ne : r ≢ i = λ z. absurd (let e : σ (MessageState r) ≡ σ (MessageState i) = ap (λ j. σ (MessageState j)) z in omega arith) in
+      (λ q. let released = messageAllowed σ (recordOf σ m) stateReleased q .state-is in
       let goes : After → Type 0 = λ o. Goes (Deliver m) (beside o g) in
-      cond-ind goes (condemned σ _ _) (λ _. inl (put-other σ (MessageState i) (MessageState r) stateDropped (λ q. ne (cc)) ∙ h))
-      (λ _. cond-ind goes (conflict _ _ _) (λ _. inl h)
-      (λ _. cond-ind goes (L .places ≤? σ (LiveCount _)) (λ _. inl h)
-      (λ _. inl (unmoved-capped _ _ (MessageState r) refl ∙ added-state σ _ m i _ r ne ∙ h)))))
+      cond-ind goes (condemned σ _ _) (λ _. goes-dropped g m released)
+      (λ _. cond-ind goes (conflict _ _ _) (λ _. goes-same _ _ g)
+      (λ _. cond-ind goes (L .places ≤? σ (LiveCount _)) (λ _. goes-same _ _ g) (λ _. goes-begins g m released _ _))))
 
   -- X and H remove intervals, after other words have changed
   goes-removed : (x : Command) (a : Answer) (g : List ℕ) (ρ : State) (c k : ℕ) → Unmoved σ ρ → c < σ Size → Goes x (afterBoth a (removed ρ c k) g)
@@ -187,12 +263,16 @@ module _ (L : Limits) (σ : State) (n : NoneCauses σ) (r : ℕ) (u : r < used �
       let τ = removed ρ c k in
       let size : ρ Size ≡ σ Size = w Size refl in
       let count = numbers-unmoved σ ρ w .used-same in
-      ⊎-elim inl
-      (λ d. let c-is : c ≡ σ (Sender r) = sym (d .0) ∙ w (Sender r) refl in
-      let next = d .1 .incarnation-is ∙ ap (λ i. i + 1) (w (Incarnation c) refl) in
-      let low = subst (λ y. numberOf τ c (τ (LiveCount c)) ≤ y) (w (SendingNumber r) refl) (d .1 .number-le) in
-      inr (undone x a (subst (λ c. Anew σ τ c (σ (SendingNumber r))) c-is (record { incarnation-is = next; number-le = low }))))
-      (held-removed ρ c k (omega arith) (none-unmoved σ ρ w n) r (omega arith) (w (MessageState r) refl ∙ h))
+      record {
+        on = λ n h.
+            ⊎-elim inl
+            (λ d. let c-is : c ≡ σ (Sender r) = sym (d .0) ∙ w (Sender r) refl in
+            let next = d .1 .incarnation-is ∙ ap (λ i. i + 1) (w (Incarnation c) refl) in
+            let low = subst (λ y. numberOf τ c (τ (LiveCount c)) ≤ y) (w (SendingNumber r) refl) (d .1 .number-le) in
+            inr (undone x a (subst (λ c. Anew σ τ c (σ (SendingNumber r))) c-is (record { incarnation-is = next; number-le = low }))))
+            (held-removed ρ c k (omega arith) (none-unmoved σ ρ w n) r (omega arith) (w (MessageState r) refl ∙ h));
+        back = λ h. let (was, low) = spared-removed ρ c k r h in (sym (w (MessageState r) refl) ∙ was, spared-unmoved σ ρ τ r w low);
+      }
 
   goes-crash : (g : List ℕ) (c : ℕ) → Goes (Crash c) (beside (stepCrash L σ c) g)
   unfolding stepCrash crashed
@@ -208,8 +288,8 @@ module _ (L : Limits) (σ : State) (n : NoneCauses σ) (r : ℕ) (u : r < used �
       let heard = noted σ hearer owner i in
       let k = lowestCondemned heard hearer in
       let note = unmoved-noted σ hearer owner i in
-      cond-ind goes (σ (LiveCount hearer) ≤? k) (λ _. inl (note (MessageState r) refl ∙ h))
-      (λ _. cond-ind goes (lastIncarnation ≤? σ (Incarnation hearer)) (λ _. inl h)
+      cond-ind goes (σ (LiveCount hearer) ≤? k) (λ _. goes-unmoved _ g _ note)
+      (λ _. cond-ind goes (lastIncarnation ≤? σ (Incarnation hearer)) (λ _. goes-same _ _ g)
       (λ _. goes-removed _ _ g (loggedTo heard hearer k) hearer k (λ f e. unmoved-loggedTo heard hearer k f e ∙ note f e)
       (hearAllowed σ hearer owner i q .hearer-lt))))
 
@@ -228,12 +308,23 @@ module _ (L : Limits) (σ : State) (n : NoneCauses σ) (r : ℕ) (u : r < used �
   goes-perform g (Hear hearer owner i) ne = goes-hear g hearer owner i
   goes-perform g (SetGap q) ne = goes-unmoved _ g _ (unmoved-gap σ q)
 
--- every step but an opening that is done: a held message stays held, unless one of these lets it go
-pub stays-held : (L : Limits) (σ : State) (g : List ℕ) (x : Command) → NoneCauses σ → (r : ℕ) → r < used σ → σ (MessageState r) ≡ stateHeld →
-    let o = stepOn L σ g x in
-    ((n k : ℕ) → x ≡ Open n k → o .answer ≢ Done) → (o .left (MessageState r) ≡ stateHeld) ⊎ Leaves σ (o .left) r x (o .answer)
-unfolding stepOn
-stays-held L σ g x n r u h =
-    cond-ind
-    (λ (o : AfterBoth). ((m k : ℕ) → x ≡ Open m k → o .answer ≢ Done) → (o .left (MessageState r) ≡ stateHeld) ⊎ Leaves σ (o .left) r x (o .answer))
-    (looksAtForm x && not (inForm L σ)) (λ _ _. inl h) (λ _. goes-perform L σ n r u h g x)
+  -- and with these, of every step but an opening that is done
+  module _ (g : List ℕ) (x : Command) (unopened : (m k : ℕ) → x ≡ Open m k → stepOn L σ g x .answer ≢ Done) where
+    abbrev τ : State
+    τ = stepOn L σ g x .left
+
+    goes-step : Goes x (stepOn L σ g x)
+    unfolding stepOn
+    goes-step =
+        cond-ind (λ (o : AfterBoth). ((m k : ℕ) → x ≡ Open m k → o .answer ≢ Done) → Goes x o)
+        (looksAtForm x && not (inForm L σ)) (λ _ _. goes-same x _ g) (λ _. goes-perform g x) unopened
+
+    -- a message that is held then was held before
+    pub was-held : τ (MessageState r) ≡ stateHeld → KeptHeld σ τ r
+    was-held h = let (was, low) = goes-step .back h in record { was = was; is = h; low = low }
+
+    -- a held one stays held, unless one of these lets it go: then it is held no more
+    pub stays-held : NoneCauses σ → σ (MessageState r) ≡ stateHeld →
+        KeptHeld σ τ r ⊎ (Leaves σ τ r x (stepOn L σ g x .answer) × (τ (MessageState r) ≢ stateHeld))
+    stays-held n h =
+        eq? (τ (MessageState r)) stateHeld (λ e. inl (was-held e)) (λ ne. ⊎-elim (λ e. absurd (ne e)) (λ l. inr (l, ne)) (goes-step .on n h))

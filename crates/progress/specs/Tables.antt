@@ -29,7 +29,7 @@ use Rattle.keeping.specs.Steps.{form-kept}
 use Rattle.keeping.specs.Kept.{house-fits}
 use Rattle.image.specs.Tables.{opening-done}
 use Rattle.progress.specs.Causes.{NoneCauses, none-unsent, none-causes-kept}
-use Rattle.progress.specs.Held.{Leaves, let-out, undone, stays-held}
+use Rattle.progress.specs.Held.{Leaves, let-out, undone, KeptHeld, was-held, stays-held}
 use Rattle.progress.specs.There.{Stays, there-stays, stays-step}
 
 -- STATES WITH THE SAME WORDS
@@ -62,17 +62,31 @@ module _ (σ τ : State) (e : Agree σ τ) (f : Form house τ) where
             e (OfMessage r k) (omega arith, omega arith) ∙ s .word-same r k l q;
       }
 
+  -- newest numbers
+  newest-agree : (c : ℕ) → c < controllers → numberOf σ c (σ (LiveCount c)) ≡ numberOf τ c (τ (LiveCount c))
+  newest-agree c cl = number-same σ τ e c (σ (LiveCount c)) cl ∙ ap (numberOf τ c) (e (LiveCount c) (cl, omega arith))
+
   -- a sender starts anew
   leaves-agree : (ρ : State) (r : ℕ) → ρ (Sender r) < controllers → {x : Command} {a : Answer} → Leaves ρ τ r x a → Leaves ρ σ r x a
   leaves-agree ρ r cl (let-out m mask q) = let-out m mask q
   leaves-agree ρ r cl (undone x a w) =
       let c = ρ (Sender r) in
-      let number = number-same σ τ e c (σ (LiveCount c)) cl ∙ ap (numberOf τ c) (e (LiveCount c) (cl, omega arith)) in
       undone x a
       (record {
         incarnation-is = e (Incarnation c) (cl, omega arith) ∙ w .incarnation-is;
-        number-le = subst (λ y. y ≤ ρ (SendingNumber r)) (sym number) (w .number-le);
+        number-le = subst (λ y. y ≤ ρ (SendingNumber r)) (sym (newest-agree c cl)) (w .number-le);
       })
+
+  -- a message stays held
+  kept-agree : (ρ : State) (r : ℕ) → ρ (Sender r) < controllers → r < used τ → KeptHeld ρ τ r → KeptHeld ρ σ r
+  kept-agree ρ r cl rl w =
+      let c = ρ (Sender r) in
+      let few = f .used-le in
+      record {
+        was = w .was;
+        is = e (MessageState r) (omega arith, omega arith) ∙ w .is;
+        low = ⊎-elim (λ q. inl (e (Incarnation c) (cl, omega arith) ∙ q)) (λ l. inr (omega (arith, l, newest-agree c cl))) (w .low);
+      }
 
 -- A STEP ON A LENT TABLE
 module _ (t g : List ℕ) (x : Command) (h : Lent t) where
@@ -113,31 +127,54 @@ pub there-step : (t g : List ℕ) (x : Command) → Lent t → ((n k : ℕ) → 
 there-step t g x h ne =
     stays-agree _ _ (left-agree t g x h) (left-form t g x h) (state t) (stays-step house (state t) g x (λ n k e d. ne n k e (answer-is t g x h ∙ d)))
 
--- it leaves a held one held, unless it lets it out or its sender starts anew
-pub held-step : (t g : List ℕ) (x : Command) → Lent t → NoneCauses (state t) → (m : ℕ) → let σ = state t in
-    let τ = state (step t g x .table) in
-    recordOf σ m < used σ → σ (MessageState (recordOf σ m)) ≡ stateHeld → ((n k : ℕ) → x ≡ Open n k → step t g x .answer ≢ Done) →
-    (recordOf τ m < used τ)
-    × (recordOf τ m ≡ recordOf σ m)
-    × ((τ (MessageState (recordOf τ m)) ≡ stateHeld) ⊎ Leaves σ τ (recordOf σ m) x (step t g x .answer))
-held-step t g x h n m l held ne =
-    let σ = state t in
-    let o = stepOn house σ g x in
-    let τ = state (step t g x .table) in
-    let r = recordOf σ m in
-    let e = left-agree t g x h in
-    let f = form house σ (h .good) in
-    let few = f .used-le in
-    let there = there-stays σ τ (there-step t g x h ne) m l in
-    let sender = below-8 f _ (messageForm f r l .sender-lt) in
-    let goes : (τ (MessageState r) ≡ stateHeld) ⊎ Leaves σ τ r x (o .answer) =
-    ⊎-elim (λ q. inl (e (MessageState r) (omega arith, omega arith) ∙ q)) (λ w. inr (leaves-agree τ (o .left) e (left-form t g x h) σ r sender w))
-    (stays-held house σ g x n r l held (λ i k z d. ne i k z (answer-is t g x h ∙ d))) in (
-      there .1,
-      there .0,
-      subst (λ i. (τ (MessageState i) ≡ stateHeld) ⊎ Leaves σ τ r x (step t g x .answer)) (sym (there .0))
-          (subst (λ a. (τ (MessageState r) ≡ stateHeld) ⊎ Leaves σ τ r x a) (sym (answer-is t g x h)) goes),
-    )
+-- and message m among them, which is in record r
+module _ (t g : List ℕ) (x : Command) (h : Lent t) (ne : (n k : ℕ) → x ≡ Open n k → step t g x .answer ≢ Done) (m : ℕ)
+    (l : recordOf (state t) m < used (state t)) where
+  abbrev σ : State
+  σ = state t
+
+  abbrev r : ℕ
+  r = recordOf σ m
+
+  -- the state that is left, and that of the table then
+  abbrev ρ : State
+  ρ = τ t g x h
+
+  abbrev then : State
+  then = state (step t g x .table)
+
+  -- it is in record r still
+  pub same-record : recordOf then m ≡ r
+  same-record = there-stays σ then (there-step t g x h ne) m l .0
+
+  still : r < used ρ
+  still = omega (arith, used-agree then ρ (left-agree t g x h), there-step t g x h ne .used-le)
+
+  -- and its state is that which is left
+  state-left : then (MessageState r) ≡ ρ (MessageState r)
+  state-left = left-agree t g x h (MessageState r) (omega (arith, still, left-form t g x h .used-le), omega arith)
+
+  -- its sender is a controller
+  sender : σ (Sender r) < controllers
+  sender = let f = form house σ (h .good) in below-8 f _ (messageForm f r l .sender-lt)
+
+  unopened : (n k : ℕ) → x ≡ Open n k → stepOn house σ g x .answer ≢ Done
+  unopened n k z d = ne n k z (answer-is t g x h ∙ d)
+
+  -- where it is held then it was held before
+  pub held-before : then (MessageState r) ≡ stateHeld → KeptHeld σ then r
+  held-before held =
+      kept-agree then ρ (left-agree t g x h) (left-form t g x h) σ r sender still (was-held house σ r l g x unopened (sym state-left ∙ held))
+
+  -- where it was held it is held still, unless it is let out or its sender starts anew
+  pub held-step : NoneCauses σ → σ (MessageState r) ≡ stateHeld →
+      KeptHeld σ then r ⊎ (Leaves σ then r x (step t g x .answer) × (then (MessageState r) ≢ stateHeld))
+  held-step n held =
+      let e = left-agree t g x h in
+      let f = left-form t g x h in
+      ⊎-elim (λ w. inl (kept-agree then ρ e f σ r sender still w))
+      (λ w. inr (subst (Leaves σ then r x) (sym (answer-is t g x h)) (leaves-agree then ρ e f σ r sender (w .0)), λ q. w .1 (sym state-left ∙ q)))
+      (stays-held house σ r l g x unopened n held)
 
 -- A MESSAGE SENT
 -- m is there, and held
