@@ -19,7 +19,8 @@ use Rattle.history.specs.Demand.{Run, callIn, stepIn, next, justOpened, RestsOn
 use Rattle.model.specs.Model.{Model}
 use Rattle.model.specs.Tests.{fails}
 use Rattle.model.specs.Invariant.{Inv, ext-refl}
-use Rattle.model.specs.Consequences.{release-covers, release-named, sending-begun, dropped-cause, unheard-end, unheard-not-condemned, unheard-live}
+use Rattle.model.specs.Consequences.{release-covers, release-named, sending-begun, unheard-end, unheard-not-condemned, unheard-live}
+use Rattle.model.specs.Paper.{theorem-3-message}
 use Rattle.model.specs.Recovery.{HearsOf}
 use Rattle.model.specs.Runs.{NoDoneOpening, in-list, along, later, at-end}
 use Rattle.image.specs.Reads.{known-is}
@@ -68,7 +69,7 @@ capped-unheard h c u = cond-ind Unheard (forcedAt h c) (λ e. u) (λ e. u)
 dropping : {n : ℕ} {μ : Model} {h : History} {m j : ℕ} {μ′ : Model} → Inv n μ h → Outcome n μ (asks (Deliver m)) (Dropped m) j μ′ →
     RestsOnLost h h (h .receiver m) (h .sending m)
 dropping {h = h} v (O.dropped m p l w z) =
-    subst (λ c. RestsOnLost h h c (h .sending m)) (sym (v .message-ok m p l .receiver-is)) (dropped-cause v m p l w z)
+    subst (λ c. RestsOnLost h h c (h .sending m)) (sym (v .message-ok m p l .receiver-is)) (theorem-3-message v m _ p l w .0 z)
 
 -- the same of an answer that is said to be so
 dropped-reason : {n : ℕ} {μ : Model} {h : History} {m : ℕ} {y : Answer} {j : ℕ} {μ′ : Model} → Inv n μ h → Outcome n μ (asks (Deliver m)) y j μ′ → y ≡ Dropped m →

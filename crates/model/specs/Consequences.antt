@@ -12,7 +12,7 @@ use Rattle.model.specs.Model.{Vec, Model, full, releasedVec}
 use Rattle.model.specs.Tests.{Is, contrary, fails, passes}
 use Rattle.model.specs.Chain.{OnChain, member-chain, chain-member}
 use Rattle.model.specs.Invariant.{Spoilt, Covers, Tracks, MessageOk, Inv, Ext, ext-refl, live-or-spoilt, rests-back, rests-on}
-use Rattle.model.specs.Vectors.{Condemned, full-pos, pos-full, filtered-ind, filtered-tracks, condemned-spoilt}
+use Rattle.model.specs.Vectors.{Condemned, full-pos, pos-full, filtered-ind, filtered-tracks}
 use Rattle.model.specs.Keeping.{Keeps}
 
 -- what is live
@@ -145,12 +145,6 @@ module _ {n : ℕ} {μ : Model} {h : History} (v : Inv n μ h) (m : ℕ) (pos : 
         rests = subst (λ z. Is (h .rests z (interval a (p .incarnation) (p .number)))) (sym (message .sending-is)) (released-tracked .sound a f);
         unknown = subst (λ z. μ .controller (z .owner) .known a (p .incarnation) < p .number) (sym (message .sending-is)) (released-unknown a f);
       }
-
-  -- a message that is dropped at its receiver has a cause: its sending interval rests on one lost in a crash that was heard there
-  pub dropped-cause : μ .message m .to < n → Condemned n (μ .controller (μ .message m .to)) (μ .message m .vec) → RestsOnLost h h (μ .message m .to) (h .sending m)
-  dropped-cause below z =
-      subst (λ q. Spoilt h (μ .message m .to) q) (sym (message .sending-is))
-      (condemned-spoilt {controller = μ .controller} (v .history) (v .controller-ok) (v .agree) below _ _ (message .from-begun) (message .tracked) z)
 
   -- W2: where no pair of the released vector is full, all that the sending interval rests on is stable,
   module _ (none : (a : ℕ) → full (releasedVec μ m a) ≡ false) where

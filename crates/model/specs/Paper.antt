@@ -123,15 +123,11 @@ module _ {n : ℕ} {μ : Model} {h : History} (v : Inv n μ h) where
       let g = v .message-ok m pos sent in
       rw (g .sending-is) (tells b hearer (μ .message m .vec) (μ .message m .from) (g .from-begun) (g .tracked))
 
-  -- a useful interval is live,
+  -- a useful interval is live
   pub useful-live : (y : Interval) → Useful h y → Is (member y (h .chain (y .owner)))
   useful-live y U =
       ⊎-elim (λ m. m) (λ l. absurd (U .sure (record { on = l .on; crash = l .crash; rests = l .rests; lost = l .lost })))
       (live-or-lost v (y .owner) (v .history .owner-below y (U .begun)) y refl (U .begun))
-
-  -- is the one with its number in the model,
-  pub useful-on-chain : (y : Interval) → Useful h y → OnChain (y .owner) (μ .controller (y .owner) .begunIn) (μ .controller (y .owner) .live) y
-  useful-on-chain y U = on-chain v (y .owner) (v .history .owner-below y (U .begun)) y (useful-live y U)
 
   -- and its vector tracks it
   pub tracked-by : (y : Interval) → Useful h y → Tracks h (vectorOf μ y) y
