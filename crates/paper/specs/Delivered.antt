@@ -92,7 +92,7 @@ module _ (t g : List ℕ) (n k : ℕ) (l : List Call) (O : FromOpening t g n k l
           crash = r .crash;
           rests = rests-same (r .on) ∙ r .rests;
           lost = lost-same (r .on) (r .crash) ∙ r .lost;
-          heard = ap (λ (f : ℕ → ℕ → ℕ → Bool). f c (r .on .owner) (r .crash)) (same .heard-is) ∙ r .heard;
+          heard = ap (λ (f : ℕ → ℕ → ℕ → Bool). f c (r .on .owner) (r .crash)) (same .history .heard-is) ∙ r .heard;
         }),
   )
     where
@@ -104,10 +104,10 @@ module _ (t g : List ℕ) (n k : ℕ) (l : List Call) (O : FromOpening t g n k l
           theorem-3-message (T .inv) m c (present-pos _ m (T .there)) (omega (arith, sent-is (state (after .table)), present-given _ m (T .there))) below
 
       rests-same : (j : Interval) → h′ .rests (h′ .sending m) j ≡ h .rests (h .sending m) j
-      rests-same j = λ d. same .rests-is d (same .sending-is d m) j
+      rests-same j = λ d. same .history .rests-is d (same .history .sending-is d m) j
 
       lost-same : (j : Interval) (crash : ℕ) → h′ .lost j crash ≡ h .lost j crash
-      lost-same j crash = λ d. same .lost-is d j crash
+      lost-same j crash = λ d. same .history .lost-is d j crash
 
   -- the receiver's incarnation and its highest number, by the words and by the history
   abbrev σ : State
@@ -117,12 +117,12 @@ module _ (t g : List ℕ) (n k : ℕ) (l : List Call) (O : FromOpening t g n k l
   near = omega (arith, below, opening-done t g n k (O .done) .size-le)
 
   incarnation-then : σ (Incarnation c) ≡ h .incarnation c
-  incarnation-then = sym (incarnation-is σ c near) ∙ sym (T .inv .controller-ok c below .shape .incarnation-is) ∙ ap (λ (f : ℕ → ℕ). f c) (same .incarnation-is)
+  incarnation-then = sym (incarnation-is σ c near) ∙ sym (T .inv .controller-ok c below .shape .incarnation-is) ∙ ap (λ (f : ℕ → ℕ). f c) (same .history .incarnation-is)
 
   number-then : numberOf σ c (σ (LiveCount c)) ≡ newest (h .chain c) .number
   number-then =
       sym (live-is σ c near) ∙ sym (ap (λ (y : Interval). y .number) (newest-is (T .inv .controller-ok c below .shape)))
-      ∙ ap (λ (f : ℕ → List Interval). newest (f c) .number) (same .chain-is)
+      ∙ ap (λ (f : ℕ → List Interval). newest (f c) .number) (same .history .chain-is)
 
   -- the interval that begins
   begins : let b = receiverIn (after .table) m in

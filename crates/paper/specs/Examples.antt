@@ -7,7 +7,7 @@ use mathlib.Core.List.{List, []}
 use mathlib.Core.Logic.{⊎-elim, _≢_}
 use Prim.Native.Nat.{ℕ, _+_}
 use native.Mathlib.Omega.{arith}
-use lib.ListN.{length, take, drop}
+use lib.ListN.{length}
 use Rattle.base.specs.Choice.{_==_, _≤?_, cond-ind}
 use Rattle.table.specs.Field.{desk}
 use Rattle.table.specs.Layout.{tableWords}
@@ -22,14 +22,14 @@ use Rattle.rules.specs.declared.Command.{Command}
 use Rattle.rules.specs.declared.Command.the-variants.{Release, Deliver}
 use Rattle.listing.specs.Quiet as Q
 use Rattle.listing.specs.Quiet.{quiet-opened}
-use Rattle.history.specs.History.{interval, newest, member}
+use Rattle.history.specs.History.{interval, newest}
 use Rattle.history.specs.Demand.{Run, stepIn, runs, justOpened, FromOpening, upTo, end}
 use Rattle.history.specs.Progress.{checkpoints, tells, informing, AllDone, Orphan, SentIn, SendingLive, NotLetOut, HasHeard, informed, GoesOut, Deliverable}
 use Rattle.history.specs.Examples.{all}
 use Rattle.testers.specs.Refused.{answers-differ}
 use Rattle.testers.specs.Sample.{allLook, opened-three, from-opening, run-answered}
 use Rattle.testers.specs.Along.{Answered, answer-at, citations-after, stateAt, ledgerAt, Stage, stage-step, stage-at}
-use Rattle.paper.specs.Lists.{reading, unheard, loss, callsOf, unheardOn, branch, reading-run, unheard-run, loss-run, historyOf, begun, history-is, not-let-out, has-heard, facts}
+use Rattle.paper.specs.Lists.{reading, unheard, loss, callsOf, unheardOn, branch, reading-run, unheard-run, loss-run, historyOf, begun, history-is, sent-by, is-live, not-let-out, has-heard, facts}
 use Rattle.paper.specs.Released.{goes-out}
 use Rattle.paper.specs.Delivered.{arrives}
 
@@ -53,20 +53,11 @@ module _ (t g : List ℕ) (long : length t ≡ tableWords) (wide : length g ≡ 
 
   -- .. message 2 was sent in it ..
   pub reading-sent : SentIn t g 3 1 (callsOf reading) 2
-  reading-sent =
-      record {
-        before = callsOf (take 3 reading);
-        after = callsOf (drop 4 reading);
-        sender = 1;
-        receiver = desk;
-        payload = 24;
-        is-in = refl;
-        answer = answer-at start reading reading-answers 3 (omega arith);
-      }
+  reading-sent = sent-by t g reading reading-answers 3 2 1 desk 24 (omega arith) refl refl
 
   -- .. its sending interval is live at the end ..
   pub reading-live : SendingLive t g 3 1 (callsOf reading) 2
-  reading-live = ap (λ h. member (h .sending 2) (h .chain (h .sending 2 .owner))) reading-history ∙ facts .reading-live
+  reading-live = is-live t g reading reading-answers 2 (facts .reading-live)
 
   -- .. no release let it out ..
   pub reading-inside : NotLetOut t g 3 1 (callsOf reading) 2
@@ -116,20 +107,11 @@ module _ (t g : List ℕ) (long : length t ≡ tableWords) (wide : length g ≡ 
 
   -- .. message 3 was sent in it ..
   pub unheard-sent : SentIn t g 3 1 (callsOf unheard) 3
-  unheard-sent =
-      record {
-        before = callsOf (take 6 unheard);
-        after = callsOf (drop 7 unheard);
-        sender = 2;
-        receiver = desk;
-        payload = 5;
-        is-in = refl;
-        answer = answer-at start unheard unheard-answers 6 (omega arith);
-      }
+  unheard-sent = sent-by t g unheard unheard-answers 6 3 2 desk 5 (omega arith) refl refl
 
   -- .. its sending interval is live at the end ..
   pub unheard-live : SendingLive t g 3 1 (callsOf unheard) 3
-  unheard-live = ap (λ h. member (h .sending 3) (h .chain (h .sending 3 .owner))) unheard-history ∙ facts .unheard-live
+  unheard-live = is-live t g unheard unheard-answers 3 (facts .unheard-live)
 
   -- .. and no release let it out
   pub unheard-inside : NotLetOut t g 3 1 (callsOf unheard) 3

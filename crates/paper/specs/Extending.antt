@@ -10,6 +10,7 @@ use Rattle.table.specs.Words.{state}
 use Rattle.table.specs.Numbering.{used, recordOf}
 use Rattle.rules.specs.Step.{looksAtForm, Call, asks}
 use Rattle.rules.specs.declared.Answer.the-variants.{Done}
+use Rattle.history.specs.History.{History, stabilized, flagging, checkpointing}
 use Rattle.history.specs.Demand.{Run, callIn, next, runs}
 use Rattle.history.specs.Progress.{AllDone}
 use Rattle.model.specs.Model.{Model}
@@ -50,40 +51,28 @@ ready-next {n} {r} x s unopened =
       informed = informed-next (s .holds) x unopened (s .informed);
     }
 
--- Run r′ is r with more that is stable, flagged and known. What is said of resting, losses, hearings, chains and messages is as it was, and
--- so are the states of messages and the ledger; a secured controller stays so.
-pub record Extends (r r′ : Run) : Type 0 where
-  pub rests-is : r′ .history .rests ≡ r .history .rests
-  pub lost-is : r′ .history .lost ≡ r .history .lost
-  pub heard-is : r′ .history .heard ≡ r .history .heard
-  pub chain-is : r′ .history .chain ≡ r .history .chain
-  pub incarnation-is : r′ .history .incarnation ≡ r .history .incarnation
-  pub sending-is : r′ .history .sending ≡ r .history .sending
-  pub receiver-is : r′ .history .receiver ≡ r .history .receiver
-  pub ledger-is : r′ .ledger ≡ r .ledger
-  pub state-stays : (m : ℕ) → recordOf (state (r .table)) m < used (state (r .table)) →
-      (recordOf (state (r′ .table)) m < used (state (r′ .table))) × (stateOfMessage (r′ .table) m ≡ stateOfMessage (r .table) m)
-  pub secured-stays : (a : ℕ) → Secured (modelIn r) a → Secured (modelIn r′) a
+-- History h′ says of resting, losses, hearings, chains and messages what h says.
+pub record Quiet (h h′ : History) : Type 0 where
+  pub rests-is : h′ .rests ≡ h .rests
+  pub lost-is : h′ .lost ≡ h .lost
+  pub heard-is : h′ .heard ≡ h .heard
+  pub chain-is : h′ .chain ≡ h .chain
+  pub incarnation-is : h′ .incarnation ≡ h .incarnation
+  pub sending-is : h′ .sending ≡ h .sending
+  pub receiver-is : h′ .receiver ≡ h .receiver
 
--- a run extends itself
-extends-refl : (r : Run) → Extends r r
-extends-refl r =
-    record {
-      rests-is = refl;
-      lost-is = refl;
-      heard-is = refl;
-      chain-is = refl;
-      incarnation-is = refl;
-      sending-is = refl;
-      receiver-is = refl;
-      ledger-is = refl;
-      state-stays = λ m l. (l, refl);
-      secured-stays = λ a e. e;
-    }
+-- as it does itself, and after a checkpoint
+pub quiet-self : (h : History) → Quiet h h
+quiet-self h = record { rests-is = refl; lost-is = refl; heard-is = refl; chain-is = refl; incarnation-is = refl; sending-is = refl; receiver-is = refl }
+
+pub quiet-checkpointed : (h : History) (c : ℕ) → Quiet h (checkpointing h c)
+unfolding checkpointing flagging stabilized
+quiet-checkpointed h c =
+    record { rests-is = refl; lost-is = refl; heard-is = refl; chain-is = refl; incarnation-is = refl; sending-is = refl; receiver-is = refl }
 
 -- one after the other
-extends-trans : {r r′ r″ : Run} → Extends r r′ → Extends r′ r″ → Extends r r″
-extends-trans p q =
+quiet-trans : {h h′ h″ : History} → Quiet h h′ → Quiet h′ h″ → Quiet h h″
+quiet-trans p q =
     record {
       rests-is = q .rests-is ∙ p .rests-is;
       lost-is = q .lost-is ∙ p .lost-is;
@@ -92,6 +81,26 @@ extends-trans p q =
       incarnation-is = q .incarnation-is ∙ p .incarnation-is;
       sending-is = q .sending-is ∙ p .sending-is;
       receiver-is = q .receiver-is ∙ p .receiver-is;
+    }
+
+-- Run r′ is r with more that is stable, flagged and known: its history is quiet, the ledger and the states of messages are as they were, and
+-- a secured controller stays so.
+pub record Extends (r r′ : Run) : Type 0 where
+  pub history : Quiet (r .history) (r′ .history)
+  pub ledger-is : r′ .ledger ≡ r .ledger
+  pub state-stays : (m : ℕ) → recordOf (state (r .table)) m < used (state (r .table)) →
+      (recordOf (state (r′ .table)) m < used (state (r′ .table))) × (stateOfMessage (r′ .table) m ≡ stateOfMessage (r .table) m)
+  pub secured-stays : (a : ℕ) → Secured (modelIn r) a → Secured (modelIn r′) a
+
+-- a run extends itself
+extends-refl : (r : Run) → Extends r r
+extends-refl r = record { history = quiet-self (r .history); ledger-is = refl; state-stays = λ m l. (l, refl); secured-stays = λ a e. e }
+
+-- one after the other
+extends-trans : {r r′ r″ : Run} → Extends r r′ → Extends r′ r″ → Extends r r″
+extends-trans p q =
+    record {
+      history = quiet-trans (p .history) (q .history);
       ledger-is = q .ledger-is ∙ p .ledger-is;
       state-stays = λ m l. let one = p .state-stays m l in let two = q .state-stays m (one .0) in (two .0, two .1 ∙ one .1);
       secured-stays = λ a e. q .secured-stays a (p .secured-stays a e);

@@ -6,9 +6,9 @@ use mathlib.Core.Path.{_≡_, refl, sym, ap, _∙_, subst}
 use mathlib.Core.Bool.{Bool, true, true≢false, not, _&&_, and-false}
 use mathlib.Core.List.{List, [], _∷_, _++_}
 use mathlib.Core.Logic.{_≢_}
-use Prim.Native.Nat.{ℕ, zero, suc, _+_}
+use Prim.Native.Nat.{ℕ, zero, suc, _+_, _<_}
 use native.Mathlib.Omega.{arith}
-use lib.ListN.{length, take, set}
+use lib.ListN.{length, take, drop, set}
 use lib.Seq.{take-all}
 use borrow.Author.Tests.{eq-eqb}
 use Rattle.base.specs.Choice.{_==_, and-left, and-right}
@@ -31,12 +31,12 @@ use Rattle.listing.specs.Quiet as Q
 use Rattle.listing.specs.Quiet.{steps, quiet-put, quiet-part, quiet-removed, blank-ok, goes, further}
 use Rattle.history.specs.History.{interval, History, sameInterval, changedAt, changedAtInterval, newest, member, sentFrom, joined, leaving, hearing, losing, opening, forcedAt, capping, beginning, delivering, restarting, crashing, answers, valueAt, fedStep, fed}
 use Rattle.history.specs.Citations.{noCitations, sentWith, letOutTo, citedStep, cited}
-use Rattle.history.specs.Demand.{Run, stepIn, next, runs, justOpened, end}
-use Rattle.history.specs.Progress.{Orphan, NotLetOut, HasHeard}
+use Rattle.history.specs.Demand.{Run, stepIn, next, runs, justOpened, end, upTo}
+use Rattle.history.specs.Progress.{Orphan, NotLetOut, HasHeard, SentIn, SendingLive}
 use Rattle.history.specs.Examples.{ListingLine, line, all, allCited}
 use Rattle.model.specs.Tests.{sameInterval-true}
 use Rattle.testers.specs.Sample.{asked, answered, calls, sample-run}
-use Rattle.testers.specs.Along.{Answered, head-answered, tail-answered, history-at, stateAt, ledgerAt}
+use Rattle.testers.specs.Along.{Answered, head-answered, tail-answered, history-at, stateAt, ledgerAt, lineAt, answer-at}
 
 -- THE LISTS, after the opening of a house of three, all with the degree 1
 -- message 2 is held ..
@@ -209,6 +209,25 @@ module _ (t g : List ℕ) (l : List ListingLine) (a : Answered (justOpened t g 3
   history-is =
       let start = justOpened t g 3 1 in
       subst (λ z. runs start (callsOf z) .history ≡ all z (start .history)) (take-all (length l) l (omega arith)) (history-at start l a (length l))
+
+  -- has sent message m by its line j
+  pub sent-by : (j m s r p : ℕ) → j < length l → lineAt l j ≡ line (Send s r p) (Sent m) →
+      callsOf l ≡ callsOf (take j l) ++ asks (Send s r p) ∷ callsOf (drop (suc j) l) → SentIn t g 3 1 (callsOf l) m
+  sent-by j m s r p below is e =
+      let answer = answer-at (justOpened t g 3 1) l a j below in
+      record {
+        before = callsOf (take j l);
+        after = callsOf (drop (suc j) l);
+        sender = s;
+        receiver = r;
+        payload = p;
+        is-in = e;
+        answer = subst (λ x. stepIn (upTo t g 3 1 (callsOf (take j l))) (x .asked) .answer ≡ x .answered) is answer;
+      }
+
+  -- has live the sending interval that is so by that history
+  pub is-live : (m : ℕ) → (let y = historyOf l .sending m in member y (historyOf l .chain (y .owner)) ≡ true) → SendingLive t g 3 1 (callsOf l) m
+  is-live m e = ap (λ h. member (h .sending m) (h .chain (h .sending m .owner))) history-is ∙ e
 
   -- lets out no message that the first test finds held ..
   pub not-let-out : (m : ℕ) → passes (holding m) l ≡ true → NotLetOut t g 3 1 (callsOf l) m

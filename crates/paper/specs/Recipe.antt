@@ -16,7 +16,7 @@ use Rattle.rules.specs.Step.{Call, asks, stepCall}
 use Rattle.rules.specs.declared.Answer.the-variants.{Done}
 use Rattle.rules.specs.declared.Command.{Command}
 use Rattle.rules.specs.declared.Command.the-variants.{Checkpoint, Tell}
-use Rattle.history.specs.History.{History, stabilized, flagging, checkpointing, answers, fedStep, fed}
+use Rattle.history.specs.History.{stabilized, flagging, checkpointing, answers, fedStep, fed}
 use Rattle.history.specs.Citations.{citedStep, cited}
 use Rattle.history.specs.Demand.{Run, callIn, next, runs}
 use Rattle.history.specs.Progress.{checkpoints, tells, informing}
@@ -28,7 +28,7 @@ use Rattle.image.specs.Tables.{sizeOf}
 use Rattle.demand.specs.Demanded.{table-inv}
 use Rattle.model.specs.Securing.{Secured, ToldBy, checkpointedModel, secured-here, secured-on, toldModel, tell-secured, tell-tells, tell-keeps}
 use Rattle.progress.specs.Answers.{Spreads, by-checkpoint, by-telling, state-stays, checkpoint-answers, tell-answers, messages-stay}
-use Rattle.paper.specs.Extending.{Ready, modelIn, stateOfMessage, looked, ready-next, done-outcome, Goes, AllGo, none-go, more-go, both-go}
+use Rattle.paper.specs.Extending.{Ready, modelIn, stateOfMessage, looked, Quiet, quiet-self, quiet-checkpointed, ready-next, done-outcome, Goes, AllGo, none-go, more-go, both-go}
 
 -- a message stays where it is, in the state that it has
 message-stays : {n : ℕ} {r : Run} → Ready n r → {x : Command} → Spreads x → (m : ℕ) → recordOf (state (r .table)) m < used (state (r .table)) →
@@ -75,13 +75,7 @@ module _ {n : ℕ} {r : Run} (s : Ready n r) (c : ℕ) (below : c < n) where
         ready = ready-next checkpoint s (λ size degree z. absurd (true≢false (ap looked z)));
         extends =
             record {
-              rests-is = ap (λ (h : History). h .rests) e;
-              lost-is = ap (λ (h : History). h .lost) e;
-              heard-is = ap (λ (h : History). h .heard) e;
-              chain-is = ap (λ (h : History). h .chain) e;
-              incarnation-is = ap (λ (h : History). h .incarnation) e;
-              sending-is = ap (λ (h : History). h .sending) e;
-              receiver-is = ap (λ (h : History). h .receiver) e;
+              history = subst (Quiet (r .history)) (sym e) (quiet-checkpointed (r .history) c);
               ledger-is = messages-stay (r .table) (r .ledger) (s .sound) (Checkpoint c) (by-checkpoint c) .ledger-same;
               state-stays = λ m. message-stays s (by-checkpoint c) m;
               secured-stays = λ a z. subst (λ μ. Secured μ a) (sym checkpoint-model) (secured-on (modelIn r) c stable-le a z);
@@ -137,13 +131,7 @@ module _ {n : ℕ} {r : Run} (s : Ready n r) (a b : ℕ) (p : a < n) (q : b < n)
         ready = ready-next tell s (λ size degree z. absurd (true≢false (ap looked z)));
         extends =
             record {
-              rests-is = refl;
-              lost-is = refl;
-              heard-is = refl;
-              chain-is = refl;
-              incarnation-is = refl;
-              sending-is = refl;
-              receiver-is = refl;
+              history = quiet-self (r .history);
               ledger-is = messages-stay (r .table) (r .ledger) (s .sound) (Tell a b) (by-telling a b) .ledger-same;
               state-stays = λ m. message-stays s (by-telling a b) m;
               secured-stays = λ c z. subst (λ μ. Secured μ c) (sym tell-model) (tell-secured (modelIn r) a b c z);

@@ -87,11 +87,11 @@ module _ (t g : List ℕ) (n k : ℕ) (l : List Call) (O : FromOpening t g n k l
           state-is = same .state-stays m here .1;
           message = message;
           from-is = from-is;
-          receiver-is = sym (to-is (state (then .table)) m there) ∙ sym (message .receiver-is) ∙ ap (λ (f : ℕ → ℕ). f m) (same .receiver-is);
+          receiver-is = sym (to-is (state (then .table)) m there) ∙ sym (message .receiver-is) ∙ ap (λ (f : ℕ → ℕ). f m) (same .history .receiver-is);
           emptied = λ sure.
               all-emptied inv (i .go .ready .informed) b (i .secured) (i .told) (modelIn then .message m .vec) _ (message .from-begun) (message .tracked)
               (λ o. subst (Sure (last .history)) (sym from-is) sure
-              (record { on = o .on; crash = o .crash; rests = rw (same .rests-is) at (o .rests); lost = rw (same .lost-is) at (o .lost) }));
+              (record { on = o .on; crash = o .crash; rests = rw (same .history .rests-is) at (o .rests); lost = rw (same .history .lost-is) at (o .lost) }));
         }
       where
         i : Informs n last b
@@ -110,4 +110,4 @@ module _ (t g : List ℕ) (n k : ℕ) (l : List Call) (O : FromOpening t g n k l
         message = inv .message-ok m (present-pos _ m there) (omega (arith, sent-is (state (then .table)), present-given _ m there))
 
         from-is : modelIn then .message m .from ≡ last .history .sending m
-        from-is = sym (message .sending-is) ∙ ap (λ (f : ℕ → Interval). f m) (same .sending-is)
+        from-is = sym (message .sending-is) ∙ ap (λ (f : ℕ → Interval). f m) (same .history .sending-is)
