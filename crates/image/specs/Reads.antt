@@ -1,11 +1,11 @@
 -- What the model of a state says, word by word.
-use mathlib.Core.Path.{_≡_, refl, ap, _∙_}
+use mathlib.Core.Path.{_≡_, refl, sym, ap, _∙_, subst}
 use mathlib.Core.Bool.{false}
 use Prim.Native.Nat.{ℕ, _≤_, _<_}
 use Rattle.base.specs.Choice.{_==_}
 use Rattle.table.specs.Field.{State, Known, End, Gap, Degree, Incarnation, LiveCount, StableCount, Flag, Sender, Receiver, SendingIncarnation, SendingNumber}
 use Rattle.table.specs.Layout.{controllers, incarnations}
-use Rattle.table.specs.Numbering.{numberOf, placeOf, used, lastGiven, recordOf}
+use Rattle.table.specs.Numbering.{numberOf, placeOf, used, lastGiven, recordOf, present-given}
 use Rattle.rules.specs.Vector.{placeVector, messageVector}
 use Rattle.history.specs.History.{interval}
 use Rattle.model.specs.Model.{Controller, Message}
@@ -16,6 +16,10 @@ use Rattle.image.specs.Image.{vecOf, controllerBy, modelMessage, image, 
 pub sent-is : (σ : State) → image σ .sent ≡ lastGiven σ
 unfolding image
 sent-is σ = refl
+
+-- one that is there was sent
+pub present-sent : (σ : State) (m : ℕ) → recordOf σ m < used σ → m ≤ image σ .sent
+present-sent σ m l = subst (λ n. m ≤ n) (sym (sent-is σ)) (present-given σ m l)
 
 -- the gap
 pub gap-is : (σ : State) → image σ .gap ≡ σ Gap

@@ -8,7 +8,7 @@ use native.Mathlib.Omega.{arith}
 use Rattle.table.specs.Field.{State, Incarnation, LiveCount}
 use Rattle.table.specs.Layout.{controllers}
 use Rattle.table.specs.Words.{state}
-use Rattle.table.specs.Numbering.{numberOf, number-from, used, recordOf, present-pos, present-given}
+use Rattle.table.specs.Numbering.{numberOf, number-from, used, recordOf, present-pos}
 use Rattle.rules.specs.Limits.{house}
 use Rattle.rules.specs.Form.{stateReleased}
 use Rattle.rules.specs.Step.{Call}
@@ -20,19 +20,17 @@ use Rattle.model.specs.Model.{full, filtered}
 use Rattle.model.specs.Invariant.{newest-is}
 use Rattle.model.specs.Paper.{theorem-3-message}
 use Rattle.model.specs.Vectors.{Condemned}
-use Rattle.image.specs.Reads.{incarnation-is, live-is, sent-is, to-is}
-use Rattle.image.specs.Outcome as O
+use Rattle.image.specs.Reads.{incarnation-is, live-is, present-sent, to-is}
 use Rattle.image.specs.Tables.{sizeOf, opening-done}
 use Rattle.progress.specs.Answers.{recordIn, receiverIn, deliverable-is, receiver-below, delivery-drops, dropped-condemned, delivery-goes}
 use Rattle.demand.specs.Demanded.{table-inv}
-use Rattle.demand.specs.Informing as I
-use Rattle.paper.specs.Extending.{Ready, modelIn, stateOfMessage, Extends}
+use Rattle.paper.specs.Extending.{Ready, modelIn, stateOfMessage, Extends, there-ok}
 use Rattle.paper.specs.Crashes.{heard-loss}
 use Rattle.keeping.specs.Unrefused.{Sound}
 use Rattle.paper.specs.Told.{last, ready, then, Told, told}
 
 module _ (t g : List ℕ) (n k : ℕ) (l : List Call) (O : FromOpening t g n k l) (m : ℕ) (can : Deliverable t g n k l m) (heard : HasHeard t g n k l (end t g n k l .receiver m)) where
-  -- its receiver, and the history at the end of the list
+  -- its receiver; the history and the table at the end of the list
   abbrev c : ℕ
   c = end t g n k l .receiver m
 
@@ -42,18 +40,21 @@ module _ (t g : List ℕ) (n k : ℕ) (l : List Call) (O : FromOpening t g n k l
   abbrev u : List ℕ
   u = last t g n k l O .table
 
+  -- all is known there
   s : Ready n (last t g n k l O)
   s = ready t g n k l O
 
+  -- the message is there, and released
   is-released : (recordIn u m < used (state u)) × (stateOfMessage u m ≡ stateReleased)
   is-released = deliverable-is u (last t g n k l O .ledger) (s .sound) m (can .is-there) (can .is-released)
 
   here : recordOf (state u) m < used (state u)
   here = is-released .0
 
+  -- to a controller of the house
   below : c < n
   below =
-      let message = table-inv (s .holds) .message-ok m (present-pos _ m here) (omega (arith, sent-is (state u), present-given _ m here)) in
+      let message = there-ok u (table-inv (s .holds)) m here in
       let receiver = message .receiver-is ∙ to-is (state u) m here in
       omega (arith, s .holds .reads .size-is, receiver-below u (last t g n k l O .ledger) (s .sound) m here (is-released .1))
 
@@ -64,12 +65,14 @@ module _ (t g : List ℕ) (n k : ℕ) (l : List Call) (O : FromOpening t g n k l
   abbrev after : Run
   after = then t g n k l O c m
 
+  -- which is as it was but for what is stable, flagged and known
   same : Extends (last t g n k l O) after
   same = T .go .extends
 
   sound : Sound (after .table) (after .ledger)
   sound = T .go .ready .sound
 
+  -- so it is released still
   released : stateOfMessage (after .table) m ≡ stateReleased
   released = T .state-is ∙ is-released .1
 
@@ -101,7 +104,7 @@ module _ (t g : List ℕ) (n k : ℕ) (l : List Call) (O : FromOpening t g n k l
 
       judged : Doomed ↔ RestsOnLost h′ h′ c (h′ .sending m)
       judged =
-          theorem-3-message (T .inv) m c (present-pos _ m (T .there)) (omega (arith, sent-is (state (after .table)), present-given _ m (T .there))) below
+          theorem-3-message (T .inv) m c (present-pos _ m (T .there)) (present-sent _ m (T .there)) below
 
       rests-same : (j : Interval) → h′ .rests (h′ .sending m) j ≡ h .rests (h .sending m) j
       rests-same j = λ d. same .history .rests-is d (same .history .sending-is d m) j

@@ -9,7 +9,7 @@ use Rattle.base.specs.Choice.{_<?_, cond-ind, le?}
 use Rattle.table.specs.Field.{State, MessageState, Sender}
 use Rattle.table.specs.Layout.{controllers}
 use Rattle.table.specs.Words.{state}
-use Rattle.table.specs.Numbering.{used, recordOf, present-pos, present-given}
+use Rattle.table.specs.Numbering.{used, recordOf, present-pos}
 use Rattle.rules.specs.Refusal.{STATE}
 use Rattle.rules.specs.Form.{stateHeld}
 use Rattle.rules.specs.Step.{step, Call, asks, stepCall}
@@ -26,7 +26,7 @@ use Rattle.model.specs.Consequences.{chain-live}
 use Rattle.model.specs.Recovery.{notedController}
 use Rattle.model.specs.Lasting.{Lasts, LastsIn, lasts-same, unchanged, lasts-checkpoint, lasts-begun, lasts-anew, lasts-put, lasts-capped, LiveIn, SparedIn, stays-live}
 use Rattle.model.specs.Runs.{NoDoneOpening, AtCall, along}
-use Rattle.image.specs.Reads.{sent-is, incarnation-is, live-is}
+use Rattle.image.specs.Reads.{present-sent, incarnation-is, live-is}
 use Rattle.image.specs.Outcome as O
 use Rattle.image.specs.Outcome.{Outcome}
 use Rattle.image.specs.Tables.{modelOf, opening-done}
@@ -118,7 +118,7 @@ module _ (t g : List ℕ) (n k : ℕ) (l : List Call) (O : FromOpening t g n k l
 
       new : used σ ≤ recordOf σ m → LiveIn later (later .sending m)
       new gone =
-          new-live (table-inv (s .one .holds)) (present-pos (state u) m here) (omega (arith, sent-is (state u), present-given (state u) m here))
+          new-live (table-inv (s .one .holds)) (present-pos (state u) m here) (present-sent (state u) m here)
           (from-newest (just-sent (s .holds) (asks x) (s .unopened) m gone here) (table-outcome (s .holds) (asks x)))
 
       old : recordOf σ m < used σ → LiveIn later (later .sending m)

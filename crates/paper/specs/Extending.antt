@@ -7,7 +7,7 @@ use Prim.Native.Nat.{ℕ, _<_}
 use native.Mathlib.Omega.{arith}
 use Rattle.table.specs.Field.{MessageState}
 use Rattle.table.specs.Words.{state}
-use Rattle.table.specs.Numbering.{used, recordOf}
+use Rattle.table.specs.Numbering.{used, recordOf, present-pos}
 use Rattle.rules.specs.Step.{looksAtForm, Call, asks}
 use Rattle.rules.specs.declared.Answer.the-variants.{Done}
 use Rattle.history.specs.History.{History, stabilized, flagging, checkpointing}
@@ -15,11 +15,13 @@ use Rattle.history.specs.Demand.{Run, callIn, next, runs}
 use Rattle.history.specs.Progress.{AllDone}
 use Rattle.model.specs.Model.{Model}
 use Rattle.model.specs.Runs.{Holds, NotDone, runs-append}
+use Rattle.image.specs.Reads.{present-sent}
 use Rattle.image.specs.Outcome.{Outcome}
 use Rattle.image.specs.Tables.{modelOf, sizeOf}
 use Rattle.keeping.specs.Unrefused.{Sound}
 use Rattle.demand.specs.Demanded.{ReadOff, table-outcome, follows}
 use Rattle.demand.specs.InForm.{sound-next}
+use Rattle.model.specs.Invariant.{MessageOk, Inv}
 use Rattle.model.specs.Securing.{Secured}
 use Rattle.model.specs.Informed.{AllInformed}
 use Rattle.demand.specs.Informing.{informed-next}
@@ -37,6 +39,10 @@ modelIn r = modelOf (r .table)
 -- the state of a message in a table
 abbrev pub stateOfMessage : List ℕ → ℕ → ℕ
 stateOfMessage t m = state t (MessageState (recordOf (state t) m))
+
+-- a message that is there is in order
+pub there-ok : {n : ℕ} {h : History} (t : List ℕ) → Inv n (modelOf t) h → (m : ℕ) → recordOf (state t) m < used (state t) → MessageOk h m (modelOf t .message m)
+there-ok t v m l = v .message-ok m (present-pos (state t) m l) (present-sent (state t) m l)
 
 -- only an opening doesn't look at the form
 abbrev pub looked : Call → Bool

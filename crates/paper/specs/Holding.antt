@@ -8,7 +8,7 @@ use Rattle.base.specs.Choice.{cond-ind, le?}
 use Rattle.table.specs.Field.{State, Incarnation, LiveCount, MessageState, Sender, SendingIncarnation, SendingNumber}
 use Rattle.table.specs.Layout.{controllers}
 use Rattle.table.specs.Words.{state}
-use Rattle.table.specs.Numbering.{numberOf, used, lastGiven, recordOf, present-pos, present-given, given-present, record-one}
+use Rattle.table.specs.Numbering.{numberOf, used, lastGiven, recordOf, present-pos, given-present, record-one}
 use Rattle.rules.specs.Form.{stateHeld}
 use Rattle.rules.specs.Step.{step, Call, asks, stepCall}
 use Rattle.rules.specs.declared.Answer.{Answer}
@@ -24,7 +24,7 @@ use Rattle.model.specs.Invariant.{Inv, Ext, spoilt-on}
 use Rattle.model.specs.Consequences.{on-chain, live-clean, live-or-lost, sending-begun}
 use Rattle.model.specs.Recovery.{notedController}
 use Rattle.model.specs.Runs.{NoDoneOpening, NotDone, Holds, Later, AtCall, along}
-use Rattle.image.specs.Reads.{sent-is, incarnation-is, live-is, from-is}
+use Rattle.image.specs.Reads.{sent-is, incarnation-is, live-is, from-is, present-sent}
 use Rattle.image.specs.Outcome as O
 use Rattle.image.specs.Outcome.{Outcome}
 use Rattle.image.specs.Tables.{modelOf, opening-done}
@@ -81,14 +81,14 @@ just-sent {r = r} s x unopened m gone here =
     let τ = state (callIn r x .table) in
     let more : modelOf (r .table) .sent < m =
     le? m (lastGiven σ) (λ z. absurd (let q = given-present σ m (present-pos τ m here) z in omega arith)) (λ z. omega (arith, sent-is σ)) in
-    newly-sent (table-outcome s x) unopened m more (omega (arith, sent-is τ, present-given τ m here))
+    newly-sent (table-outcome s x) unopened m more (present-sent τ m here)
 
 -- one that was there before has the sending interval of before
 pub same-sending : {n : ℕ} {r r′ : Run} (s : Holds n (ReadOff n) r) → Later n (ReadOff n) s r′ → (m : ℕ) →
     recordOf (state (r .table)) m < used (state (r .table)) → r′ .history .sending m ≡ r .history .sending m
 same-sending {r = r} s q m there =
     let size = ap (λ (μ : Model). μ .sent) (s .reads .model-is) in
-    q .keeps .sending-same m (omega (arith, sent-is (state (r .table)), present-given (state (r .table)) m there))
+    q .keeps .sending-same m (omega (arith, present-sent (state (r .table)) m there))
 
 -- one call, in a run with model μ and history h, whose message m is there: its sending interval is begun
 module _ {n : ℕ} {h : History} (t : List ℕ) (v : Inv n (modelOf t) h) (m : ℕ) (l : recordOf (state t) m < used (state t)) where
@@ -96,7 +96,7 @@ module _ {n : ℕ} {h : History} (t : List ℕ) (v : Inv n (modelOf t) h) (m : �
   pos = present-pos (state t) m l
 
   given : m ≤ modelOf t .sent
-  given = omega (arith, sent-is (state t), present-given (state t) m l)
+  given = present-sent (state t) m l
 
   pub sending-is : h .sending m ≡ interval (state t (Sender (recordOf (state t) m))) (state t (SendingIncarnation (recordOf (state t) m))) (state t (SendingNumber (recordOf (state t) m)))
   sending-is = v .message-ok m pos given .sending-is ∙ from-is (state t) m l
@@ -159,7 +159,7 @@ unfolding justOpened openModel
 none-there t g n k done m here =
     let σ = state (step t g (Open n k) .table) in
     let none = ap (λ (μ : Model). μ .sent) (opening-done t g n k done .model-is) in
-    omega (arith, present-pos σ m here, present-given σ m here, sent-is σ)
+    omega (arith, present-pos σ m here, present-sent σ m here)
 
 module _ (t g : List ℕ) (n k : ℕ) (l : List Call) (O : FromOpening t g n k l) (m : ℕ) (inside : NotLetOut t g n k l m) where
   -- in a run: m is held, where it is there and its sending interval is live; and what it takes to see that

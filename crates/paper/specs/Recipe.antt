@@ -16,8 +16,7 @@ use Rattle.rules.specs.Step.{Call, asks, stepCall}
 use Rattle.rules.specs.declared.Answer.the-variants.{Done}
 use Rattle.rules.specs.declared.Command.{Command}
 use Rattle.rules.specs.declared.Command.the-variants.{Checkpoint, Tell}
-use Rattle.history.specs.History.{stabilized, flagging, checkpointing, answers, fedStep, fed}
-use Rattle.history.specs.Citations.{citedStep, cited}
+use Rattle.history.specs.History.{checkpointing, answers, fedStep, fed}
 use Rattle.history.specs.Demand.{Run, callIn, next, runs}
 use Rattle.history.specs.Progress.{checkpoints, tells, informing}
 use Rattle.model.specs.Model.{Model}
@@ -56,18 +55,22 @@ module _ {n : ℕ} {r : Run} (s : Ready n r) (c : ℕ) (below : c < n) where
   abbrev checkpoint : Call
   checkpoint = asks (Checkpoint c)
 
+  -- it is done
   checkpoint-done : callIn r checkpoint .answer ≡ Done
   unfolding stepCall
   checkpoint-done = checkpoint-answers (r .table) (r .ledger) (s .sound) c (subst (λ j. c < j) (sym (s .holds .reads .size-is)) below)
 
+  -- what is stable is live
   stable-le : modelIn r .controller c .stable ≤ modelIn r .controller c .live
   stable-le = table-inv (s .holds) .controller-ok c below .shape .stable-le
 
+  -- as the model's
   checkpoint-model : modelIn (next checkpoint r) ≡ checkpointedModel (modelIn r) c
   checkpoint-model = checkpoint-found (done-outcome s checkpoint checkpoint-done)
 
+  -- it extends the run
   checkpoint-goes : Goes n r checkpoint
-  unfolding next cited citedStep checkpointing flagging stabilized stepCall
+  unfolding next stepCall
   checkpoint-goes =
       let e = history-checkpointed r c checkpoint-done in
       record {
@@ -82,6 +85,7 @@ module _ {n : ℕ} {r : Run} (s : Ready n r) (c : ℕ) (below : c < n) where
             };
       }
 
+  -- and secures its controller
   checkpoint-secured : Secured (modelIn (next checkpoint r)) c
   checkpoint-secured = subst (λ μ. Secured μ c) (sym checkpoint-model) (secured-here (modelIn r) c stable-le)
 
@@ -114,17 +118,20 @@ module _ {n : ℕ} {r : Run} (s : Ready n r) (a b : ℕ) (p : a < n) (q : b < n)
   abbrev tell : Call
   tell = asks (Tell a b)
 
+  -- it is done
   tell-done : callIn r tell .answer ≡ Done
   unfolding stepCall
   tell-done =
       let size : sizeOf (r .table) ≡ n = s .holds .reads .size-is in
       tell-answers (r .table) (r .ledger) (s .sound) a b (subst (λ j. a < j) (sym size) p) (subst (λ j. b < j) (sym size) q) ne
 
+  -- as the model's
   tell-model : modelIn (next tell r) ≡ toldModel (modelIn r) a b
   tell-model = tell-found (done-outcome s tell tell-done)
 
+  -- it extends the run
   pub tell-goes : Goes n r tell
-  unfolding next cited citedStep fed fedStep stepCall
+  unfolding next fed fedStep stepCall
   tell-goes =
       record {
         done = tell-done;
@@ -138,9 +145,11 @@ module _ {n : ℕ} {r : Run} (s : Ready n r) (a b : ℕ) (p : a < n) (q : b < n)
             };
       }
 
+  -- b is told by a
   pub tell-told : ToldBy (modelIn (next tell r)) b a
   tell-told = subst (λ μ. ToldBy μ b a) (sym tell-model) (tell-tells (modelIn r) a b ne)
 
+  -- and by whoever had told it before
   tell-told-on : (c : ℕ) → ToldBy (modelIn r) b c → ToldBy (modelIn (next tell r)) b c
   tell-told-on c e = subst (λ μ. ToldBy μ b c) (sym tell-model) (tell-keeps (modelIn r) a b c e)
 

@@ -8,7 +8,7 @@ use lib.ListN.{length}
 use Rattle.base.specs.Choice.{_==_, _≤?_}
 use Rattle.table.specs.Field.{desk}
 use Rattle.table.specs.Words.{state}
-use Rattle.table.specs.Numbering.{used, recordOf, present-pos, present-given}
+use Rattle.table.specs.Numbering.{used, recordOf, present-pos}
 use Rattle.rules.specs.Limits.{lastEntry}
 use Rattle.rules.specs.Refusal.{LEDGER-USED-UP}
 use Rattle.rules.specs.Ledger.{countOf}
@@ -21,13 +21,11 @@ use Rattle.model.specs.Model.{full, filtered, releasedVec}
 use Rattle.model.specs.Tests.{Is}
 use Rattle.model.specs.Invariant.{Inv}
 use Rattle.model.specs.Consequences.{live-clean, sending-begun}
-use Rattle.image.specs.Reads.{sent-is}
-use Rattle.image.specs.Outcome as O
+use Rattle.image.specs.Reads.{present-sent}
 use Rattle.progress.specs.Answers.{release-answers}
 use Rattle.testers.specs.Ledgers.{count-ledger}
 use Rattle.demand.specs.Demanded.{table-inv}
 use Rattle.demand.specs.Beyond.{ledger-cites}
-use Rattle.demand.specs.Informing as I
 use Rattle.paper.specs.Extending.{modelIn}
 use Rattle.paper.specs.Crashes.{heard-loss}
 use Rattle.paper.specs.Holding.{is-held}
@@ -42,14 +40,16 @@ module _ (t g : List ℕ) (n k : ℕ) (l : List Call) (O : FromOpening t g n k l
   abbrev s : ℕ
   s = y .owner
 
+  -- the invariant at the end of the list
   v : Inv n (modelIn (last t g n k l O)) (end t g n k l)
   v = table-inv (ready t g n k l O .holds)
 
+  -- the message is there, and its sending interval is one of a controller of the house
   here : recordOf (state (last t g n k l O .table)) m < used (state (last t g n k l O .table))
   here = sent-there t g n k l O m sent
 
   begun : Is (end t g n k l .begun y)
-  begun = let σ = state (last t g n k l O .table) in sending-begun v m (present-pos σ m here) (omega (arith, sent-is σ, present-given σ m here))
+  begun = sending-begun v m (present-pos _ m here) (present-sent _ m here)
 
   below : s < n
   below = v .history .owner-below y begun

@@ -6,7 +6,7 @@ use Prim.Native.Nat.{ℕ, _+_, _≤_, _<_}
 use native.Mathlib.Omega.{arith}
 use Rattle.table.specs.Field.{Receiver}
 use Rattle.table.specs.Words.{state}
-use Rattle.table.specs.Numbering.{used, recordOf, given-present, present-pos, present-given}
+use Rattle.table.specs.Numbering.{used, recordOf, given-present}
 use Rattle.rules.specs.Step.{Call, asks, stepCall}
 use Rattle.rules.specs.declared.Answer.the-variants.{Sent}
 use Rattle.rules.specs.declared.Command.the-variants.{Send}
@@ -24,7 +24,7 @@ use Rattle.image.specs.Tables.{modelOf, sizeOf}
 use Rattle.demand.specs.Demanded.{table-inv, table-outcome, follows}
 use Rattle.demand.specs.InForm.{sound-after}
 use Rattle.demand.specs.Informing as I
-use Rattle.paper.specs.Extending.{Ready, modelIn, stateOfMessage, Extends, AllGo}
+use Rattle.paper.specs.Extending.{Ready, modelIn, stateOfMessage, Extends, AllGo, there-ok}
 use Rattle.paper.specs.Recipe.{Informs, informs}
 
 -- a send that answers so has made its message the last
@@ -107,7 +107,7 @@ module _ (t g : List ℕ) (n k : ℕ) (l : List Call) (O : FromOpening t g n k l
         there = same .state-stays m here .0
 
         message : MessageOk (then .history) m (modelIn then .message m)
-        message = inv .message-ok m (present-pos _ m there) (omega (arith, sent-is (state (then .table)), present-given _ m there))
+        message = there-ok (then .table) inv m there
 
         from-is : modelIn then .message m .from ≡ last .history .sending m
         from-is = sym (message .sending-is) ∙ ap (λ (f : ℕ → Interval). f m) (same .history .sending-is)
