@@ -4,7 +4,6 @@ use mathlib.Core.Path.{_≡_, refl, sym, _∙_, subst}
 use mathlib.Core.Bool.{Bool}
 use mathlib.Core.List.{List, [], _∷_, _++_}
 use Prim.Native.Nat.{ℕ, _<_}
-use native.Mathlib.Omega.{arith}
 use Rattle.table.specs.Field.{MessageState}
 use Rattle.table.specs.Words.{state}
 use Rattle.table.specs.Numbering.{used, recordOf, present-pos}

@@ -1,9 +1,8 @@
 -- The release of a held message, for every list of calls: it goes out once its sender was informed (`GoesOut`).
 use mathlib.Core.Path.{_≡_, sym, _∙_, ap, subst}
 use mathlib.Core.Bool.{false, cond, _&&_}
-use mathlib.Core.List.{List, []}
-use Prim.Native.Nat.{ℕ, _+_, _≤_, _<_}
-use native.Mathlib.Omega.{arith}
+use mathlib.Core.List.{List}
+use Prim.Native.Nat.{ℕ, _<_}
 use lib.ListN.{length}
 use Rattle.base.specs.Choice.{_==_, _≤?_}
 use Rattle.table.specs.Field.{desk}
