@@ -2,7 +2,7 @@
 -- release names owns what the sender doesn't know to be stable, no delivery answers `dropped` without cause, the ledger says what was
 -- sent to the desk and let out, and where no crash is accepted no call answers `rolled` or `dropped`.
 use mathlib.Core.Path.{_≡_, refl, sym, _∙_, ap, subst}
-use mathlib.Core.Bool.{true, false}
+use mathlib.Core.Bool.{Bool, true, false}
 use mathlib.Core.List.{List, [], _∷_, _++_, append-nil}
 use Prim.Native.Nat.{ℕ, _<_}
 use native.Mathlib.Omega.{arith}
@@ -61,9 +61,9 @@ abbrev Unheard : History → Type 0
 Unheard h = (hearer crashed i : ℕ) → h .heard hearer crashed i ≡ false
 
 -- a checkpoint, forced or not, marks none as heard
-capped-unheard : (h : History) (c : ℕ) → Unheard h → Unheard (capping h c)
+pub capped-heard : (h : History) (c : ℕ) → capping h c .heard ≡ h .heard
 unfolding capping checkpointing flagging stabilized
-capped-unheard h c u = cond-ind Unheard (forcedAt h c) (λ e. u) (λ e. u)
+capped-heard h c = cond-ind (λ (q : History). q .heard ≡ h .heard) (forcedAt h c) (λ e. refl) (λ e. refl)
 
 -- a delivery that drops message m has its reason
 dropping : {n : ℕ} {μ : Model} {h : History} {m j : ℕ} {μ′ : Model} → Inv n μ h → Outcome n μ (asks (Deliver m)) (Dropped m) j μ′ →
@@ -93,7 +93,7 @@ module _ {n : ℕ} {μ : Model} {h : History} (v : Inv n μ h) (u : Unheard h) w
   stays-unheard (O.held m mask) o c = u
   stays-unheard (O.dropped m p l w z) o c = u
   stays-unheard (O.waits m) o c = u
-  stays-unheard (O.delivered m d e w) o c = capped-unheard _ _ u
+  stays-unheard (O.delivered m d e w) o c = λ b a i. ap (λ (f : ℕ → ℕ → ℕ → Bool). f b a i) (capped-heard _ _) ∙ u b a i
   stays-unheard (O.logged d q below pos fits) o c = u
   stays-unheard (O.checkpointed d l) o c = u
   stays-unheard (O.told a b p q ne) o c = u

@@ -6,7 +6,6 @@ use mathlib.Core.Logic.{_⊎_, inl, inr, ⊎-elim}
 use mathlib.Core.List.{List, [], _∷_, _++_, append-nil}
 use Prim.Native.Nat.{ℕ, _≤_, _<_}
 use native.Mathlib.Omega.{arith}
-use Rattle.base.specs.Choice.{cond-ind}
 use Rattle.table.specs.Field.{Incarnation}
 use Rattle.table.specs.Words.{state}
 use Rattle.rules.specs.Limits.{house, lastIncarnation}
@@ -15,7 +14,7 @@ use Rattle.rules.specs.Step.{Call, asks, stepCall}
 use Rattle.rules.specs.declared.Answer.{Answer}
 use Rattle.rules.specs.declared.Answer.the-variants.{Crashed}
 use Rattle.rules.specs.declared.Command.the-variants.{Crash, Hear}
-use Rattle.history.specs.History.{Interval, History, joined, leaving, stabilized, hearing, losing, flagging, degreeSet, sentFrom, gapSet, delivering, logging, checkpointing, forcedAt, capping, beginning, restarting, crashing, rollingBack, opening, answers, fedStep, fed}
+use Rattle.history.specs.History.{Interval, History, joined, leaving, stabilized, hearing, losing, flagging, degreeSet, sentFrom, gapSet, delivering, logging, checkpointing, beginning, restarting, crashing, rollingBack, opening, answers, fedStep, fed}
 use Rattle.history.specs.Demand.{callIn, stepIn, next, justOpened, RestsOnLost, FromOpening, upTo, end}
 use Rattle.history.specs.Progress.{Orphan, CrashIn, HasHeard, CanHear}
 use Rattle.model.specs.Model.{Model, aboveLatest}
@@ -30,16 +29,12 @@ use Rattle.image.specs.Outcome as O
 use Rattle.image.specs.Outcome.{Outcome}
 use Rattle.image.specs.Tables.{modelOf, sizeOf, opening-done}
 use Rattle.demand.specs.Demanded.{fed-refused, outcome, table-inv, follows}
+use Rattle.demand.specs.Beyond.{capped-heard}
 use Rattle.demand.specs.InForm.{sound-after}
 use Rattle.laws.specs.Facts.{form, controllerForm}
 use Rattle.progress.specs.Hears.{Hears, hear-answers}
 
--- a checkpoint, forced or not, marks none as heard
-capped-heard : (h : History) (c : ℕ) → capping h c .heard ≡ h .heard
-unfolding capping checkpointing flagging stabilized
-capped-heard h c = cond-ind (λ (q : History). q .heard ≡ h .heard) (forcedAt h c) (λ e. refl) (λ e. refl)
-
--- nor does a new start
+-- a new start marks none as heard
 restarted-heard : (h : History) (c : ℕ) → restarting h c .heard ≡ h .heard
 unfolding restarting beginning joined
 restarted-heard h c = capped-heard _ c
