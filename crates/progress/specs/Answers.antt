@@ -6,15 +6,14 @@ use mathlib.Core.Logic.{_≢_, _⊎_, inl, inr}
 use Prim.Native.Nat.{ℕ, zero, suc, _+_, _≤_, _<_}
 use native.Mathlib.Omega.{arith}
 use lib.Count.{ones, onesIn}
-use lib.ListN.{length}
 use borrow.Author.Tests.{eq-eqb, ne-eqb, leb-true, le-leb, lt-leb, not-false}
 use Rattle.base.specs.Choice.{_==_, _≤?_, _<?_, cond-ind, le?}
 use Rattle.base.specs.Ranges.{anyb-none}
 use Rattle.base.specs.Cases.{Case, firstOf, none, hit, skip}
 use Rattle.table.specs.Field.{State, OfMessage, Size, Known, Degree, Incarnation, LiveCount, StableCount, Flag, MessageState, Sender, Receiver, word, same}
 use Rattle.table.specs.Change.{put, putPart}
-use Rattle.table.specs.Layout.{controllers, messageWords, tableWords}
-use Rattle.table.specs.Words.{state, Agree, agree-words}
+use Rattle.table.specs.Layout.{controllers, messageWords}
+use Rattle.table.specs.Words.{state, Agree}
 use Rattle.table.specs.Numbering.{numberOf, used, recordOf, number-next, Numbered, numbers-kept, numbers-put, numbers-part, numbers-trans, used-agree, record-agree}
 use Rattle.rules.specs.Limits.{Limits, house}
 use Rattle.rules.specs.Refusal.{FORM, LEDGER, CONTROLLER, MESSAGE, SAME-CONTROLLER, STATE, PLACES-USED-UP, LEDGER-USED-UP}
@@ -23,7 +22,7 @@ use Rattle.rules.specs.Form.{stateHeld, stateReleased, forDesk, inForm}
 use Rattle.rules.specs.Ledger.{countOf, ledgerOk}
 use Rattle.rules.specs.Shared.{newestPlace, logged, loggedTo, checkpointed}
 use Rattle.rules.specs.Steps.{After, after, AfterBoth, beside, refuse, refusing, refusingBoth, mayGo, messageRefusals, release, releaseRefusals, stepRelease, intervalBegins, deliver, stepDeliver, checkpointRefusals, stepCheckpoint, toldRow, told, tellRefusals, stepTell}
-use Rattle.rules.specs.Step.{perform, stepOn, OutBoth, writtenBoth, lent, step}
+use Rattle.rules.specs.Step.{perform, stepOn, OutBoth, step}
 use Rattle.rules.specs.declared.Answer.{Answer}
 use Rattle.rules.specs.declared.Answer.the-variants.{Done, Released, Delivered, Dropped, Refused}
 use Rattle.rules.specs.declared.Command.{Command}
@@ -39,6 +38,7 @@ use Rattle.image.specs.Vectors.{length-message}
 use Rattle.image.specs.Tests.{spared, condemned-for, filtered-is, released-is}
 use Rattle.image.specs.Reads.{message-vec-is}
 use Rattle.image.specs.Tables.{modelOf, sizeOf}
+use Rattle.progress.specs.Tables.{step-is, left-agree, answer-is}
 
 -- EMPTY PAIRS
 -- a pair of the model is empty where that of the words is
@@ -302,14 +302,9 @@ module _ (t g : List ℕ) (s : Sound t g) where
   good : inForm house (state t) ≡ true
   good = s .table .good
 
-  -- the step on the table is the step on its state
-  on-state : (x : Command) → step t g x ≡ writtenBoth (stepOn house (state t) g x)
-  unfolding step lent
-  on-state x = rw (eq-eqb (length t) tableWords (s .table .long))
-
-  -- and answers the same
+  -- the step on the table answers what the step on its state does
   pub same-answer : (x : Command) → step t g x .answer ≡ stepOn house (state t) g x .answer
-  same-answer x = ap (λ (o : OutBoth). o .answer) (on-state x)
+  same-answer x = answer-is t g x (s .table)
 
   -- C is done at every controller of the house
   pub checkpoint-answers : (c : ℕ) → c < sizeOf t → step t g (Checkpoint c) .answer ≡ Done
@@ -323,7 +318,7 @@ module _ (t g : List ℕ) (s : Sound t g) where
   pub messages-stay : (x : Command) → Spreads x → MessagesStay t g (step t g x)
   messages-stay x h =
       let o = stepOn house (state t) g x in
-      let agree : Agree (state (step t g x .table)) (o .left) = agree-words (o .left) (ap (λ (o : OutBoth). o .table) (on-state x)) in
+      let agree : Agree (state (step t g x .table)) (o .left) = left-agree t g x (s .table) in
       let kept = spread-kept house (state t) g x h in
       let numbers = kept .0 .numbers in
       let count : used (state (step t g x .table)) ≡ used (state t) = used-agree _ (o .left) agree ∙ numbers .used-same in
@@ -333,7 +328,7 @@ module _ (t g : List ℕ) (s : Sound t g) where
         used-same = count;
         record-same = λ m. record-agree _ (o .left) agree m (omega arith) ∙ numbers .record-same m;
         word-same = λ r k l kl. agree (OfMessage r k) (omega arith, kl) ∙ kept .0 .word-same r k;
-        ledger-same = ap (λ (o : OutBoth). o .ledger) (on-state x) ∙ kept .1;
+        ledger-same = ap (λ (o : OutBoth). o .ledger) (step-is t g x (s .table)) ∙ kept .1;
       }
 
   module _ (m : ℕ) where

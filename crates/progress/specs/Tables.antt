@@ -95,16 +95,16 @@ module _ (t g : List ℕ) (x : Command) (h : Lent t) where
   τ = stepOn house (state t) g x .left
 
   -- it is the step on the state
-  step-is : step t g x ≡ writtenBoth (stepOn house (state t) g x)
+  pub step-is : step t g x ≡ writtenBoth (stepOn house (state t) g x)
   unfolding step lent
   step-is = rw (eq-eqb (length t) tableWords (h .long))
 
   -- the table that is left has its words
-  left-agree : Agree (state (step t g x .table)) τ
+  pub left-agree : Agree (state (step t g x .table)) τ
   left-agree = agree-words τ (ap (λ o. o .table) step-is)
 
   -- and the answer is its answer
-  answer-is : step t g x .answer ≡ stepOn house (state t) g x .answer
+  pub answer-is : step t g x .answer ≡ stepOn house (state t) g x .answer
   answer-is = ap (λ o. o .answer) step-is
 
   -- it is in form
