@@ -44,10 +44,10 @@ unfolding next
 informed-next s x unopened all = outcome-informed (table-outcome s x) unopened (table-inv s) all
 
 -- After each first part of a list from an opening each controller knows that.
-pub informed : (t g : List ℕ) (n k : ℕ) (l : List Call) → FromOpening t g n k l → (before rest : List Call) → l ≡ before ++ rest →
+pub all-informed : (t g : List ℕ) (n k : ℕ) (l : List Call) → FromOpening t g n k l → (before rest : List Call) → l ≡ before ++ rest →
     AllInformed n (modelOf (upTo t g n k before .table))
 unfolding justOpened
-informed t g n k l O =
+all-informed t g n k l O =
     along (follows n) t g k l O (λ r. AllInformed n (modelOf (r .table)))
     (subst (AllInformed n) (sym (opening-done t g n k (O .done) .model-is)) (informed-opened n k))
     (λ before x after e s. informed-next (s .holds) x (s .unopened))

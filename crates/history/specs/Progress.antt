@@ -112,7 +112,7 @@ module _ (t g : List ℕ) (n k : ℕ) (l : List Call) where
     pub is-released : stepIn last (Deliver m) .answer ≢ Refused STATE
 
   -- "Then the delivery of m answers `dropped` exactly where its sending interval rests on one lost in the list, and otherwise
-  -- `delivered`, or is refused with 12: it doesn't wait." Refused with 12 it is only where the receiver's numbers have come to the last place's.
+  -- `delivered`, or is refused with 12: it doesn't wait." 12 is given only where the receiver's numbers have come to that of the last place.
   pub record Arrives (m : ℕ) : Type 0 where
     pub done : AllDone last (informing n (h .receiver m))
     pub dropped : (stepIn (informed (h .receiver m)) (Deliver m) .answer ≡ Dropped m) ↔ Orphan h (h .sending m)

@@ -52,7 +52,7 @@ unfolding logController
 logged-flagged c k j = cond-ind (λ (q : Controller). q .flagged ≡ k .flagged) (k .stable <? j) (λ e. refl) (λ e. refl)
 
 -- nor what is live
-logged-live : (c : ℕ) (k : Controller) (j : ℕ) → loggedController c k j .live ≡ k .live
+pub logged-live : (c : ℕ) (k : Controller) (j : ℕ) → loggedController c k j .live ≡ k .live
 unfolding logController
 logged-live c k j = cond-ind (λ (q : Controller). q .live ≡ k .live) (k .stable <? j) (λ e. refl) (λ e. refl)
 

@@ -8,12 +8,21 @@ use native.Mathlib.Omega.{arith}
 use Rattle.base.specs.Choice.{le?}
 use Rattle.history.specs.History.{Interval, interval, History, member}
 use Rattle.history.specs.Demand.{RestsOnLost}
+use Rattle.history.specs.Progress.{Orphan}
 use Rattle.model.specs.Model.{Vec, Model, full, releasedVec}
 use Rattle.model.specs.Tests.{Is, contrary, fails, passes}
 use Rattle.model.specs.Chain.{OnChain, member-chain, chain-member}
-use Rattle.model.specs.Invariant.{Spoilt, Covers, Tracks, MessageOk, Inv, Ext, ext-refl, live-or-spoilt, rests-back, rests-on}
+use Rattle.model.specs.Invariant.{Spoilt, Covers, Tracks, InOrder, MessageOk, Inv, Ext, ext-refl, live-or-spoilt, rests-back, rests-on}
 use Rattle.model.specs.Vectors.{Condemned, full-pos, pos-full, filtered-ind, filtered-tracks}
 use Rattle.model.specs.Keeping.{Keeps}
+
+-- an interval that rests on one lost in a crash that somebody has heard is an orphan
+pub spoilt-orphan : {h : History} {b : ℕ} {y : Interval} → RestsOnLost h h b y → Orphan h y
+spoilt-orphan r = record { on = r .on; crash = r .crash; rests = r .rests; lost = r .lost }
+
+-- and so is what rests on an orphan
+pub orphan-up : {n : ℕ} {h : History} {y j : Interval} → InOrder n h → Is (h .begun y) → Is (h .rests y j) → Orphan h j → Orphan h y
+orphan-up {y = y} {j = j} o b r l = record { on = l .on; crash = l .crash; rests = o .rests-trans y j (l .on) b r (l .rests); lost = l .lost }
 
 -- what is live
 module _ {n : ℕ} {μ : Model} {h : History} (v : Inv n μ h) (b : ℕ) (below : b < n) where

@@ -5,7 +5,7 @@ use mathlib.Core.Bool.{false}
 use mathlib.Core.Logic.{⊎-elim, _≢_}
 use Prim.Native.Nat.{ℕ, _+_, _≤_, _<_, max}
 use native.Mathlib.Omega.{arith}
-use borrow.Author.Tests.{ltb-true, ltb-false, lt-ltb}
+use borrow.Author.Tests.{ltb-true, lt-ltb}
 use Rattle.base.specs.Choice.{_<?_, cond-ind, le?}
 use Rattle.history.specs.History.{Interval, interval, History}
 use Rattle.history.specs.Progress.{Orphan}
@@ -15,7 +15,8 @@ use Rattle.model.specs.Invariant.{Tracks, Inv, live-or-spoilt}
 use Rattle.model.specs.Vectors.{pos-full, filtered-ind}
 use Rattle.model.specs.Renewing.{renewed-old, renewed-new}
 use Rattle.model.specs.Keeping.{putController-twice}
-use Rattle.model.specs.Securing.{Secured, ToldBy}
+use Rattle.model.specs.Consequences.{spoilt-orphan, orphan-up}
+use Rattle.model.specs.Securing.{Secured, ToldBy, logged-stable}
 use Rattle.model.specs.Recovery.{HearsOf, hears-other, notedController}
 
 -- What controller c knows at least: its own live intervals that are stable, and the end of each crash that it has heard.
@@ -162,11 +163,6 @@ anew-current c k j none =
       unended = λ i l. none i (omega arith);
     }
 
--- after logging up to j the numbers up to j are stable
-logged-upto : (c : ℕ) (k : Controller) (j : ℕ) → j ≤ loggedController c k j .stable
-unfolding logController
-logged-upto c k j = cond-ind (λ (q : Controller). j ≤ q .stable) (k .stable <? j) (λ e. omega arith) (λ e. ltb-false (k .stable) j e)
-
 -- a crash ends the current incarnation alone
 crash-unended : (c : ℕ) (k : Controller) → Current c k → Unended c (endController c k)
 unfolding endController
@@ -247,7 +243,7 @@ module _ {n : ℕ} {μ : Model} {h : History} (v : Inv n μ h) (all : AllInforme
       let noted = note-current a i (μ .controller a .ends a i) (hears-other O) now in
       let none = later-unended c _ (logged-current j noted) in
       put-capped _ (anew-current c _ j none)
-      (anew-informed j (logged-upto c _ j) none (logged-informed j fits noted (note-informed a i (μ .controller a .ends a i) (all c below))))
+      (anew-informed j (omega (arith, logged-stable c (notedController μ c a i) j)) none (logged-informed j fits noted (note-informed a i (μ .controller a .ends a i) (all c below))))
 
 -- y rests on no lost interval
 abbrev pub Sure : History → Interval → Type 0
@@ -284,7 +280,7 @@ module _ {n : ℕ} {μ : Model} {h : History} (v : Inv n μ h) (all : AllInforme
             ⊎-elim
             (λ on. let l = told-knows μ a b (all a owner) (told a owner) (w a .number) (on .pos) (omega (arith, on .top, secured a owner)) in
             rw (ap (λ (j : Interval). j .incarnation) (on .is)) l)
-            (λ s. absurd (sure (record { on = s .on; crash = s .crash; rests = v .history .rests-trans y z (s .on) begun r (s .rests); lost = s .lost })))
+            (λ s. absurd (sure (orphan-up (v .history) begun r (spoilt-orphan s))))
             (live-or-spoilt (v .history) (v .controller-ok a owner) z refl z-begun)
 
     -- so filtering empties it

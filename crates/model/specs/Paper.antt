@@ -15,7 +15,7 @@ use Rattle.model.specs.Tests.{Is, contrary, passes}
 use Rattle.model.specs.Chain.{OnChain}
 use Rattle.model.specs.Invariant.{Covers, Tracks, Inv, spoilt-up}
 use Rattle.model.specs.Vectors.{Condemned, pos-full, condemned-spoilt, spoilt-condemned}
-use Rattle.model.specs.Consequences.{on-chain, live-begun, live-clean, live-or-lost}
+use Rattle.model.specs.Consequences.{spoilt-orphan, orphan-up, on-chain, live-begun, live-clean, live-or-lost}
 
 -- "useful states (neither lost nor orphan)": y was begun and rests on no lost interval (it rests on itself)
 pub record Useful (h : History) (y : Interval) : Type 0 where
@@ -64,7 +64,7 @@ module _ {n : ℕ} {μ : Model} {h : History} (v : Inv n μ h) where
       let order = v .history in
       let begun = order .rests-begun u z b r in
       ⊎-elim (λ m. contrary m gone)
-      (λ l. record { on = l .on; crash = l .crash; rests = order .rests-trans u z (l .on) b r (l .rests); lost = l .lost })
+      (λ l. orphan-up order b r (spoilt-orphan l))
       (live-or-lost v (z .owner) (order .owner-below z begun) z refl begun)
 
   -- a vector that tracks an interval tells b just whether it rests on one lost in a crash that b has heard
@@ -126,7 +126,7 @@ module _ {n : ℕ} {μ : Model} {h : History} (v : Inv n μ h) where
   -- a useful interval is live
   pub useful-live : (y : Interval) → Useful h y → Is (member y (h .chain (y .owner)))
   useful-live y U =
-      ⊎-elim (λ m. m) (λ l. absurd (U .sure (record { on = l .on; crash = l .crash; rests = l .rests; lost = l .lost })))
+      ⊎-elim (λ m. m) (λ l. absurd (U .sure (spoilt-orphan l)))
       (live-or-lost v (y .owner) (v .history .owner-below y (U .begun)) y refl (U .begun))
 
   -- and its vector tracks it
@@ -139,7 +139,7 @@ module _ {n : ℕ} {μ : Model} {h : History} (v : Inv n μ h) where
       let order = v .history in
       record {
         begun = order .rests-begun y j (U .begun) r;
-        sure = λ o. U .sure (record { on = o .on; crash = o .crash; rests = order .rests-trans y j (o .on) (U .begun) r (o .rests); lost = o .lost });
+        sure = λ o. U .sure (orphan-up order (U .begun) r o);
       }
 
   -- two useful intervals

@@ -4,9 +4,10 @@ use mathlib.Core.Path.{_≡_, refl, sym, ap, subst}
 use mathlib.Core.Logic.{_≢_}
 use Prim.Native.Nat.{ℕ, _≤_, max}
 use native.Mathlib.Omega.{arith}
-use borrow.Author.Tests.{ltb-false}
+use borrow.Author.Tests.{ltb-true, ltb-false}
 use Rattle.base.specs.Choice.{_<?_, cond-ind}
-use Rattle.model.specs.Model.{Controller, Model, putController, logController, flagController, checkpointController, tellController}
+use Rattle.model.specs.Model.{Controller, Model, putController, logController, loggedController, flagController, checkpointController, tellController}
+use Rattle.model.specs.Close.{logged-live}
 use Rattle.model.specs.Tests.{eq?, changedAt-ind, changedAt-same, changedAt-other}
 
 -- a controller whose intervals are all stable
@@ -17,6 +18,13 @@ Secured μ c = μ .controller c .stable ≡ μ .controller c .live
 abbrev pub ToldBy : Model → ℕ → ℕ → Type 0
 ToldBy μ b a = (i : ℕ) → μ .controller a .known a i ≤ μ .controller b .known a i
 
+-- logging up to j leaves the larger of j and what was stable
+pub logged-stable : (c : ℕ) (k : Controller) (j : ℕ) → loggedController c k j .stable ≡ max (k .stable) j
+unfolding logController
+logged-stable c k j =
+    cond-ind (λ (q : Controller). q .stable ≡ max (k .stable) j) (k .stable <? j) (λ e. omega (arith, ltb-true (k .stable) j e))
+    (λ e. omega (arith, ltb-false (k .stable) j e))
+
 -- C secures its controller, and leaves what is live and stable of the others
 module _ (μ : Model) (c : ℕ) where
   -- the model after it
@@ -25,9 +33,8 @@ module _ (μ : Model) (c : ℕ) where
 
   -- then all that is live is stable
   all-stable : (k : Controller) → k .stable ≤ k .live → checkpointController c k .stable ≡ checkpointController c k .live
-  unfolding flagController logController
-  all-stable k l =
-      cond-ind (λ (q : Controller). q .stable ≡ q .live) (k .stable <? k .live) (λ e. refl) (λ e. let z = ltb-false (k .stable) (k .live) e in omega arith)
+  unfolding flagController
+  all-stable k l = omega (arith, logged-stable c k (k .live), logged-live c k (k .live))
 
   -- it is secured
   pub secured-here : μ .controller c .stable ≤ μ .controller c .live → Secured checkpointedModel c

@@ -59,22 +59,22 @@ module _ (t g : List ℕ) (n k : ℕ) (l : List Call) (O : FromOpening t g n k l
       omega (arith, s .holds .reads .size-is, receiver-below u (last t g n k l O .ledger) (s .sound) m here (is-released .1))
 
   -- after the receiver was informed
-  T : Told t g n k l O c m
-  T = told t g n k l O c m below here
+  receiver-told : Told t g n k l O c m
+  receiver-told = told t g n k l O c m below here
 
   abbrev after : Run
   after = then t g n k l O c m
 
   -- which is as it was but for what is stable, flagged and known
   same : Extends (last t g n k l O) after
-  same = T .go .extends
+  same = receiver-told .go .extends
 
   sound : Sound (after .table) (after .ledger)
-  sound = T .go .ready .sound
+  sound = receiver-told .go .ready .sound
 
   -- so it is released still
   released : stateOfMessage (after .table) m ≡ stateReleased
-  released = T .state-is ∙ is-released .1
+  released = receiver-told .state-is ∙ is-released .1
 
   -- its vector is condemned to its receiver
   abbrev Doomed : Type 0
@@ -82,7 +82,7 @@ module _ (t g : List ℕ) (n k : ℕ) (l : List Call) (O : FromOpening t g n k l
 
   -- which the delivery sees by the words
   doomed-is : Condemned (sizeOf (after .table)) (modelIn after .controller (receiverIn (after .table) m)) (modelIn after .message m .vec) ≡ Doomed
-  doomed-is = λ d. Condemned (T .go .ready .holds .reads .size-is d) (modelIn after .controller (T .receiver-is d)) (modelIn after .message m .vec)
+  doomed-is = λ d. Condemned (receiver-told .go .ready .holds .reads .size-is d) (modelIn after .controller (receiver-told .receiver-is d)) (modelIn after .message m .vec)
 
   -- just where the sending interval rests on a lost one
   doomed-orphan : Doomed ↔ Orphan h (h .sending m)
@@ -104,7 +104,7 @@ module _ (t g : List ℕ) (n k : ℕ) (l : List Call) (O : FromOpening t g n k l
 
       judged : Doomed ↔ RestsOnLost h′ h′ c (h′ .sending m)
       judged =
-          theorem-3-message (T .inv) m c (present-pos _ m (T .there)) (present-sent _ m (T .there)) below
+          theorem-3-message (receiver-told .inv) m c (present-pos _ m (receiver-told .there)) (present-sent _ m (receiver-told .there)) below
 
       rests-same : (j : Interval) → h′ .rests (h′ .sending m) j ≡ h .rests (h .sending m) j
       rests-same j = λ d. same .history .rests-is d (same .history .sending-is d m) j
@@ -120,37 +120,37 @@ module _ (t g : List ℕ) (n k : ℕ) (l : List Call) (O : FromOpening t g n k l
   near = omega (arith, below, opening-done t g n k (O .done) .size-le)
 
   incarnation-then : σ (Incarnation c) ≡ h .incarnation c
-  incarnation-then = sym (incarnation-is σ c near) ∙ sym (T .inv .controller-ok c below .shape .incarnation-is) ∙ ap (λ (f : ℕ → ℕ). f c) (same .history .incarnation-is)
+  incarnation-then = sym (incarnation-is σ c near) ∙ sym (receiver-told .inv .controller-ok c below .shape .incarnation-is) ∙ ap (λ (f : ℕ → ℕ). f c) (same .history .incarnation-is)
 
   number-then : numberOf σ c (σ (LiveCount c)) ≡ newest (h .chain c) .number
   number-then =
-      sym (live-is σ c near) ∙ sym (ap (λ (y : Interval). y .number) (newest-is (T .inv .controller-ok c below .shape)))
+      sym (live-is σ c near) ∙ sym (ap (λ (y : Interval). y .number) (newest-is (receiver-told .inv .controller-ok c below .shape)))
       ∙ ap (λ (f : ℕ → List Interval). newest (f c) .number) (same .history .chain-is)
 
   -- the interval that begins
   begins : let b = receiverIn (after .table) m in
       Delivered m (σ (Incarnation b)) (numberOf σ b (σ (LiveCount b)) + 1) ≡ Delivered m (h .incarnation c) (newest (h .chain c) .number + 1)
   begins =
-      (λ d. let b = T .receiver-is d in Delivered m (σ (Incarnation b)) (numberOf σ b (σ (LiveCount b)) + 1))
+      (λ d. let b = receiver-told .receiver-is d in Delivered m (σ (Incarnation b)) (numberOf σ b (σ (LiveCount b)) + 1))
       ∙ (λ d. Delivered m (incarnation-then d) (number-then d + 1))
 
   -- no place is left: the numbers have come that far
   no-place : house .places ≤ σ (LiveCount (receiverIn (after .table) m)) → house .places ≤ newest (h .chain c) .number
   no-place l =
-      let full = subst (λ b. house .places ≤ σ (LiveCount b)) (T .receiver-is) l in
+      let full = subst (λ b. house .places ≤ σ (LiveCount b)) (receiver-told .receiver-is) l in
       omega (arith, number-then, number-from σ c (σ (LiveCount c)))
 
   -- Where its receiver has heard every crash, it doesn't wait.
   pub arrives : Arrives t g n k l m
   arrives =
       record {
-        done = T .go .done;
+        done = receiver-told .go .done;
         dropped = (
-          λ e. doomed-orphan .0 (subst (λ X. X) doomed-is (dropped-condemned (after .table) (after .ledger) sound m (T .there) released e)),
-          λ o. delivery-drops (after .table) (after .ledger) sound m (T .there) released (subst (λ X. X) (sym doomed-is) (doomed-orphan .1 o)),
+          λ e. doomed-orphan .0 (subst (λ X. X) doomed-is (dropped-condemned (after .table) (after .ledger) sound m (receiver-told .there) released e)),
+          λ o. delivery-drops (after .table) (after .ledger) sound m (receiver-told .there) released (subst (λ X. X) (sym doomed-is) (doomed-orphan .1 o)),
         );
         otherwise = λ none.
             ⊎-elim (λ e. inl (e ∙ begins)) (λ e. inr (e .0, no-place (e .1)))
-            (delivery-goes (after .table) (after .ledger) sound m (T .there) released (λ z. none (doomed-orphan .0 (subst (λ X. X) doomed-is z)))
-            (subst (λ b. (a : ℕ) → full (filtered (modelIn after .controller b) (modelIn after .message m .vec) a) ≡ false) (sym (T .receiver-is)) (T .emptied none)));
+            (delivery-goes (after .table) (after .ledger) sound m (receiver-told .there) released (λ z. none (doomed-orphan .0 (subst (λ X. X) doomed-is z)))
+            (subst (λ b. (a : ℕ) → full (filtered (modelIn after .controller b) (modelIn after .message m .vec) a) ≡ false) (sym (receiver-told .receiver-is)) (receiver-told .emptied none)));
       }

@@ -29,7 +29,7 @@ use Rattle.history.specs.Examples.{all}
 use Rattle.testers.specs.Refused.{answers-differ}
 use Rattle.testers.specs.Sample.{allLook, opened-three, from-opening, run-answered}
 use Rattle.testers.specs.Along.{Answered, answer-at, citations-after, stateAt, ledgerAt, Stage, stage-step, stage-at}
-use Rattle.paper.specs.Lists.{reading, unheard, loss, callsOf, unheardOn, branch, reading-run, unheard-run, loss-run, historyOf, begun, history-is, sent-by, is-live, not-let-out, has-heard, facts}
+use Rattle.paper.specs.Lists.{reading, unheard, loss, callsOf, unheardOn, branch, reading-run, unheard-run, loss-run, historyOf, deliveredBy, history-is, sent-by, is-live, not-let-out, has-heard, facts}
 use Rattle.paper.specs.Released.{goes-out}
 use Rattle.paper.specs.Delivered.{arrives}
 
@@ -211,7 +211,7 @@ module _ (t g : List ℕ) (long : length t ≡ tableWords) (wide : length g ≡ 
       let l = callsOf loss in
       let receiver : end t g 3 1 l .receiver 3 ≡ 2 = ap (λ h. h .receiver 3) loss-history ∙ facts .other-receiver in
       let said = arrives t g 3 1 l loss-from-opening 3 other-deliverable (subst (HasHeard t g 3 1 l) (sym receiver) loss-heard) .otherwise other-orphan in
-      let begins : begun (end t g 3 1 l) 3 ≡ Delivered 3 0 2 = ap (λ h. begun h 3) loss-history ∙ facts .other-begins in
+      let begins : deliveredBy (end t g 3 1 l) 3 ≡ Delivered 3 0 2 = ap (λ h. deliveredBy h 3) loss-history ∙ facts .other-begins in
       let number : newest (end t g 3 1 l .chain (end t g 3 1 l .receiver 3)) .number + 1 ≡ 2 = cc in
       subst (λ c. stepIn (informed t g 3 1 l c) (Deliver 3) .answer ≡ Delivered 3 0 2) receiver
       (⊎-elim (λ a. a ∙ begins) (λ a. absurd (omega (arith, a .1))) said)

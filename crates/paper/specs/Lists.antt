@@ -243,8 +243,8 @@ module _ (t g : List ℕ) (l : List ListingLine) (a : Answered (justOpened t g 3
       ap (λ h. h .heard b c i) history-is ∙ sym (ap (λ z. historyOf l .heard b c (valueAt z 1)) (crash .answer)) ∙ q
 
 -- the answer that a delivery of message m has by a history, where it begins an interval
-abbrev pub begun : History → ℕ → Answer
-begun h m = let c = h .receiver m in Delivered m (h .incarnation c) (newest (h .chain c) .number + 1)
+abbrev pub deliveredBy : History → ℕ → Answer
+deliveredBy h m = let c = h .receiver m in Delivered m (h .incarnation c) (newest (h .chain c) .number + 1)
 
 -- what the lines tell
 pub record Facts : Type 0 where
@@ -261,7 +261,7 @@ pub record Facts : Type 0 where
   -- message 2 is for controller 2, which has heard the crash; its sending interval is lost, and that of message 3 rests on itself alone
   pub loss-receiver : historyOf loss .receiver 2 ≡ 2
   pub other-receiver : historyOf loss .receiver 3 ≡ 2
-  pub other-begins : begun (historyOf loss) 3 ≡ Delivered 3 0 2
+  pub other-begins : deliveredBy (historyOf loss) 3 ≡ Delivered 3 0 2
   pub loss-heard : passes (hears (historyOf loss) 2) loss ≡ true
   pub lost-rests : historyOf loss .rests (historyOf loss .sending 2) (interval 1 0 2) ≡ true
   pub is-lost : historyOf loss .lost (interval 1 0 2) 0 ≡ true

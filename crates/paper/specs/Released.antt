@@ -54,15 +54,15 @@ module _ (t g : List ℕ) (n k : ℕ) (l : List Call) (O : FromOpening t g n k l
   below = v .history .owner-below y begun
 
   -- after the sender was informed
-  T : Told t g n k l O s m
-  T = told t g n k l O s m below here
+  sender-told : Told t g n k l O s m
+  sender-told = told t g n k l O s m below here
 
   abbrev after : Run
   after = then t g n k l O s m
 
   -- as many are published as the ledger counts
   counted : countOf (after .ledger) ≡ length (last t g n k l O .citations .published)
-  counted = ap countOf (T .go .extends .ledger-is ∙ ledger-cites t g n k l O) ∙ count-ledger (last t g n k l O .citations .published)
+  counted = ap countOf (sender-told .go .extends .ledger-is ∙ ledger-cites t g n k l O) ∙ count-ledger (last t g n k l O .citations .published)
 
   -- Where its sending interval rests on no lost one, it goes out with nobody named.
   pub sure-goes-out : (Orphan (end t g n k l) y → ⊥) → GoesOut t g n k l m
@@ -70,13 +70,13 @@ module _ (t g : List ℕ) (n k : ℕ) (l : List Call) (O : FromOpening t g n k l
   sure-goes-out sure =
       let live = useful-live v y (record { begun = begun; sure = sure }) in
       let none-named : (a : ℕ) → full (releasedVec (modelIn after) m a) ≡ false =
-      subst (λ (z : Interval). (a : ℕ) → full (filtered (modelIn after .controller (z .owner)) (modelIn after .message m .vec) a) ≡ false) (sym (T .from-is))
-      (T .emptied sure) in
+      subst (λ (z : Interval). (a : ℕ) → full (filtered (modelIn after .controller (z .owner)) (modelIn after .message m .vec) a) ≡ false) (sym (sender-told .from-is))
+      (sender-told .emptied sure) in
       record {
-        done = T .go .done;
+        done = sender-told .go .done;
         released =
-            release-answers (after .table) (after .ledger) (T .go .ready .sound) m (T .there) (T .state-is ∙ is-held t g n k l O m inside here live) none-named
-            ∙ (λ d. cond ((T .receiver-is d == desk) && (lastEntry ≤? counted d)) (Refused LEDGER-USED-UP) (Released m 0));
+            release-answers (after .table) (after .ledger) (sender-told .go .ready .sound) m (sender-told .there) (sender-told .state-is ∙ is-held t g n k l O m inside here live) none-named
+            ∙ (λ d. cond ((sender-told .receiver-is d == desk) && (lastEntry ≤? counted d)) (Refused LEDGER-USED-UP) (Released m 0));
       }
 
   -- Where it is live and its controller has heard every crash, it rests on no lost one.

@@ -19,7 +19,7 @@ use Rattle.model.specs.Model.{Model}
 use Rattle.model.specs.Tests.{contrary, fails}
 use Rattle.model.specs.Invariant.{Inv}
 use Rattle.model.specs.Vectors.{Condemned}
-use Rattle.model.specs.Consequences.{on-chain, live-clean, live-or-lost}
+use Rattle.model.specs.Consequences.{spoilt-orphan, on-chain, live-clean, live-or-lost}
 use Rattle.model.specs.Paper as P
 use Rattle.model.specs.Paper.{Useful, vectorOf}
 use Rattle.model.specs.Informed.{told-knows, ended-known}
@@ -115,7 +115,7 @@ module _ (t g : List ℕ) (n k : ℕ) (l : List Call) (O : FromOpening t g n k l
   -- live no more just where it is an orphan. (Hearing by hearing this is in demand 3.)
   pub theorem-A-1 : (b : ℕ) → b < n → HasHeard t g n k l b → (y : Interval) → y .owner ≡ b → h .begun y ≡ true → (member y (h .chain b) ≡ false) ↔ Orphan h y
   theorem-A-1 b below heard y mine begun = (
-    λ gone. ⊎-elim (λ live. contrary live gone) (λ r. record { on = r .on; crash = r .crash; rests = r .rests; lost = r .lost }) (live-or-lost v b below y mine begun),
+    λ gone. ⊎-elim (λ live. contrary live gone) spoilt-orphan (live-or-lost v b below y mine begun),
     λ o. fails _ (λ live. live-clean v b below y live (heard-loss t g n k l O b heard y o)),
   )
 

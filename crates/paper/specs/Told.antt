@@ -23,7 +23,7 @@ use Rattle.image.specs.Outcome.{Outcome}
 use Rattle.image.specs.Tables.{modelOf, sizeOf}
 use Rattle.demand.specs.Demanded.{table-inv, table-outcome, follows}
 use Rattle.demand.specs.InForm.{sound-after}
-use Rattle.demand.specs.Informing as I
+use Rattle.demand.specs.Informing.{all-informed}
 use Rattle.paper.specs.Extending.{Ready, modelIn, stateOfMessage, Extends, AllGo, there-ok}
 use Rattle.paper.specs.Recipe.{Informs, informs}
 
@@ -43,7 +43,7 @@ module _ (t g : List ℕ) (n k : ℕ) (l : List Call) (O : FromOpening t g n k l
       record {
         holds = at-end (follows n) t g k l O;
         sound = sound-after t g n k (O .done) l;
-        informed = I.informed t g n k l O l [] (sym (append-nil l));
+        informed = all-informed t g n k l O l [] (sym (append-nil l));
       }
 
   -- a message that was sent in the list is there
