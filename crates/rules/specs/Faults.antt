@@ -3,7 +3,7 @@
 use mathlib.Core.Path.{_≡_, refl}
 use mathlib.Core.Bool.{true, false}
 use mathlib.Core.List.{List, [], _∷_, map}
-use Prim.Native.Nat.{ℕ, _+_}
+use Prim.Native.Nat.{ℕ, _+_, _-_}
 use lib.Count.{onesIn, ones}
 use lib.ListN.{set, replicate}
 use Rattle.base.specs.Ranges.{allb, anyb, first}
@@ -12,17 +12,17 @@ use Rattle.base.specs.Cases.{allOf, firstOf}
 use Rattle.base.specs.Splice.{splice}
 use Rattle.table.specs.Field.{State, OfHead, Known, End, Size, SentCount, Gap, Degree, LiveCount, StableCount, Cause, Flag, PairNumber, MessageState, Receiver, SendingNumber, Payload, MessagePairNumber, desk, same}
 use Rattle.table.specs.Change.{blank, put, putPart, clearPlaces, putStates}
-use Rattle.table.specs.Numbering.{numberOf, used, lastGiven, messageOf}
+use Rattle.table.specs.Numbering.{numberOf, used, lastGiven, recordOf, messageOf}
 use Rattle.rules.specs.Limits.{house, lastEntry, lastGap}
-use Rattle.rules.specs.Refusal.{DEGREE, LEDGER-USED-UP}
+use Rattle.rules.specs.Refusal.{LEDGER, CONTROLLER, DEGREE, LEDGER-USED-UP}
 use Rattle.rules.specs.Vector.{placeVector, messageVector, flat, knownStable, filterPair, filtered, condemnedPair, condemned, maskTo, mask, conflictPair, conflict, mergePair, merged}
-use Rattle.rules.specs.Form.{stateHeld, stateReleased, stateDropped, statePublished, stateOk, zeros, pairOk, vectorOk, highest, rowOk, placeOk, headZeros, headOk}
-use Rattle.rules.specs.Ledger.{countAt, ledgerWords, countOf, appended, blankLedger}
+use Rattle.rules.specs.Form.{stateHeld, stateReleased, stateDelivered, stateLost, stateDropped, statePublished, stateOk, zeros, pairOk, vectorOk, highest, rowOk, placeOk, messageOk, headZeros, headOk}
+use Rattle.rules.specs.Ledger.{countAt, entryAt, ledgerWords, countOf, ledgerOk, appended, blankLedger}
 use Rattle.rules.specs.Shared.{placeRecord, logged, loggedTo, checkpointed, forced, capped, causing, causedIn, causesIn, causes, offeredAgain, newVector, placed, entered, restarted, heldOrDropped, dropHeld, startAnew, removed, latestFlagged, replayed}
-use Rattle.rules.specs.Steps.{refusing, refusingBoth, openHouse, stepOpen, stepGap, letOut, mayGo, release, intervalAdded, intervalBegins, deliver, toldRow, told, crashed, noted, lowestCondemned, rolledBack, hear}
+use Rattle.rules.specs.Steps.{refusing, refusingBoth, openHouse, stepOpen, stepGap, stepSend, letOut, mayGo, release, stepRelease, intervalAdded, intervalBegins, deliver, toldRow, told, crashed, noted, lowestCondemned, rolledBack, hear}
 use Rattle.rules.specs.Report.{report}
 use Rattle.rules.specs.Starred.{Row, _is_by_, rows-hold, no, yes, truth, answer}
-use Rattle.rules.specs.declared.Answer.the-variants.{Done, Released, Held, Rolled, Refused}
+use Rattle.rules.specs.declared.Answer.the-variants.{Done, Sent, Released, Held, Rolled, Refused}
 
 -- message 1, in record 0, is from controller 0, of degree 0, and has the pair (0,2) of controller 1, which controller 0 knows to be stable
 abbrev since-logged : State
@@ -59,9 +59,27 @@ cited-once = 1 ∷ 5 ∷ 6 ∷ 0 ∷ 0 ∷ []
 abbrev full : List ℕ
 full = lastEntry ∷ []
 
+-- one of w words with the count n, and 0 in the others
+abbrev counting : ℕ → ℕ → List ℕ
+counting w n = set (replicate w 0) countAt n
+
 -- the ledger of an earlier house: the right length, and a count of 1
 abbrev used-before : List ℕ
-used-before = set (replicate (ledgerWords house) 0) countAt 1
+used-before = counting (ledgerWords house) 1
+
+-- two with room for one entry more: one is a word short, and the other has 1 in word k
+abbrev short : List ℕ
+short = counting (ledgerWords house - 1) (lastEntry - 1)
+
+abbrev with-word : ℕ → List ℕ
+with-word k = set (counting (ledgerWords house) (lastEntry - 1)) k 1
+
+-- a house of three controllers; and one in which message 1, in record 0, is held for receiver r, sent from interval 1 of controller 0
+abbrev of-three : State
+of-three = openHouse 3 0
+
+abbrev held-for : ℕ → State
+held-for r = put (put (put (put of-three SentCount 1) (MessageState 0) stateHeld) (Receiver 0) r) (SendingNumber 0) 1
 
 -- controller 0 began its second interval, which isn't stable, from a published message: only a lent table says so
 abbrev published-taken : State
@@ -90,7 +108,7 @@ abbrev stands : State → ℕ → ℕ → List ℕ
 stands σ p i = σ (Flag 0 p) ∷ σ (StableCount 0) ∷ σ (Known 0 0 i) ∷ []
 
 pub told-apart : List Row
-unfolding put same putPart clearPlaces putStates tab allb anyb numberOf used messageOf placeVector messageVector flat knownStable filterPair filtered condemnedPair condemned maskTo mask conflictPair conflict mergePair merged placeRecord logged loggedTo checkpointed forced capped causing causedIn causesIn causes offeredAgain newVector placed entered restarted heldOrDropped dropHeld startAnew removed latestFlagged replayed stateOk zeros pairOk vectorOk highest rowOk placeOk lastGiven headZeros headOk appended blankLedger splice allOf firstOf refusing refusingBoth openHouse stepOpen stepGap letOut mayGo release intervalAdded intervalBegins deliver toldRow told crashed noted lowestCondemned rolledBack hear report first onesIn ones
+unfolding put same putPart clearPlaces putStates tab allb anyb numberOf used recordOf messageOf placeVector messageVector flat knownStable filterPair filtered condemnedPair condemned maskTo mask conflictPair conflict mergePair merged placeRecord logged loggedTo checkpointed forced capped causing causedIn causesIn causes offeredAgain newVector placed entered restarted heldOrDropped dropHeld startAnew removed latestFlagged replayed stateOk zeros pairOk vectorOk highest rowOk placeOk messageOk lastGiven headZeros headOk ledgerOk appended blankLedger splice allOf firstOf refusing refusingBoth openHouse stepOpen stepGap stepSend letOut mayGo release stepRelease intervalAdded intervalBegins deliver toldRow told crashed noted lowestCondemned rolledBack hear report first onesIn ones
 told-apart =
     -- "Counting stored pairs at release instead of filtered ones": it would be held.
     (answer (release house since-logged [] 1 0 .answer) is answer (Released 1 0) by refl)
@@ -104,6 +122,8 @@ told-apart =
     ∷ ((crashed one-taken 0 (MessageState 0) ∷ []) is (stateReleased ∷ []) by refl)
     -- W1: a cause released again though it is condemned, or judged by the ends before the crash.
     ∷ ((crashed one-returned 0 (MessageState 0) ∷ []) is (stateDropped ∷ []) by refl)
+    -- W1: state 4 not in form any more, though "a table that has it stays in form".
+    ∷ (truth (stateOk false stateLost) is yes by refl)
     -- W2: a message to the desk let out by the degree, or published while it is held.
     ∷ (answer (release house revocable cited-once 1 0 .answer) is answer (Held 1 2) by refl)
     ∷ (release house revocable cited-once 1 0 .ledger is cited-once by refl)
@@ -118,10 +138,29 @@ told-apart =
     ∷ (release house since-logged cited-once 1 0 .ledger is cited-once by refl)
     -- W2: an opening that leaves an old entry.
     ∷ ((countOf (stepOpen house blank used-before 1 0 .ledger) ∷ []) is (0 ∷ []) by refl)
-    -- W2: state 6 in form elsewhere, or another at the desk.
+    -- W2: state 6 in form elsewhere, or another than "state 1, 5 or 6" at the desk.
     ∷ (truth (stateOk false statePublished) is no by refl)
     ∷ (truth (stateOk true statePublished) is yes by refl)
     ∷ (truth (stateOk true stateReleased) is no by refl)
+    ∷ (truth (stateOk true stateDelivered) is no by refl)
+    ∷ (truth (stateOk true stateLost) is no by refl)
+    -- W2: a count of 129 taken, or one of 128 refused; a word past the count, the first or the last, that may be anything.
+    ∷ (truth (ledgerOk house (counting (ledgerWords house) lastEntry)) is yes by refl)
+    ∷ (truth (ledgerOk house (counting (ledgerWords house) (lastEntry + 1))) is no by refl)
+    ∷ (truth (ledgerOk house (with-word (entryAt (lastEntry - 1)))) is no by refl)
+    ∷ (truth (ledgerOk house (with-word (ledgerWords house - 1))) is no by refl)
+    -- W2: a ledger of 256 words taken at release, or at opening.
+    ∷ (answer (stepRelease house (held-for desk) short 1 .answer) is answer (Refused LEDGER) by refl)
+    ∷ (answer (stepOpen house blank short 1 0 .answer) is answer (Refused LEDGER) by refl)
+    -- W2: an opening that looks at more than the length: at a count of 129.
+    ∷ (answer (stepOpen house blank (counting (ledgerWords house) (lastEntry + 1)) 1 0 .answer) is answer Done by refl)
+    -- W2: receiver 8 refused in a house of three, or 5 or 9 taken: by S, and in form.
+    ∷ (answer (stepSend house of-three 0 desk 7 .answer) is answer (Sent 1) by refl)
+    ∷ (answer (stepSend house of-three 0 5 7 .answer) is answer (Refused CONTROLLER) by refl)
+    ∷ (answer (stepSend house of-three 0 (desk + 1) 7 .answer) is answer (Refused CONTROLLER) by refl)
+    ∷ (truth (messageOk house 3 (held-for desk) 0) is yes by refl)
+    ∷ (truth (messageOk house 3 (held-for 5) 0) is no by refl)
+    ∷ (truth (messageOk house 3 (held-for (desk + 1)) 0) is no by refl)
     -- W2: a message to the desk changed as a cause.
     ∷ ((crashed published-taken 0 (MessageState 0) ∷ []) is (statePublished ∷ []) by refl)
     -- W3: replayed from the checkpoint of the condemned place itself, or from the first place's though a later one is kept.
