@@ -169,12 +169,16 @@ module _ (t g : List ℕ) (n k : ℕ) (l : List Call) (O : FromOpening t g n k l
   lost-unstable before rest e y crash lost =
       fails _ (λ z. at-end (follows n) t g k l O .inv .history .stable-not-lost y crash (later (follows n) t g k l O before rest e .keeps .ext .stable-stays y z) lost)
 
+  -- the table and the ledger say what the citations say
+  pub run-cites : RunCites (upTo t g n k l)
+  run-cites =
+      along (follows n) t g k l O RunCites (cites-opened t g n k (O .done)) (λ before x after e s. cites-next (upTo t g n k before) x (s .unopened)) l []
+      (sym (append-nil l))
+
   -- W2: what a scholar cites is what was sent. The ledger's pairs are, in order, the messages for the desk that the list's releases let
   -- out, with the payloads of their sends.
   pub ledger-cites : Cited t g n k l
-  ledger-cites =
-      along (follows n) t g k l O RunCites (cites-opened t g n k (O .done)) (λ before x after e s. cites-next (upTo t g n k before) x (s .unopened)) l []
-      (sym (append-nil l)) .ledger-is
+  ledger-cites = run-cites .ledger-is
 
   -- where no crash in the list is accepted
   module _ (calm : (before after : List Call) (c : ℕ) → l ≡ before ++ asks (Crash c) ∷ after →

@@ -16,7 +16,7 @@ use Rattle.table.specs.Numbering.{recordOf}
 use Rattle.rules.specs.Limits.{house}
 use Rattle.rules.specs.Refusal.{LENGTH, FORM, LEDGER}
 use Rattle.rules.specs.Form.{stateLost, forDesk, inForm}
-use Rattle.rules.specs.Ledger.{ledgerWords, entryOf, appended, blankLedger}
+use Rattle.rules.specs.Ledger.{ledgerWords, countOf, entryOf, citedMessage, citedPayload, appended, blankLedger}
 use Rattle.rules.specs.Steps.{openHouse}
 use Rattle.rules.specs.Step.{OutBoth, stepOn, lent, step, Call, asks, stepCall}
 use Rattle.rules.specs.declared.Answer.the-variants.{Done, Released, Held, Refused}
@@ -29,6 +29,7 @@ use Rattle.lines.specs.declared.Parsed.the-variants.{Asks}
 use Rattle.history.specs.History.{interval, member}
 use Rattle.history.specs.Citations.{ledgerOf}
 use Rattle.history.specs.Demand.{Run, stepIn, next, runs, justOpened, Accepted, answersHeard, answersRolled, RestsOnLost, named, FromOpening, upTo, end, Cited, Demand3}
+use Rattle.history.specs.Citable.{Citable, AllCitable}
 use Rattle.history.specs.Ceiling.{largestGap, NeverOff, Ceiling}
 use Rattle.history.specs.Examples.{ListingLine}
 use Rattle.image.specs.Mask.{count}
@@ -37,6 +38,7 @@ use Rattle.laws.specs.Beside.{looksAtLedger}
 use Rattle.keeping.specs.Unrefused.{sound-let}
 use Rattle.demand.specs.Demanded.{demand-3}
 use Rattle.demand.specs.Beyond.{ledger-cites}
+use Rattle.demand.specs.Citable.{all-citable}
 use Rattle.demand.specs.Ceiled.{ceiling}
 use Rattle.demand.specs.InForm.{sound-after}
 use Rattle.testers.specs.StepSame.{same-written, step-words}
@@ -44,6 +46,7 @@ use Rattle.testers.specs.Refused.{keeps-refused}
 use Rattle.testers.specs.NoneLost.{none-lost}
 use Rattle.testers.specs.Checkpoint.{checkpoint-twice}
 use Rattle.testers.specs.Counted.{counted-step}
+use Rattle.testers.specs.Ledgers.{count-ledger, message-cited, payload-cited}
 use Rattle.testers.specs.Desk.{publishes, Writes, ledger-stays, whatever-ledger}
 use Rattle.testers.specs.Sample.{sample, asked, answered, calls, answersFrom, sample-from-opening, sample-answers}
 use Rattle.testers.specs.Written.{leftColumn, rightColumn, listing-written}
@@ -117,6 +120,14 @@ module _ (t g : List ℕ) (long : length t ≡ tableWords) (wide : length g ≡ 
   -- and the ledger has just that message, with its payload
   pub cited-not-empty : upTo t g 3 1 list .ledger ≡ ledgerOf publications
   cited-not-empty = ledger-cites t g 3 1 list (sample-from-opening t g long wide) ∙ ap ledgerOf (published-is t g long wide)
+
+  -- so the ledger has one entry, which reads as message 3 with the payload 5, and that may be cited (10)
+  pub citable-not-empty : let u = upTo t g 3 1 list .ledger in (countOf u ≡ 1) × (citedMessage u 0 ≡ 3) × (citedPayload u 0 ≡ 5) × Citable t g 3 1 list 3 5
+  citable-not-empty =
+      let count = ap countOf cited-not-empty ∙ count-ledger publications in
+      let message = ap (λ u. citedMessage u 0) cited-not-empty ∙ message-cited publications 0 (omega arith) (omega arith) in
+      let payload = ap (λ u. citedPayload u 0) cited-not-empty ∙ payload-cited publications 0 (omega arith) (omega arith) in
+      (count, message, payload, rw (message, payload) at (all-citable t g 3 1 list (sample-from-opening t g long wide) 0 (omega arith)))
 
 -- 4. "let out with at most K controllers named": the ones of the mask, which are compared with K, are the controllers named.
 pub ones-are-the-named : (t g : List ℕ) (m echoed mask : ℕ) → step t g (Release m) .answer ≡ Released echoed mask → ones mask ≡ count controllers (named mask)
@@ -192,6 +203,11 @@ no-look-at-the-ledger = whatever-ledger
 -- messages for the desk that the list's releases let out, with the payloads of their sends.
 pub cited-is-what-was-sent : (t g : List ℕ) (n k : ℕ) (l : List Call) → FromOpening t g n k l → Cited t g n k l
 cited-is-what-was-sent = ledger-cites
+
+-- "so that readings may be cited": every entry of the ledger is of a message that the list sent to the desk with that payload and let out with
+-- nobody named, and the interval that sent it is live at the end, and lost in no crash.
+pub every-citation-stands : (t g : List ℕ) (n k : ℕ) (l : List Call) → FromOpening t g n k l → AllCitable t g n k l
+every-citation-stands = all-citable
 
 -- 11. W4: "In a house where the first step after opening set Q to at least 1 and it was never 0 again, replayed is at most the largest Q set
 -- so far, less 1."

@@ -2,16 +2,17 @@
 -- model.
 use mathlib.Core.Path.{_≡_, refl, sym, subst}
 use mathlib.Core.List.{List}
-use Prim.Native.Nat.{ℕ, _<_}
+use Prim.Native.Nat.{ℕ, _≤_, _<_}
+use native.Mathlib.Omega.{arith}
 use Rattle.table.specs.Layout.{incarnations}
 use Rattle.rules.specs.Report.{report}
 use Rattle.rules.specs.Step.{Call, asks, stepCall}
 use Rattle.rules.specs.declared.Answer.{Answer}
-use Rattle.rules.specs.declared.Answer.the-variants.{Released, Refused}
+use Rattle.rules.specs.declared.Answer.the-variants.{Sent, Released, Refused}
 use Rattle.rules.specs.declared.Command.the-variants.{Open, SetDegree, Send, Release, Deliver, Log, Checkpoint, Tell, Crash, Hear, SetGap}
 use Rattle.history.specs.History.{History, delivering, answers, valueAt, fedStep, fed}
 use Rattle.history.specs.Demand.{Run, callIn, next, justOpened, Accepted, FromOpening, Demand3}
-use Rattle.model.specs.Model.{Model, putController, capModel, beginController}
+use Rattle.model.specs.Model.{Model, putController, capModel, beginController, sendMessage}
 use Rattle.model.specs.Invariant.{Inv}
 use Rattle.model.specs.Keeping.{Keeps, keeps-refl}
 use Rattle.model.specs.Capping.{keeps-log, keeps-checkpoint}
@@ -76,6 +77,11 @@ released-found (released m mask l w) = record { out = l; low = w }
 -- the same of an answer that is echoed to be so
 pub found : {n : ℕ} {μ : Model} {m echoed mask : ℕ} {y : Answer} {j : ℕ} {μ′ : Model} → Outcome n μ (asks (Release m)) y j μ′ → y ≡ Released echoed mask → Found n μ m mask
 found {n} {μ} {m} {echoed} {mask} {y} {j} {μ′} o e = released-found (subst (λ z. Outcome n μ (asks (Release m)) z j μ′) e o)
+
+-- a send that answers so has made its message the last
+pub sent-last : {n : ℕ} {μ : Model} {s r p m j : ℕ} {μ′ : Model} → Outcome n μ (asks (Send s r p)) (Sent m) j μ′ → (1 ≤ m) × (m ≤ μ′ .sent)
+unfolding sendMessage
+sent-last (sent s r p sender receiver ne) = (omega arith, omega arith)
 
 -- a run of a house of n controllers has the model of its table
 pub record ReadOff (n : ℕ) (r : Run) (μ : Model) : Type 0 where

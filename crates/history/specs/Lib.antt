@@ -4,3 +4,6 @@ pub mod Demand
 pub mod Examples
 pub mod Ceiling
 pub mod Progress
+pub mod Citable
+pub mod Asked
+pub mod Uses

@@ -1,22 +1,19 @@
 -- What a controller knows at least, on models: its own live intervals that are stable, and the end of each crash that it has heard. Every
--- change keeps it. So where all is stable and told, filtering empties each vector whose interval rests on nothing lost.
-use mathlib.Core.Path.{_≡_, refl, sym, _∙_, ap, subst}
-use mathlib.Core.Bool.{false}
-use mathlib.Core.Logic.{⊎-elim, _≢_}
+-- change keeps it.
+use mathlib.Core.Path.{_≡_, refl, sym, _∙_, subst}
+use mathlib.Core.Logic.{_≢_}
 use Prim.Native.Nat.{ℕ, _+_, _≤_, _<_, max}
 use native.Mathlib.Omega.{arith}
 use borrow.Author.Tests.{ltb-true, lt-ltb}
 use Rattle.base.specs.Choice.{_<?_, cond-ind, le?}
 use Rattle.history.specs.History.{Interval, interval, History}
 use Rattle.history.specs.Progress.{Orphan}
-use Rattle.model.specs.Model.{intervalOf, Vec, Controller, Model, changedAt₂, full, filtered, putController, degreeController, logController, loggedController, flagController, checkpointController, forcedModel, capModel, tellController, endController, noteController, beginController, anewController, openController, openModel}
+use Rattle.model.specs.Model.{Vec, Controller, Model, changedAt₂, putController, degreeController, logController, loggedController, flagController, checkpointController, forcedModel, capModel, tellController, endController, noteController, beginController, anewController, openController, openModel}
 use Rattle.model.specs.Tests.{Is, eq?, changedAt-ind, changedAt-other, changedAt₂-ind, changedAt₂-same, changedAt₂-other}
-use Rattle.model.specs.Invariant.{Tracks, Inv, live-or-spoilt}
-use Rattle.model.specs.Vectors.{pos-full, filtered-ind}
+use Rattle.model.specs.Invariant.{Inv}
 use Rattle.model.specs.Renewing.{renewed-old, renewed-new}
 use Rattle.model.specs.Keeping.{putController-twice}
-use Rattle.model.specs.Consequences.{spoilt-orphan, orphan-up}
-use Rattle.model.specs.Securing.{Secured, ToldBy, logged-stable}
+use Rattle.model.specs.Securing.{logged-stable}
 use Rattle.model.specs.Recovery.{HearsOf, hears-other, notedController}
 
 -- What controller c knows at least: its own live intervals that are stable, and the end of each crash that it has heard.
@@ -249,11 +246,6 @@ module _ {n : ℕ} {μ : Model} {h : History} (v : Inv n μ h) (all : AllInforme
 abbrev pub Sure : History → Interval → Type 0
 Sure h y = Orphan h y → ⊥
 
--- a stable live interval of a is known to whom a has told
-pub told-knows : (μ : Model) (a b : ℕ) → Informed a (μ .controller a) → ToldBy μ b a → (x : ℕ) → 1 ≤ x → x ≤ μ .controller a .stable →
-    x ≤ μ .controller b .known a (μ .controller a .begunIn x)
-told-knows μ a b o told x p q = omega (arith, o .own x p q, told (μ .controller a .begunIn x))
-
 module _ {n : ℕ} {μ : Model} {h : History} (v : Inv n μ h) (all : AllInformed n μ) (b : ℕ) where
   -- The paper's Corollary 1: where b has heard of the crash that ended a's incarnation i, what was begun in it up to its end is stable, and
   -- known to b.
@@ -263,28 +255,3 @@ module _ {n : ℕ} {μ : Model} {h : History} (v : Inv n μ h) (all : AllInforme
       let pos = v .controller-ok b below .ended .heard-end a i heard in
       let same = v .agree b a i pos in
       (omega (arith, all b below .ended a i), v .controller-ok a owner .ended .end-stable i x begun (omega arith) (omega arith))
-
-  -- The heart of the paper's Theorem A.2: where every controller is secured and has told b,
-  module _ (secured : (a : ℕ) → a < n → Secured μ a) (told : (a : ℕ) → a < n → ToldBy μ b a) where
-    -- each pair of a vector that tracks a begun interval which rests on nothing lost is known stable to b
-    pub all-known : (w : Vec) (y : Interval) → Is (h .begun y) → Tracks h w y → Sure h y → (a : ℕ) →
-        w a .number ≤ μ .controller b .known a (w a .incarnation)
-    all-known w y begun o sure a = le? 1 (w a .number) (λ p. known (pos-full (w a) p)) (λ p. omega arith)
-      where
-        known : Is (full (w a)) → w a .number ≤ μ .controller b .known a (w a .incarnation)
-        known f =
-            let z = intervalOf a (w a) in
-            let r = o .sound a f in
-            let z-begun = v .history .rests-begun y z begun r in
-            let owner = v .history .owner-below z z-begun in
-            ⊎-elim
-            (λ on. let l = told-knows μ a b (all a owner) (told a owner) (w a .number) (on .pos) (omega (arith, on .top, secured a owner)) in
-            rw (ap (λ (j : Interval). j .incarnation) (on .is)) l)
-            (λ s. absurd (sure (orphan-up (v .history) begun r (spoilt-orphan s))))
-            (live-or-spoilt (v .history) (v .controller-ok a owner) z refl z-begun)
-
-    -- so filtering empties it
-    pub all-emptied : (w : Vec) (y : Interval) → Is (h .begun y) → Tracks h w y → Sure h y → (a : ℕ) → full (filtered (μ .controller b) w a) ≡ false
-    unfolding full
-    all-emptied w y begun o sure a =
-        filtered-ind (λ q. full q ≡ false) (μ .controller b) w a (λ l. refl) (λ l. absurd (let z = all-known w y begun o sure a in omega arith))

@@ -1,6 +1,6 @@
 -- What a checkpoint and a telling give, on models: a checkpoint makes all that is live at its controller stable, and a telling gives one
 -- controller all that another knows of itself.
-use mathlib.Core.Path.{_≡_, refl, sym, ap, subst}
+use mathlib.Core.Path.{_≡_, ap}
 use mathlib.Core.Logic.{_≢_}
 use Prim.Native.Nat.{ℕ, _≤_, max}
 use native.Mathlib.Omega.{arith}
@@ -8,7 +8,7 @@ use borrow.Author.Tests.{ltb-true, ltb-false}
 use Rattle.base.specs.Choice.{_<?_, cond-ind}
 use Rattle.model.specs.Model.{Controller, Model, putController, logController, loggedController, flagController, checkpointController, tellController}
 use Rattle.model.specs.Close.{logged-live}
-use Rattle.model.specs.Tests.{eq?, changedAt-ind, changedAt-same, changedAt-other}
+use Rattle.model.specs.Tests.{changedAt-same, changedAt-other}
 
 -- a controller whose intervals are all stable
 abbrev pub Secured : Model → ℕ → Type 0
@@ -43,34 +43,11 @@ module _ (μ : Model) (c : ℕ) where
       let k = μ .controller c in
       rw (changedAt-same (μ .controller) c (checkpointController c k)) (all-stable k l)
 
-  -- and who was, still is
-  pub secured-on : μ .controller c .stable ≤ μ .controller c .live → (a : ℕ) → Secured μ a → Secured checkpointedModel a
-  unfolding putController
-  secured-on l a e =
-      let k = μ .controller c in
-      changedAt-ind (λ b q. b ≡ a → q .stable ≡ q .live) (μ .controller) c (checkpointController c k)
-      (λ _. all-stable k l) (λ b ne i. subst (λ b. Secured μ b) (sym i) e) a refl
-
 -- T tells b what a knows of itself
 module _ (μ : Model) (a b : ℕ) where
   -- the model after it
   abbrev pub toldModel : Model
   toldModel = putController μ b (tellController a (μ .controller b) (μ .controller a .known a))
-
-  -- what is live and stable stays
-  pub tell-secured : (c : ℕ) → Secured μ c → Secured toldModel c
-  unfolding putController tellController
-  tell-secured c e =
-      changedAt-ind (λ d q. d ≡ c → q .stable ≡ q .live) (μ .controller) b _
-      (λ i. subst (λ d. Secured μ d) (sym i) e) (λ d other i. subst (λ d. Secured μ d) (sym i) e) c refl
-
-  -- a known word of b is not lowered
-  tell-raises : (c i : ℕ) → μ .controller b .known c i ≤ toldModel .controller b .known c i
-  unfolding putController tellController
-  tell-raises c i =
-      let k = μ .controller b in
-      rw (changedAt-same (μ .controller) b (tellController a k (μ .controller a .known a)))
-      (changedAt-ind (λ d row. k .known d i ≤ row i) (k .known) a _ (omega arith) (λ d other. omega arith) c)
 
   -- b knows what a knows of itself
   pub tell-tells : a ≢ b → ToldBy toldModel b a
@@ -80,11 +57,3 @@ module _ (μ : Model) (a b : ℕ) where
       let told-row = ap (λ (row : ℕ → ℕ). row i) (changedAt-same (k .known) a (λ i. max (k .known a i) (μ .controller a .known a i))) in
       rw (changedAt-same (μ .controller) b (tellController a k (μ .controller a .known a)), changedAt-other (μ .controller) b a (tellController a k (μ .controller a .known a)) ne)
       (omega (arith, told-row))
-
-  -- and what others told it
-  pub tell-keeps : (c : ℕ) → ToldBy μ b c → ToldBy toldModel b c
-  unfolding putController
-  tell-keeps c e i =
-      eq? c b (λ z. rw z (omega arith))
-      (λ other. let raised = tell-raises c i in
-      rw (changedAt-other (μ .controller) b c (tellController a (μ .controller b) (μ .controller a .known a)) other) (omega (arith, e i)))

@@ -14,7 +14,7 @@ use Rattle.rules.specs.Step.{Call, asks, stepCall}
 use Rattle.rules.specs.declared.Answer.{Answer}
 use Rattle.rules.specs.declared.Answer.the-variants.{Crashed}
 use Rattle.rules.specs.declared.Command.the-variants.{Crash, Hear}
-use Rattle.history.specs.History.{Interval, History, joined, leaving, stabilized, hearing, losing, flagging, degreeSet, sentFrom, gapSet, delivering, logging, checkpointing, beginning, restarting, crashing, rollingBack, opening, answers, fedStep, fed}
+use Rattle.history.specs.History.{Interval, History, member, joined, leaving, stabilized, hearing, losing, flagging, degreeSet, sentFrom, gapSet, delivering, logging, checkpointing, beginning, restarting, crashing, rollingBack, opening, answers, fedStep, fed}
 use Rattle.history.specs.Demand.{callIn, stepIn, next, justOpened, RestsOnLost, FromOpening, upTo, end}
 use Rattle.history.specs.Progress.{Orphan, CrashIn, HasHeard, CanHear}
 use Rattle.model.specs.Model.{Model, aboveLatest}
@@ -28,7 +28,7 @@ use Rattle.image.specs.Reads.{incarnation-is, ends-is}
 use Rattle.image.specs.Outcome as O
 use Rattle.image.specs.Outcome.{Outcome}
 use Rattle.image.specs.Tables.{modelOf, sizeOf, opening-done}
-use Rattle.demand.specs.Demanded.{fed-refused, outcome, table-inv, follows}
+use Rattle.demand.specs.Demanded.{fed-refused, outcome, table-inv, follows, demand-3}
 use Rattle.demand.specs.Beyond.{capped-heard}
 use Rattle.demand.specs.InForm.{sound-after}
 use Rattle.laws.specs.Facts.{form, controllerForm}
@@ -117,6 +117,10 @@ module _ (t g : List ℕ) (n k : ℕ) (l : List Call) where
     pub heard-loss : (b : ℕ) → HasHeard t g n k l b → (y : Interval) → Orphan (end t g n k l) y → RestsOnLost (end t g n k l) (end t g n k l) b y
     heard-loss b all y o =
         record { on = o .on; crash = o .crash; rests = o .rests; lost = o .lost; heard = all (o .on .owner) (o .crash) (lost-in (o .on) (o .crash) (o .lost)) }
+
+    -- so its live intervals rest on no lost one, by demand 3
+    pub live-sure : (b : ℕ) → b < n → HasHeard t g n k l b → (y : Interval) → Is (member y (end t g n k l .chain b)) → Orphan (end t g n k l) y → ⊥
+    live-sure b below all y live o = demand-3 t g n k l O .live b below y live (heard-loss b all y o)
 
     -- a crash in the list is heard at its end by its own controller, which is one of the house
     crash-noted : (c i : ℕ) → CrashIn t g n k l c i → (c < n) × Is (end t g n k l .heard c c i)

@@ -35,9 +35,8 @@ use Rattle.progress.specs.Tables.{same-record, held-before}
 use Rattle.progress.specs.Answers.{release-refused}
 use Rattle.demand.specs.Demanded.{table-inv, table-outcome, follows}
 use Rattle.demand.specs.InForm.{sound-after}
-use Rattle.paper.specs.Extending.{stateOfMessage}
+use Rattle.paper.specs.Ready.{stateOfMessage, sent-there}
 use Rattle.paper.specs.Holding.{Sends, sends, just-sent, same-sending, sending-is, begun, none-there}
-use Rattle.paper.specs.Told.{sent-there}
 
 -- a call leaves the live intervals of a controller whose incarnation stays, and those below its new one where it starts anew
 lasts : {n : ℕ} {μ : Model} {x : Call} {a : Answer} {j : ℕ} {μ′ : Model} → Outcome n μ x a j μ′ → NoDoneOpening x a → LastsIn μ μ′

@@ -35,7 +35,7 @@ use Rattle.progress.specs.Held.{Leaves, let-out, undone}
 use Rattle.progress.specs.Tables.{none-causes-step, none-causes-open, same-record, held-step, sent-held}
 use Rattle.demand.specs.Demanded.{ReadOff, table-inv, table-outcome, follows}
 use Rattle.demand.specs.InForm.{sound-next}
-use Rattle.paper.specs.Extending.{stateOfMessage}
+use Rattle.paper.specs.Ready.{stateOfMessage}
 
 -- the call sent message m
 pub data Sends : Call → Answer → ℕ → Type 0 where
@@ -216,8 +216,8 @@ module _ (t g : List ℕ) (n k : ℕ) (l : List Call) (O : FromOpening t g n k l
           ap (λ i. state u (MessageState i)) (same-record (r .table) (r .ledger) x lent unopened m there)
           ∙ ⊎-elim (λ z. z .is)
           (λ q. let (mask, is, answer) = left (r .table) u v v′ m there (opening-done t g n k (O .done) .size-le) (q .0) live′ in
-          absurd (inside before after m mask (e ∙ ap (λ x. before ++ asks x ∷ after) is)
-          (subst (λ x. step (r .table) (r .ledger) x .answer ≡ Released m mask) is answer)))
+          absurd (inside mask
+          (record { before = before; after = after; echoed = m; is-in = e ∙ ap (λ x. before ++ asks x ∷ after) is; answer = subst (λ x. step (r .table) (r .ledger) x .answer ≡ Released m mask) is answer })))
           (held-step (r .table) (r .ledger) x lent unopened m there (w .none) (w .held there (live-before (r .table) v m there v′ (keeps .ext) live′)))
 
       new : recordOf (state u) m < used (state u) → used σ ≤ recordOf σ m → stateOfMessage u m ≡ stateHeld

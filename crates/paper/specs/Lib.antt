@@ -1,11 +1,10 @@
-pub mod Extending
-pub mod Recipe
+pub mod Ready
 pub mod Crashes
 pub mod Holding
-pub mod Told
-pub mod Released
-pub mod Delivered
 pub mod Discarded
+pub mod Spreading
+pub mod Named
+pub mod Interleaved
+pub mod Whenever
+pub mod Fates
 pub mod Theorems
-pub mod Lists
-pub mod Examples

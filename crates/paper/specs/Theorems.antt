@@ -2,40 +2,40 @@
 -- first part of a list is a list, so they hold at all times.) A state interval s happened before u where u rests on s; an entry of a vector
 -- is a pair; knows_stable and knows_orphan are known words that reach a number, and condemned vectors. Known words and vectors are those
 -- of the table, read as a model. docs/COVERAGE.md has them in a table, with what the paper has and this doesn't, and why.
-use mathlib.Core.Path.{_≡_, sym, ap, subst}
-use mathlib.Core.Bool.{true, false}
+use mathlib.Core.Path.{_≡_, sym}
+use mathlib.Core.Bool.{Bool, true, false}
 use mathlib.Core.List.{List, [], _∷_, _++_, append-nil}
-use mathlib.Core.Logic.{_≢_, _↔_, ⊎-elim}
+use mathlib.Core.Logic.{_≢_, _⊎_, _↔_, ⊎-elim}
 use Prim.Native.Nat.{ℕ, _≤_, _<_}
+use Rattle.table.specs.Field.{desk}
 use Rattle.table.specs.Layout.{controllers}
-use Rattle.rules.specs.Refusal.{STATE}
 use Rattle.rules.specs.Step.{Call, asks}
-use Rattle.rules.specs.declared.Answer.the-variants.{Done, Released, Refused}
-use Rattle.rules.specs.declared.Command.the-variants.{Release, Tell}
+use Rattle.rules.specs.declared.Answer.{Answer}
+use Rattle.rules.specs.declared.Answer.the-variants.{Done, Released, Dropped}
+use Rattle.rules.specs.declared.Command.the-variants.{Release, Deliver, Checkpoint, Tell}
 use Rattle.history.specs.History.{Interval, interval, History, member}
-use Rattle.history.specs.Demand.{callIn, stepIn, next, RestsOnLost, named, FromOpening, upTo, end}
-use Rattle.history.specs.Progress.{Orphan, SentIn, SendingLive, NotLetOut, HasHeard, CanHear, GoesOut, Deliverable, Arrives}
-use Rattle.model.specs.Model.{Model}
-use Rattle.model.specs.Tests.{contrary, fails}
-use Rattle.model.specs.Invariant.{Inv}
+use Rattle.history.specs.Demand.{stepIn, next, RestsOnLost, named, FromOpening, upTo, end}
+use Rattle.history.specs.Progress.{Orphan, SentIn, HeldIn, LetOutIn, NotLetOut, HasHeard, CanHear, Deliverable}
+use Rattle.history.specs.Asked.{Asked, AllAsked, AllCleared, Names, Unlearned, GoesOut, GoesOutWithin, NotHeld, Begins, Arrives, Fate}
+use Rattle.model.specs.Model.{intervalOf, Model, full}
+use Rattle.model.specs.Tests.{contrary, passes, fails}
+use Rattle.model.specs.Invariant.{Inv, Covers}
 use Rattle.model.specs.Vectors.{Condemned}
-use Rattle.model.specs.Consequences.{spoilt-orphan, on-chain, live-clean, live-or-lost}
+use Rattle.model.specs.Consequences.{spoilt-orphan, live-begun, live-or-lost}
 use Rattle.model.specs.Paper as P
 use Rattle.model.specs.Paper.{Useful, vectorOf}
-use Rattle.model.specs.Informed.{told-knows, ended-known}
+use Rattle.model.specs.Informed.{ended-known}
 use Rattle.model.specs.Stability.{lemma-A-1-always}
 use Rattle.image.specs.Mask.{count}
 use Rattle.image.specs.Tables.{modelOf}
 use Rattle.demand.specs.Demanded.{table-inv, follows, demand-3}
 use Rattle.demand.specs.Beyond.{lost-unstable}
 use Rattle.demand.specs.Claims.{at-most-K-named}
-use Rattle.paper.specs.Extending.{modelIn}
-use Rattle.paper.specs.Recipe.{history-told, tell-goes, tell-told}
-use Rattle.paper.specs.Crashes.{heard-loss, can-hear}
-use Rattle.paper.specs.Told.{ready}
-use Rattle.paper.specs.Released.{sure-goes-out, goes-out}
-use Rattle.paper.specs.Delivered.{arrives}
-use Rattle.paper.specs.Discarded.{discarded}
+use Rattle.paper.specs.Ready.{modelIn, ready}
+use Rattle.paper.specs.Crashes.{can-hear, live-sure}
+use Rattle.paper.specs.Interleaved.{telling-knows}
+use Rattle.paper.specs.Whenever.{checkpoint-is-done, tell-is-done, mask-asked, useful-goes, mask-all-but-K, masks-shrink, named-with-cause, dropped-exactly, useful-arrives, mask-arrives}
+use Rattle.paper.specs.Fates.{fate}
 
 module _ (t g : List ℕ) (n k : ℕ) (l : List Call) (O : FromOpening t g n k l) where
   -- the history at the end of the list, and the known words and vectors of the table there
@@ -87,21 +87,11 @@ module _ (t g : List ℕ) (n k : ℕ) (l : List Call) (O : FromOpening t g n k l
   lemma-A-2 = P.lemma-A-2 v
 
   -- Lemma A.3. "stable(get_state(j, e)) ⇒ ∀i: ∃s ∈ P_i: knows_stable(s, e, j)." Of live intervals: after one telling, which is done.
-  pub lemma-A-3 : (a b : ℕ) → a < n → b < n → a ≢ b → (y : Interval) → member y (h .chain a) ≡ true → h .stable y ≡ true →
-      let then = next (asks (Tell a b)) (upTo t g n k l) in
-      (callIn (upTo t g n k l) (asks (Tell a b)) .answer ≡ Done) × (y .number ≤ modelIn then .controller b .known a (y .incarnation))
-  lemma-A-3 a b p q ne y live stable =
+  pub lemma-A-3 : (s : Interval) (b : ℕ) → s .owner < n → b < n → s .owner ≢ b → member s (h .chain (s .owner)) ≡ true → h .stable s ≡ true →
       let r = upTo t g n k l in
-      let goes = tell-goes (ready t g n k l O) a b p q ne in
-      let then = next (asks (Tell a b)) r in
-      let ok = table-inv (goes .ready .holds) .controller-ok a p in
-      let on = on-chain (table-inv (goes .ready .holds)) a p y (subst (λ (q : History). member y (q .chain a) ≡ true) (sym (history-told r a b)) live) in
-      let still = subst (λ (q : History). q .stable y ≡ true) (sym (history-told r a b)) stable in
-      let upto = ok .body .stable-only (y .number) (on .pos) (on .top) (rw (on .is) at still) in (
-        goes .done,
-        rw (ap (λ (z : Interval). z .incarnation) (on .is))
-            (told-knows (modelIn then) a b (goes .ready .informed a p) (tell-told (ready t g n k l O) a b p q ne) (y .number) (on .pos) upto),
-      )
+      let x = Tell (s .owner) b in
+      (stepIn r x .answer ≡ Done) × (s .number ≤ modelIn (next (asks x) r) .controller b .known (s .owner) (s .incarnation))
+  lemma-A-3 s b p q ne live stable = let done = tell-is-done t g n k l O (s .owner) b p q ne in (done, telling-knows (ready t g n k l O) s b done stable live)
 
   -- Lemma A.4. "knows_orphan(s, u) ⇒ orphan(u)."
   pub lemma-A-4 : (u : Interval) → u .owner < n → member u (h .chain (u .owner)) ≡ true → (b : ℕ) → b < n → Condemned n (μ .controller b) (vectorOf μ u) → RestsOnLost h h b u
@@ -111,32 +101,87 @@ module _ (t g : List ℕ) (n k : ℕ) (l : List Call) (O : FromOpening t g n k l
   pub lemma-A-5 : (u : Interval) → u .owner < n → member u (h .chain (u .owner)) ≡ true → (b : ℕ) → b < n → RestsOnLost h h b u → Condemned n (μ .controller b) (vectorOf μ u)
   lemma-A-5 = P.lemma-A-5 v
 
-  -- Theorem A.1. "The protocol rolls back all orphan states and orphan states only." Where b has heard every crash, what it has begun is
-  -- live no more just where it is an orphan. (Hearing by hearing this is in demand 3.)
+  -- Observation A.1. "Different states of the same process have different entries." Live ones even have different numbers.
+  pub observation-A-1 : (c : ℕ) → c < n → (s u : Interval) → member s (h .chain c) ≡ true → member u (h .chain c) ≡ true → s .number ≡ u .number → s ≡ u
+  observation-A-1 = P.observation-A-1 v
+
+  -- Invariant A.1. "∀s, u: (s → u ∧ ¬stable(s)) ⇒ ((u.c[s.p].inc = s.c[s.p].inc) ∧ (u.c[s.p].seq ≥ s.c[s.p].seq))." Of a live u.
+  pub invariant-A-1 : (u : Interval) → u .owner < n → member u (h .chain (u .owner)) ≡ true → (s : Interval) → h .rests u s ≡ true → h .stable s ≡ false →
+      Covers (vectorOf μ u (s .owner)) s
+  invariant-A-1 = P.invariant-A-1 v
+
+  -- Invariant A.3 "ensures that our dependency tracking mechanism does not introduce any false dependencies": a live u rests on each interval
+  -- that its vector names.
+  pub invariant-A-3 : (u : Interval) → u .owner < n → member u (h .chain (u .owner)) ≡ true → (a : ℕ) → full (vectorOf μ u a) ≡ true →
+      h .rests u (intervalOf a (vectorOf μ u a)) ≡ true
+  invariant-A-3 = P.invariant-A-3 v
+
+  -- Theorem A.1. "The protocol rolls back all orphan states and orphan states only." Orphans only, whatever was heard: what was begun and is live
+  -- no more is an orphan.
+  pub theorem-A-1-only : (b : ℕ) → b < n → (y : Interval) → y .owner ≡ b → h .begun y ≡ true → member y (h .chain b) ≡ false → Orphan h y
+  theorem-A-1-only b below y mine begun gone = ⊎-elim (λ live. contrary live gone) spoilt-orphan (live-or-lost v b below y mine begun)
+
+  -- All orphans: where b has heard every crash, what it has begun is live no more just where it is one. (Hearing by hearing this is in demand 3.)
   pub theorem-A-1 : (b : ℕ) → b < n → HasHeard t g n k l b → (y : Interval) → y .owner ≡ b → h .begun y ≡ true → (member y (h .chain b) ≡ false) ↔ Orphan h y
-  theorem-A-1 b below heard y mine begun = (
-    λ gone. ⊎-elim (λ live. contrary live gone) spoilt-orphan (live-or-lost v b below y mine begun),
-    λ o. fails _ (λ live. live-clean v b below y live (heard-loss t g n k l O b heard y o)),
-  )
+  theorem-A-1 b below heard y mine begun = (theorem-A-1-only b below y mine begun, λ o. fails _ (λ live. live-sure t g n k l O b below heard y live o))
 
-  -- Theorem A.2. "Each message in Send_buffer is either lost in a failure, or discarded as an orphan, or eventually sent."
-  pub theorem-A-2 : (m : ℕ) → SentIn t g n k l m → SendingLive t g n k l m → NotLetOut t g n k l m → HasHeard t g n k l (h .sending m .owner) → GoesOut t g n k l m
-  theorem-A-2 m sent live inside heard = goes-out t g n k l O m sent inside live heard
+  -- of messages: a delivery drops exactly what was sent from an interval that rests on one lost in a crash which the receiver has heard
+  pub theorem-A-1-messages : (m : ℕ) → Deliverable t g n k l m → (stepIn (upTo t g n k l) (Deliver m) .answer ≡ Dropped m) ↔ RestsOnLost h h (h .receiver m) (h .sending m)
+  theorem-A-1-messages = dropped-exactly t g n k l O
 
-  -- the same where its sending interval is no orphan, heard or not
-  pub theorem-A-2-useful : (m : ℕ) → SentIn t g n k l m → NotLetOut t g n k l m → (Orphan h (h .sending m) → ⊥) → GoesOut t g n k l m
-  theorem-A-2-useful = sure-goes-out t g n k l O
+  -- and what is left is a consistent state: where all have heard all, what a live interval rests on is live
+  pub theorem-A-1-consistent : ((b : ℕ) → b < n → HasHeard t g n k l b) → (y z : Interval) → y .owner < n → member y (h .chain (y .owner)) ≡ true → h .rests y z ≡ true →
+      member z (h .chain (z .owner)) ≡ true
+  theorem-A-1-consistent all y z below live rests =
+      passes _ (λ gone. live-sure t g n k l O (y .owner) below (all (y .owner) below) y live (theorem-2 y z (live-begun v (y .owner) below y live) rests gone))
 
-  -- "lost in a failure, or discarded as an orphan": where its sending interval is live no more, it is held no more, and its release is
-  -- refused for its state
-  pub theorem-A-2-discarded : (m : ℕ) → SentIn t g n k l m → (SendingLive t g n k l m → ⊥) → stepIn (upTo t g n k l) (Release m) .answer ≡ Refused STATE
-  theorem-A-2-discarded = discarded t g n k l O
+  -- Theorem A.2. "Each message in Send_buffer is either lost in a failure, or discarded as an orphan, or eventually sent." Every message that
+  -- was sent in the list has one of three fates: a release let it out; or its sending interval is live no more, and its release is refused with
+  -- 7; or it is held, and goes out once its sender has heard every crash and the controllers are cleared.
+  pub theorem-A-2 : (m : ℕ) → SentIn t g n k l m → Fate t g n k l m
+  theorem-A-2 = fate t g n k l O
 
-  -- the same of the delivery of a released message
-  pub theorem-A-2-delivery : (m : ℕ) → Deliverable t g n k l m → HasHeard t g n k l (h .receiver m) → Arrives t g n k l m
-  theorem-A-2-delivery = arrives t g n k l O
+  -- the last, where its sending interval is no orphan, whatever was heard
+  pub theorem-A-2-useful : (m : ℕ) → SentIn t g n k l m → NotLetOut t g n k l m → (Orphan h (h .sending m) → ⊥) → AllCleared t g n k l m (h .sending m .owner) → GoesOut t g n k l m
+  theorem-A-2-useful = useful-goes t g n k l O
 
-  -- and what stands against it
+  -- By the mask, whatever stands between: let a release of m in the list have been held, and each controller that it names have been asked. Where
+  -- the sender has heard every crash, the release of m at the end answers `released m 0` (or 18), unless it is refused with 7.
+  pub theorem-A-2-mask : (m mask : ℕ) → HeldIn t g n k l m mask → AllAsked t g n k l m mask (h .sending m .owner) → HasHeard t g n k l (h .sending m .owner) →
+      NotHeld t g n k l m ⊎ GoesOut t g n k l m
+  theorem-A-2-mask = mask-asked t g n k l O
+
+  -- To a controller all but K are enough: where those that were not asked are no more than the sender's degree, it is let out, and names only those.
+  pub theorem-A-2-all-but-K : (m mask : ℕ) → HeldIn t g n k l m mask → HasHeard t g n k l (h .sending m .owner) → h .receiver m ≢ desk →
+      (left : ℕ → Bool) → count controllers left ≤ h .degree (h .sending m .owner) →
+      ((c : ℕ) → c < n → named mask c ≡ true → left c ≡ false → Asked t g n k l m (h .sending m .owner) c) → NotHeld t g n k l m ⊎ GoesOutWithin t g n k l m left
+  theorem-A-2-all-but-K = mask-all-but-K t g n k l O
+
+  -- Masks only shrink: whom a held release of m didn't name no later release of m names.
+  pub theorem-A-2-masks : (m mask later : ℕ) {a : Answer} → HeldIn t g n k l m mask → Names later a → stepIn (upTo t g n k l) (Release m) .answer ≡ a →
+      (c : ℕ) → named mask c ≡ false → named later c ≡ false
+  theorem-A-2-masks = masks-shrink t g n k l O
+
+  -- And they name with cause: of each controller that a release names, where the sending interval is no orphan, it rests on an interval of which
+  -- the sender has no word.
+  pub theorem-A-2-cause : (m mask : ℕ) {a : Answer} → Names mask a → stepIn (upTo t g n k l) (Release m) .answer ≡ a → (Orphan h (h .sending m) → ⊥) →
+      (c : ℕ) → named mask c ≡ true → Unlearned t g n k l m (h .sending m .owner) c
+  theorem-A-2-cause = named-with-cause t g n k l O
+
+  -- The same of the delivery of a released message, by the mask with which it was let out: asked for its receiver, it doesn't wait.
+  pub theorem-A-2-delivery : (m : ℕ) → Deliverable t g n k l m → (mask : ℕ) → LetOutIn t g n k l m mask → AllAsked t g n k l m mask (h .receiver m) →
+      HasHeard t g n k l (h .receiver m) → Arrives t g n k l m
+  theorem-A-2-delivery = mask-arrives t g n k l O
+
+  -- Where its sending interval is no orphan it arrives, though its receiver hasn't heard every crash.
+  pub theorem-A-2-useful-delivery : (m : ℕ) → Deliverable t g n k l m → AllCleared t g n k l m (h .receiver m) → (Orphan h (h .sending m) → ⊥) → Begins t g n k l m
+  theorem-A-2-useful-delivery = useful-arrives t g n k l O
+
+  -- What is asked for can always be done: a checkpoint, a telling,
+  pub theorem-A-2-done : (c : ℕ) → c < n → (stepIn (upTo t g n k l) (Checkpoint c) .answer ≡ Done) × ((b : ℕ) → b < n → c ≢ b → stepIn (upTo t g n k l) (Tell c b) .answer ≡ Done)
+  theorem-A-2-done c below = (checkpoint-is-done t g n k l O c below, λ b near. tell-is-done t g n k l O c b below near)
+
+  -- and a hearing, unless it must undo in the last incarnation
   pub theorem-A-2-hearing : (b : ℕ) → b < n → CanHear t g n k l b
   theorem-A-2-hearing = can-hear t g n k l O
 

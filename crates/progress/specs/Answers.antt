@@ -7,22 +7,21 @@ use Prim.Native.Nat.{ℕ, zero, suc, _+_, _≤_, _<_}
 use native.Mathlib.Omega.{arith}
 use lib.Count.{ones, onesIn}
 use borrow.Author.Tests.{eq-eqb, ne-eqb, leb-true, le-leb, lt-leb, not-false}
-use Rattle.base.specs.Choice.{_==_, _≤?_, _<?_, cond-ind, le?}
+use Rattle.base.specs.Choice.{_==_, _≤?_, cond-ind, le?}
 use Rattle.base.specs.Ranges.{anyb-none}
 use Rattle.base.specs.Cases.{Case, firstOf, none, hit, skip}
-use Rattle.table.specs.Field.{State, OfMessage, Size, Known, Degree, Incarnation, LiveCount, StableCount, Flag, MessageState, Sender, Receiver, word, same}
-use Rattle.table.specs.Change.{put, putPart}
-use Rattle.table.specs.Layout.{controllers, messageWords}
-use Rattle.table.specs.Words.{state, Agree}
-use Rattle.table.specs.Numbering.{numberOf, used, recordOf, number-next, Numbered, numbers-kept, numbers-put, numbers-part, numbers-trans, used-agree, record-agree}
+use Rattle.table.specs.Field.{State, Size, Degree, Incarnation, LiveCount, MessageState, Sender, Receiver}
+use Rattle.table.specs.Layout.{controllers}
+use Rattle.table.specs.Words.{state}
+use Rattle.table.specs.Numbering.{numberOf, used, recordOf, number-next}
 use Rattle.rules.specs.Limits.{Limits, house}
-use Rattle.rules.specs.Refusal.{FORM, LEDGER, CONTROLLER, MESSAGE, SAME-CONTROLLER, STATE, PLACES-USED-UP, LEDGER-USED-UP}
+use Rattle.rules.specs.Refusal.{LEDGER, CONTROLLER, MESSAGE, SAME-CONTROLLER, STATE, PLACES-USED-UP, LEDGER-USED-UP}
 use Rattle.rules.specs.Vector.{Vector, empty, pairOf, placeVector, messageVector, filtered, condemned, maskTo, mask, conflictPair, conflict}
 use Rattle.rules.specs.Form.{stateHeld, stateReleased, forDesk, inForm}
 use Rattle.rules.specs.Ledger.{countOf, ledgerOk}
-use Rattle.rules.specs.Shared.{newestPlace, logged, loggedTo, checkpointed}
-use Rattle.rules.specs.Steps.{After, after, AfterBoth, beside, refuse, refusing, refusingBoth, mayGo, messageRefusals, release, releaseRefusals, stepRelease, intervalBegins, deliver, stepDeliver, checkpointRefusals, stepCheckpoint, toldRow, told, tellRefusals, stepTell}
-use Rattle.rules.specs.Step.{perform, stepOn, OutBoth, step}
+use Rattle.rules.specs.Shared.{newestPlace}
+use Rattle.rules.specs.Steps.{After, AfterBoth, beside, refuse, refusing, refusingBoth, mayGo, messageRefusals, release, releaseRefusals, stepRelease, intervalBegins, deliver, stepDeliver, checkpointRefusals, stepCheckpoint, tellRefusals, stepTell}
+use Rattle.rules.specs.Step.{perform, stepOn, step}
 use Rattle.rules.specs.declared.Answer.{Answer}
 use Rattle.rules.specs.declared.Answer.the-variants.{Done, Released, Delivered, Dropped, Refused}
 use Rattle.rules.specs.declared.Command.{Command}
@@ -33,12 +32,11 @@ use Rattle.model.specs.Model.{Vec, full, releasedVec, filtered as filteredFor}
 use Rattle.model.specs.Tests.{fails, passes, eq?}
 use Rattle.model.specs.Vectors.{Condemned}
 use Rattle.image.specs.Image.{vecOf, image}
-use Rattle.image.specs.Controllers.{numbers-loggedTo}
 use Rattle.image.specs.Vectors.{length-message}
 use Rattle.image.specs.Tests.{spared, condemned-for, filtered-is, released-is}
 use Rattle.image.specs.Reads.{message-vec-is}
 use Rattle.image.specs.Tables.{modelOf, sizeOf}
-use Rattle.progress.specs.Tables.{step-is, left-agree, answer-is}
+use Rattle.progress.specs.Tables.{answer-is}
 
 -- EMPTY PAIRS
 -- a pair of the model is empty where that of the words is
@@ -225,57 +223,6 @@ module _ (L : Limits) (σ : State) (g : List ℕ) (good : inForm L σ ≡ true) 
           (λ q. inr (refl, leb-true (L .places) (σ (LiveCount c)) q))
           (λ _. inl (ap (Delivered m (σ (Incarnation c))) (number-next σ c (σ (LiveCount c)))))))
 
--- C and T: they write no word of a message
-pub data Spreads : Command → Type 0 where
-  by-checkpoint : (c : ℕ) → Spreads (Checkpoint c)
-  by-telling : (owner holder : ℕ) → Spreads (Tell owner holder)
-
--- τ has the messages of σ, numbered alike, in a house of as many controllers
-record Leaves (σ τ : State) : Type 0 where
-  size-same : τ Size ≡ σ Size
-  numbers : Numbered τ σ
-  word-same : (r k : ℕ) → τ (OfMessage r k) ≡ σ (OfMessage r k)
-
--- a state has its own
-leaves-self : (σ : State) → Leaves σ σ
-leaves-self σ = record { size-same = refl; numbers = numbers-kept σ σ (λ f _. refl); word-same = λ r k. refl }
-
--- what a checkpoint leaves
-leaves-checkpointed : (σ : State) (c : ℕ) → Leaves σ (checkpointed σ c)
-unfolding checkpointed loggedTo logged put same
-leaves-checkpointed σ c =
-    let more = σ (StableCount c) <? σ (LiveCount c) in
-    record {
-      size-same = cond-ind (λ (τ : State). τ Size ≡ σ Size) more (λ _. refl) (λ _. refl);
-      numbers = numbers-trans _ _ σ (numbers-put _ (Flag c (newestPlace σ c)) _ refl) (numbers-loggedTo σ c (σ (LiveCount c)));
-      word-same = λ r k. cond-ind (λ (τ : State). τ (OfMessage r k) ≡ σ (OfMessage r k)) more (λ _. refl) (λ _. refl);
-    }
-
--- what telling leaves
-leaves-told : (σ : State) (owner holder : ℕ) → Leaves σ (told σ owner holder)
-unfolding told putPart
-leaves-told σ owner holder =
-    record { size-same = refl; numbers = numbers-part σ (Known holder owner 0) 0 (toldRow σ owner holder) (λ i l. refl); word-same = λ r k. refl }
-
-module _ (L : Limits) (σ : State) (g : List ℕ) where
-  -- the messages are left, and the ledger
-  abbrev Kept : AfterBoth → Type 0
-  Kept o = Leaves σ (o .left) × (o .ledger ≡ g)
-
-  -- a refusal leaves both
-  kept-looked : (cases : List Case) (o : After) → Leaves σ (o .left) →
-      Kept (cond (not (inForm L σ)) (beside (refuse FORM σ) g) (beside (refusing cases σ o) g))
-  unfolding refusing
-  kept-looked cases o h =
-      cond-ind Kept (not (inForm L σ)) (λ _. (leaves-self σ, refl))
-      (λ _. (cond-ind (λ (o : After). Leaves σ (o .left)) (firstOf cases == 0) (λ _. h) (λ _. leaves-self σ), refl))
-
-  -- and so do C and T
-  spread-kept : (x : Command) → Spreads x → Kept (stepOn L σ g x)
-  unfolding stepOn perform stepCheckpoint stepTell
-  spread-kept x (by-checkpoint c) = kept-looked (checkpointRefusals σ c) (after Done (checkpointed σ c)) (leaves-checkpointed σ c)
-  spread-kept x (by-telling owner holder) = kept-looked (tellRefusals σ owner holder) (after Done (told σ owner holder)) (leaves-told σ owner holder)
-
 -- TABLES AND LEDGERS OF WORDS
 -- where message m stands in a table, and its receiver
 abbrev pub recordIn : List ℕ → ℕ → ℕ
@@ -283,19 +230,6 @@ recordIn t m = recordOf (state t) m
 
 abbrev pub receiverIn : List ℕ → ℕ → ℕ
 receiverIn t m = state t (Receiver (recordIn t m))
-
--- what a step left has the messages of t, and the ledger is still g
-pub record MessagesStay (t g : List ℕ) (o : OutBoth) : Type 0 where
-  pub size-same : sizeOf (o .table) ≡ sizeOf t
-  pub used-same : used (state (o .table)) ≡ used (state t)
-  pub record-same : (m : ℕ) → recordOf (state (o .table)) m ≡ recordOf (state t) m
-  pub word-same : (r k : ℕ) → r < used (state t) → k < messageWords → state (o .table) (OfMessage r k) ≡ state t (OfMessage r k)
-  pub ledger-same : o .ledger ≡ g
-
--- among them the states
-pub state-stays : {t g : List ℕ} {o : OutBoth} → MessagesStay t g o → (r : ℕ) → r < used (state t) →
-    state (o .table) (MessageState r) ≡ state t (MessageState r)
-state-stays h r l = h .word-same r (word (MessageState r)) l (omega arith)
 
 module _ (t g : List ℕ) (s : Sound t g) where
   -- the state of the table is in form
@@ -313,23 +247,6 @@ module _ (t g : List ℕ) (s : Sound t g) where
   -- T is done between every two
   pub tell-answers : (owner holder : ℕ) → owner < sizeOf t → holder < sizeOf t → owner ≢ holder → step t g (Tell owner holder) .answer ≡ Done
   tell-answers owner holder ol hl ne = same-answer (Tell owner holder) ∙ tell-done house (state t) g good owner holder ol hl ne
-
-  -- C and T leave all messages
-  pub messages-stay : (x : Command) → Spreads x → MessagesStay t g (step t g x)
-  messages-stay x h =
-      let o = stepOn house (state t) g x in
-      let agree : Agree (state (step t g x .table)) (o .left) = left-agree t g x (s .table) in
-      let kept = spread-kept house (state t) g x h in
-      let numbers = kept .0 .numbers in
-      let count : used (state (step t g x .table)) ≡ used (state t) = used-agree _ (o .left) agree ∙ numbers .used-same in
-      let room = form house (state t) good .used-le in
-      record {
-        size-same = agree Size (omega arith) ∙ kept .0 .size-same;
-        used-same = count;
-        record-same = λ m. record-agree _ (o .left) agree m (omega arith) ∙ numbers .record-same m;
-        word-same = λ r k l kl. agree (OfMessage r k) (omega arith, kl) ∙ kept .0 .word-same r k;
-        ledger-same = ap (λ (o : OutBoth). o .ledger) (step-is t g x (s .table)) ∙ kept .1;
-      }
 
   module _ (m : ℕ) where
     -- R lets a held message out whose filtered vector is empty, with mask 0, unless it is for the desk and the ledger is full

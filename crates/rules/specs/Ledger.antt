@@ -28,6 +28,19 @@ ledgerWords L = entryAt (L .entries)
 abbrev pub countOf : List ℕ → ℕ
 countOf g = getD g countAt 0
 
+-- the words of an entry, and what entry j says: "message number and payload"
+abbrev pub messageWord : ℕ
+messageWord = 0
+
+abbrev pub payloadWord : ℕ
+payloadWord = 1
+
+abbrev pub citedMessage : List ℕ → ℕ → ℕ
+citedMessage g j = getD g (entryAt j + messageWord) 0
+
+abbrev pub citedPayload : List ℕ → ℕ → ℕ
+citedPayload g j = getD g (entryAt j + payloadWord) 0
+
 -- the entry of message m, in record r: "message number and payload"
 abbrev pub entryOf : State → ℕ → ℕ → List ℕ
 entryOf σ m r = m ∷ σ (Payload r) ∷ []

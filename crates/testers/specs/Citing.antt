@@ -101,7 +101,7 @@ pub record Cites (σ : State) (g : List ℕ) (q : Citations) : Type 0 where
   pub ledger-is : g ≡ ledgerOf (q .published)
 
 -- a refused step feeds nothing
-cited-refused : (x : Command) (number : ℕ) (q : Citations) → citedStep x (Refused number) q ≡ q
+pub cited-refused : (x : Command) (number : ℕ) (q : Citations) → citedStep x (Refused number) q ≡ q
 unfolding citedStep answers report
 cited-refused (Open n k) number q = refl
 cited-refused (SetDegree c k) number q = refl

@@ -1,7 +1,7 @@
 -- The ledger that some citations give: its words, and one citation more.
 use mathlib.Core.Path.{_≡_, refl, sym, ap, _∙_}
 use mathlib.Core.List.{List, [], _∷_, _++_, map, flatten}
-use Prim.Native.Nat.{ℕ, zero, suc, _+_, _-_, _*_, _<_}
+use Prim.Native.Nat.{ℕ, zero, suc, _+_, _-_, _*_, _≤_, _<_}
 use native.Mathlib.Omega.{arith}
 use lib.ListN.{length, getD, set, length-set, length-append, List·getD-append, List·getD-eq-default, getD-replicate, length-replicate}
 use lib.Seq.{ext-getD, getD-set-same, getD-set-other, getD-append-add}
@@ -9,7 +9,7 @@ use Rattle.base.specs.Choice.{le?}
 use Rattle.base.specs.Lists.{length-tab, getD-tab}
 use Rattle.base.specs.Splice.{splice, length-splice, splice-below, splice-in, splice-above}
 use Rattle.rules.specs.Limits.{house, lastEntry}
-use Rattle.rules.specs.Ledger.{countAt, entryWords, entryAt, ledgerWords, countOf, appended, blankLedger}
+use Rattle.rules.specs.Ledger.{countAt, entryWords, entryAt, ledgerWords, countOf, messageWord, payloadWord, citedMessage, citedPayload, appended, blankLedger}
 use Rattle.history.specs.Citations.{Citation, pairOf, ledgerOf}
 
 -- the words of the entries, one after the other
@@ -40,6 +40,33 @@ count-ledger cs = ledger-at cs countAt (omega arith)
 -- a word of an entry
 entry-at : (cs : List Citation) (j : ℕ) → suc j < ledgerWords house → getD (ledgerOf cs) (suc j) 0 ≡ getD (entryWordsOf cs) j 0
 entry-at cs j l = ledger-at cs (suc j) l
+
+-- citation j of a list
+abbrev pub citationAt : List Citation → ℕ → Citation
+citationAt cs j = getD cs j (record { message = 0; payload = 0 })
+
+-- word k of its entry
+entry-word : (cs : List Citation) (j k : ℕ) → j < length cs → k < entryWords → getD (entryWordsOf cs) (entryWords * j + k) 0 ≡ getD (pairOf (citationAt cs j)) k 0
+unfolding flatten
+entry-word [] j k l w = absurd (omega arith)
+entry-word (c ∷ cs) zero k l w =
+    let at : entryWords * zero + k ≡ k = omega arith in
+    ap (λ i. getD (entryWordsOf (c ∷ cs)) i 0) at ∙ List·getD-append (pairOf c) (entryWordsOf cs) 0 k (omega arith)
+entry-word (c ∷ cs) (suc j) k l w =
+    let at : entryWords * suc j + k ≡ length (pairOf c) + (entryWords * j + k) = omega arith in
+    ap (λ i. getD (entryWordsOf (c ∷ cs)) i 0) at ∙ getD-append-add (pairOf c) (entryWordsOf cs) (entryWords * j + k) 0 ∙ entry-word cs j k (omega arith) w
+
+ledger-word : (cs : List Citation) (j k : ℕ) → length cs ≤ lastEntry → j < length cs → k < entryWords → getD (ledgerOf cs) (entryAt j + k) 0 ≡ getD (pairOf (citationAt cs j)) k 0
+ledger-word cs j k few l w =
+    let at : entryAt j + k ≡ suc (entryWords * j + k) = omega arith in
+    ap (λ i. getD (ledgerOf cs) i 0) at ∙ entry-at cs (entryWords * j + k) (omega arith) ∙ entry-word cs j k l w
+
+-- so entry j says citation j
+pub message-cited : (cs : List Citation) (j : ℕ) → length cs ≤ lastEntry → j < length cs → citedMessage (ledgerOf cs) j ≡ citationAt cs j .message
+message-cited cs j few l = ledger-word cs j messageWord few l (omega arith)
+
+pub payload-cited : (cs : List Citation) (j : ℕ) → length cs ≤ lastEntry → j < length cs → citedPayload (ledgerOf cs) j ≡ citationAt cs j .payload
+payload-cited cs j few l = ledger-word cs j payloadWord few l (omega arith)
 
 -- with none, all words are 0
 pub ledger-none : blankLedger house ≡ ledgerOf []

@@ -1,0 +1,137 @@
+-- Each clause of the public statements is used here once, so that none can be emptied, and no hypothesis narrowed, unseen: what demand 3 gives, what
+-- is a message that was sent or that can be delivered, when a crash can be heard, and when a controller was asked. (That the statements hold is
+-- proved in the crates `demand` and `paper`, and of which lists they speak in `instances`.)
+use mathlib.Core.Path.{_≡_, refl, sym, _∙_, ap, subst}
+use mathlib.Core.Bool.{Bool, true, false, true≢false}
+use mathlib.Core.List.{List, _∷_, _++_, append-assoc}
+use mathlib.Core.Logic.{_≢_, inr, ⊎-elim}
+use Prim.Native.Nat.{ℕ, _<_}
+use native.Mathlib.Omega.{arith}
+use lib.Count.{ones}
+use Rattle.table.specs.Field.{desk}
+use Rattle.rules.specs.Limits.{lastIncarnation}
+use Rattle.rules.specs.Step.{Call, asks}
+use Rattle.rules.specs.declared.Answer.the-variants.{Done, Sent, Released, Waits}
+use Rattle.rules.specs.declared.Command.the-variants.{Send, Release, Deliver, Checkpoint, Tell, Hear}
+use Rattle.history.specs.History.{Interval, History, member}
+use Rattle.history.specs.Demand.{stepIn, next, Accepted, RestsOnLost, named, upTo, end, Demand3}
+use Rattle.history.specs.Progress.{SentIn, HeldIn, Deliverable, CrashIn, HasHeard, CanHear}
+use Rattle.history.specs.Asked.{Secures, checkpoints, Asked, AllAsked, Learned, was-told, has-heard, Cleared, held-without, was-asked, AllCleared}
+
+-- a test that doesn't fail holds, and one that doesn't hold fails
+holds : (b : Bool) → (b ≡ false → ⊥) → b ≡ true
+holds true f = refl
+holds false f = absurd (f refl)
+
+fails : (b : Bool) → (b ≡ true → ⊥) → b ≡ false
+fails true f = absurd (f refl)
+fails false f = refl
+
+-- lists from the opening of t, beside the ledger g, with n and k
+module _ (t g : List ℕ) (n k : ℕ) (l : List Call) where
+  abbrev h : History
+  h = end t g n k l
+
+  -- DEMAND 3
+  module _ (said : Demand3 t g n k l) where
+    -- a hearing that is accepted
+    module _ (before after : List Call) (hearer crashed i : ℕ) (e : l ≡ before ++ asks (Hear hearer crashed i) ∷ after)
+        (accepted : Accepted (stepIn (upTo t g n k before) (Hear hearer crashed i) .answer))
+        (y : Interval) (live : member y (upTo t g n k before .history .chain hearer) ≡ true) where
+      abbrev then : History
+      then = next (asks (Hear hearer crashed i)) (upTo t g n k before) .history
+
+      -- undoes what rests on lost work,
+      pub orphan-is-undone : RestsOnLost h then hearer y → member y (then .chain hearer) ≡ false
+      orphan-is-undone = said .hearings before after hearer crashed i e accepted y live .1
+
+      -- and nothing else
+      pub other-is-kept : (RestsOnLost h then hearer y → ⊥) → member y (then .chain hearer) ≡ true
+      other-is-kept sure = holds _ (λ gone. sure (said .hearings before after hearer crashed i e accepted y live .0 gone))
+
+    -- what rests on lost work that its controller has heard of is not live
+    pub orphan-is-not-live : (c : ℕ) → c < n → (y : Interval) → RestsOnLost h h c y → member y (h .chain c) ≡ false
+    orphan-is-not-live c below y o = fails _ (λ live. said .live c below y live o)
+
+    -- a message that a release let out
+    module _ (before after : List Call) (m echoed mask : ℕ) (e : l ≡ before ++ asks (Release m) ∷ after)
+        (released : stepIn (upTo t g n k before) (Release m) .answer ≡ Released echoed mask) where
+      abbrev at : History
+      at = upTo t g n k before .history
+
+      -- under the degree 0 was let out with nobody named
+      pub nobody-named-at-0 : at .degree (at .sending m .owner) ≡ 0 → ones mask ≡ 0
+      nobody-named-at-0 z = omega (arith, said .degrees before after m echoed mask e released)
+
+      -- whoever is not named loses nothing on which it rests and that wasn't stable then
+      pub unnamed-loses-nothing : (y : Interval) (crash : ℕ) → h .rests (h .sending m) y ≡ true → at .stable y ≡ false → named mask (y .owner) ≡ false → h .lost y crash ≡ false
+      unnamed-loses-nothing y crash rests unstable unnamed =
+          fails _ (λ lost. true≢false (sym (said .releases before after m echoed mask e released y crash rests unstable lost) ∙ unnamed))
+
+      -- to the desk: nobody was named, and what it was sent from is live and not lost
+      pub reading-stands : at .receiver m ≡ desk →
+          let y = at .sending m in
+          (mask ≡ 0) × (member y (h .chain (y .owner)) ≡ true) × ((crash : ℕ) → h .lost y crash ≡ false)
+      reading-stands = said .published before after m echoed mask e released
+
+  -- MESSAGES AND CRASHES
+  -- a send to whomever, by whomever, sends its message
+  pub send-sends : (before after : List Call) (sender receiver payload m : ℕ) → l ≡ before ++ asks (Send sender receiver payload) ∷ after →
+      stepIn (upTo t g n k before) (Send sender receiver payload) .answer ≡ Sent m → SentIn t g n k l m
+  send-sends before after sender receiver payload m e sent =
+      record { before = before; after = after; sender = sender; receiver = receiver; payload = payload; is-in = e; answer = sent }
+
+  -- a message that waits can be delivered
+  pub waiting-is-deliverable : (m echoed : ℕ) → stepIn (upTo t g n k l) (Deliver m) .answer ≡ Waits echoed → Deliverable t g n k l m
+  waiting-is-deliverable m echoed e =
+      record {
+        is-there = λ z. absurd (let q : _≡_ {A = ℕ} 0 1 = cc in omega arith);
+        is-released = λ z. absurd (let q : _≡_ {A = ℕ} 0 1 = cc in omega arith);
+      }
+
+  -- before its last incarnation a controller can hear every crash in the list
+  pub hearing-is-accepted : (b : ℕ) → CanHear t g n k l b → h .incarnation b < lastIncarnation → (c i : ℕ) → CrashIn t g n k l c i → h .heard b c i ≡ false →
+      Accepted (stepIn (upTo t g n k l) (Hear b c i) .answer)
+  hearing-is-accepted b can early c i crash unheard = ⊎-elim (λ a. a) (λ last. absurd (omega (arith, last .1))) (can c i crash unheard)
+
+  -- ASKED
+  -- C c, and then T c b, both done, when the sending interval had begun
+  pub checkpoint-and-tell : (m b c : ℕ) (before between after : List Call) → l ≡ before ++ asks (Checkpoint c) ∷ (between ++ asks (Tell c b) ∷ after) →
+      upTo t g n k before .history .begun (h .sending m) ≡ true → stepIn (upTo t g n k before) (Checkpoint c) .answer ≡ Done →
+      stepIn (upTo t g n k (before ++ asks (Checkpoint c) ∷ between)) (Tell c b) .answer ≡ Done → Asked t g n k l m b c
+  checkpoint-and-tell m b c before between after e began done told =
+      record {
+        point = record {
+          before = before;
+          step = Checkpoint c;
+          after = between ++ asks (Tell c b) ∷ after;
+          is-in = e;
+          secures = subst (Secures c (Checkpoint c)) (sym done) checkpoints;
+          began = began;
+        };
+        tell = inr (record { between = between; after = after; is-in = refl; answer = told });
+      }
+
+  -- who was asked for another has told it: of an interval that is stable whenever it tells
+  pub asked-has-told : (m b c : ℕ) → Asked t g n k l m b c → c ≢ b → (z : Interval) → z .owner ≡ c →
+      ((before after : List Call) → l ≡ before ++ asks (Tell c b) ∷ after → upTo t g n k before .history .stable z ≡ true) → Learned t g n k l b z
+  asked-has-told m b c a other z mine stable =
+      ⊎-elim (λ same. absurd (other same))
+      (λ tell. let p = a .point in
+      let first = p .before ++ asks (p .step) ∷ tell .between in
+      let whole = p .is-in ∙ ap (λ q. p .before ++ asks (p .step) ∷ q) (tell .is-in) ∙ sym (append-assoc (p .before) (asks (p .step) ∷ tell .between) (asks (Tell c b) ∷ tell .after)) in
+      was-told first (tell .after) (subst (λ d. l ≡ first ++ asks (Tell d b) ∷ tell .after) (sym mine) whole)
+      (subst (λ d. stepIn (upTo t g n k first) (Tell d b) .answer ≡ Done) (sym mine) (tell .answer)) (stable first (tell .after) whole))
+      (a .tell)
+
+  -- who has heard a crash has word of every interval of the incarnation that it ended
+  pub heard-has-word : (b : ℕ) → HasHeard t g n k l b → (z : Interval) → CrashIn t g n k l (z .owner) (z .incarnation) → Learned t g n k l b z
+  heard-has-word b heard z crash = has-heard (heard (z .owner) (z .incarnation) crash)
+
+  -- where each controller that a held release of m named was asked for its sender, all are cleared
+  pub mask-cleared : (m mask : ℕ) → HeldIn t g n k l m mask → AllAsked t g n k l m mask (h .sending m .owner) → AllCleared t g n k l m (h .sending m .owner)
+  mask-cleared m mask held asked c below = named? (named mask c) refl
+    where
+      named? : (b : Bool) → named mask c ≡ b → Cleared t g n k l m (h .sending m .owner) c
+      named? true e = was-asked (asked c below e)
+      named? false e = held-without mask held e refl
