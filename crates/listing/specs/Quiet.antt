@@ -1,5 +1,5 @@
 -- Short lists of steps in a house of three, run on the definitions by the prover, the form check of every step included. Such a
--- list writes to the first three controllers, places and message records only. So that a form check need not compute all the
+-- list writes to the first controllers, places and message records only (`reach`). So that a form check need not compute all the
 -- 15,152 words of each state, it is shown that the words of the others stay 0.
 use mathlib.Core.Path.{_≡_, refl, sym, ap, _∙_}
 use mathlib.Core.Bool.{Bool, true, false, true≢false, cond, _&&_, and-true, and-false}
@@ -36,9 +36,13 @@ unfoldable pub answers : State → List ℕ → List Command → List Answer
 answers σ g [] = []
 answers σ g (x ∷ xs) = let o = stepOn house σ g x in o .answer ∷ answers (o .left) (o .ledger) xs
 
+-- how many of each such a list may write
+abbrev pub reach : ℕ
+reach = 4
+
 -- A state where the words of the others are 0 is quiet, and a change that writes near words keeps it so.
 abbrev pub near : Field → Bool
-near g = (owner g <? 3) && (second g <? 3)
+near g = (owner g <? reach) && (second g <? reach)
 
 abbrev pub Rest : Field → ℕ → Type 0
 Rest g x = near g ≡ false → x ≡ 0
@@ -88,10 +92,10 @@ quiet-opened k = record { rest = rest }
   where
     rest : (g : Field) → Rest g (openHouse 3 k g)
     rest (OfHead i) z = absurd (true≢false z)
-    rest (OfController c i) z = rw (rw and-true at z)
-    rest (Known b a i) z = le? 3 b (λ l. rw (le-ltb b 3 l)) (λ l. rw (ne-eqb b a (omega (arith, ltb-false a 3 (rw (lt-ltb b 3 l) at z))), and-false))
+    rest (OfController c i) z = rw (le-ltb c 3 (omega (arith, ltb-false c reach (rw and-true at z))))
+    rest (Known b a i) z = le? reach b (λ l. rw (le-ltb b 3 (omega arith))) (λ l. rw (ne-eqb b a (omega (arith, ltb-false a reach (rw (lt-ltb b reach l) at z))), and-false))
     rest (End b a i) z = refl
-    rest (OfPlace c p i) z = le? 3 c (λ l. rw (le-ltb c 3 l)) (λ l. rw (ne-eqb p 0 (omega (arith, ltb-false p 3 (rw (lt-ltb c 3 l) at z))), and-false))
+    rest (OfPlace c p i) z = le? reach c (λ l. rw (le-ltb c 3 (omega arith))) (λ l. rw (ne-eqb p 0 (omega (arith, ltb-false p reach (rw (lt-ltb c reach l) at z))), and-false))
     rest (OfMessage r i) z = refl
 
 -- The form check with its loops cut to the near words, and with counts that leave the others unused. A quiet state that
@@ -99,28 +103,28 @@ quiet-opened k = record { rest = rest }
 abbrev pub tests : State → List Bool
 tests σ =
     (σ Size == 3)
-    ∷ (used σ ≤? 3)
+    ∷ (used σ ≤? reach)
     ∷ headOk house σ
     ∷ allb controllers (controllerOk house 3 σ)
-    ∷ allb controllers (λ (c : ℕ). σ (LiveCount c) ≤? cond (c <? 3) 3 0)
-    ∷ allb 3 (λ (b : ℕ). allb 3 (rowOk house 3 σ b))
-    ∷ allb 3 (λ (c : ℕ). allb 3 (placeOk house 3 σ c))
-    ∷ allb 3 (messageOk house 3 σ)
+    ∷ allb controllers (λ (c : ℕ). σ (LiveCount c) ≤? cond (c <? reach) reach 0)
+    ∷ allb reach (λ (b : ℕ). allb reach (rowOk house 3 σ b))
+    ∷ allb reach (λ (c : ℕ). allb reach (placeOk house 3 σ c))
+    ∷ allb reach (messageOk house 3 σ)
     ∷ []
 
 -- a loop passes that passes on the near indices and on each one further on
-every : (n : ℕ) (f : ℕ → Bool) → allb 3 f ≡ true → ((i : ℕ) → (i <? 3) ≡ false → f i ≡ true) → allb n f ≡ true
-every n f e far = allb-all f n (λ i h. le? 3 i (λ l. far i (le-ltb i 3 l)) (λ l. allb-get f 3 i e l))
+every : (n : ℕ) (f : ℕ → Bool) → allb reach f ≡ true → ((i : ℕ) → (i <? reach) ≡ false → f i ≡ true) → allb n f ≡ true
+every n f e far = allb-all f n (λ i h. le? reach i (λ l. far i (le-ltb i reach l)) (λ l. allb-get f reach i e l))
 
-grid : (n m : ℕ) (f : ℕ → ℕ → Bool) → allb 3 (λ (i : ℕ). allb 3 (f i)) ≡ true →
-    ((i j : ℕ) → i < n → ((i <? 3) && (j <? 3)) ≡ false → f i j ≡ true) → allb n (λ (i : ℕ). allb m (f i)) ≡ true
+grid : (n m : ℕ) (f : ℕ → ℕ → Bool) → allb reach (λ (i : ℕ). allb reach (f i)) ≡ true →
+    ((i j : ℕ) → i < n → ((i <? reach) && (j <? reach)) ≡ false → f i j ≡ true) → allb n (λ (i : ℕ). allb m (f i)) ≡ true
 grid n m f e far =
-    allb-all _ n (λ i h. le? 3 i (λ l. allb-all (f i) m (λ j _. far i j h (rw (le-ltb i 3 l))))
-    (λ l. every m (f i) (allb-get _ 3 i e l) (λ j z. far i j h (rw (z, and-false)))))
+    allb-all _ n (λ i h. le? reach i (λ l. allb-all (f i) m (λ j _. far i j h (rw (le-ltb i reach l))))
+    (λ l. every m (f i) (allb-get _ reach i e l) (λ j z. far i j h (rw (z, and-false)))))
 
 -- an index further on is not below a count of near ones
-unused : (x : Bool) (i m : ℕ) → (x && (i <? 3)) ≡ false → (m ≤? cond x 3 0) ≡ true → (i <? m) ≡ false
-unused true i m z l = le-ltb i m (omega (arith, ltb-false i 3 z, leb-true m 3 l))
+unused : (x : Bool) (i m : ℕ) → (x && (i <? reach)) ≡ false → (m ≤? cond x reach 0) ≡ true → (i <? m) ≡ false
+unused true i m z l = le-ltb i m (omega (arith, ltb-false i reach z, leb-true m reach l))
 unused false i m z l = le-ltb i m (omega (arith, leb-true m 0 l))
 
 pub in-form : (σ : State) → Quiet σ → allOf (tests σ) ≡ true → inForm house σ ≡ true
@@ -131,7 +135,7 @@ in-form σ q e =
     let rows = grid controllers controllers (rowOk house 3 σ) (passed (tests σ) 5 e) (λ b a h z.
     allb-all _ incarnations (λ i _. rw (q .rest (Known b a i) z, q .rest (End b a i) z, leb·zero))) in
     let chains = grid controllers (house .places) (placeOk house 3 σ) (passed (tests σ) 6 e) (λ c p h z.
-    rw (unused (c <? 3) p _ z (allb-get _ controllers c (passed (tests σ) 4 e) h)) (allb-all _ _ (λ k _. rw (q .rest (OfPlace c p k) z)))) in
+    rw (unused (c <? reach) p _ z (allb-get _ controllers c (passed (tests σ) 4 e) h)) (allb-all _ _ (λ k _. rw (q .rest (OfPlace c p k) z)))) in
     let records = every (house .messages) (messageOk house 3 σ) (passed (tests σ) 7 e) (λ r z.
     rw (unused true r _ z few) (allb-all _ _ (λ k _. rw (q .rest (OfMessage r k) (rw z))))) in
     rw (size, passed (tests σ) 2 e, passed (tests σ) 3 e, rows, chains, records)
@@ -176,8 +180,8 @@ unfoldable pub goes : {σ τ : State} {g h : List ℕ} {m : ℕ} {xs : List Comm
 goes {σ} {g = g} {m = m} keep f ok e r = next keep f (by-message σ g m ok ∙ e) r
 
 -- no record further on is among the n in use
-pub further : (n : ℕ) → (n ≤? 3) ≡ true → (inHouse caused : ℕ → Bool) (r : ℕ) → near (MessageState r) ≡ false → (((r <? n) && inHouse r) && caused r) ≡ false
-further n h inHouse caused r z = rw (le-ltb r n (omega (arith, leb-true n 3 h, ltb-false r 3 (rw and-true at z))))
+pub further : (n : ℕ) → (n ≤? reach) ≡ true → (inHouse caused : ℕ → Bool) (r : ℕ) → near (MessageState r) ≡ false → (((r <? n) && inHouse r) && caused r) ≡ false
+further n h inHouse caused r z = rw (le-ltb r n (omega (arith, leb-true n reach h, ltb-false r reach (rw and-true at z))))
 
 -- The rules on the way of these lists: `unfolding steps` opens them all.
 unfoldable pub steps : Unit {0}

@@ -1,0 +1,5 @@
+pub mod Lists
+pub mod Shown
+pub mod Told
+pub mod GoingOut
+pub mod Arriving

@@ -1,0 +1,220 @@
+-- Short lists of calls of which the paper's theorems speak, after the opening of a house of three, all with the degree 1, and their answers,
+-- computed on states. Each begins as the sample run does (testers/specs/Sample.antt).
+use mathlib.Core.Path.{refl}
+use mathlib.Core.List.{List, [], _∷_, _++_}
+use Prim.Native.Nat.{ℕ, zero, suc}
+use lib.ListN.{take, set}
+use Rattle.base.specs.Lists.{tab}
+use Rattle.table.specs.Field.{State, OfMessage, OfPlace, SentCount, LiveCount, StableCount, MessageState, Known, End, Flag, desk, messageHead}
+use Rattle.table.specs.Layout.{controllers, incarnations}
+use Rattle.rules.specs.Limits.{house}
+use Rattle.rules.specs.Vector.{Vector, pair, noPair, flat}
+use Rattle.rules.specs.Form.{stateHeld, stateReleased, stateDelivered, stateDropped}
+use Rattle.rules.specs.Ledger.{blankLedger}
+use Rattle.rules.specs.Shared.{placeRecord}
+use Rattle.rules.specs.Steps.{openHouse, messageRecord, stepCheckpoint, toldRow, told, stepTell}
+use Rattle.rules.specs.Step.{Call}
+use Rattle.rules.specs.declared.Answer.{Answer}
+use Rattle.rules.specs.declared.Answer.the-variants.{Done, Sent, Released, Held, Delivered, Dropped, Waits, Crashed, Heard}
+use Rattle.rules.specs.declared.Command.{Command}
+use Rattle.rules.specs.declared.Command.the-variants.{Send, Release, Deliver, Log, Checkpoint, Tell, Crash, Hear}
+use Rattle.listing.specs.Quiet as Q
+use Rattle.listing.specs.Quiet.{steps, quiet-put, quiet-part, quiet-removed, blank-ok, goes, further}
+use Rattle.history.specs.Examples.{ListingLine, line}
+use Rattle.testers.specs.Sample.{asked, answered, calls, sample-run}
+use Rattle.testers.specs.Along.{stateAt, ledgerAt}
+
+-- THE LISTS
+-- Two messages are held, a reading for the desk and one for a controller, with two controllers named; these are asked, with a crash and a
+-- hearing in between.
+abbrev pub woven : List ListingLine
+woven =
+    -- 0 to 2: message 1 from controller 0 to 1, which begins (1;0,2)
+    line (Send 0 1 7) (Sent 1) ∷ line (Release 1) (Released 1 0) ∷ line (Deliver 1) (Delivered 1 0 2)
+    -- 3 to 5: message 2 from (1;0,2), let out with controller 1 named, begins (2;0,2)
+    ∷ line (Send 1 2 9) (Sent 2) ∷ line (Release 2) (Released 2 2) ∷ line (Deliver 2) (Delivered 2 0 2)
+    -- 6 and 7: message 3 from (2;0,2) to the desk is held, with controllers 1 and 2 named
+    ∷ line (Send 2 desk 5) (Sent 3) ∷ line (Release 3) (Held 3 6)
+    -- 8 and 9: and so is message 4 to controller 0
+    ∷ line (Send 2 0 6) (Sent 4) ∷ line (Release 4) (Held 4 6)
+    -- 10 and 11: controller 2 checkpoints, so that only controller 1 is left
+    ∷ line (Checkpoint 2) Done ∷ line (Release 3) (Held 3 2)
+    -- 12 to 14: controller 0 crashes, and loses nothing; controller 1 checkpoints, and tells 2
+    ∷ line (Crash 0) (Crashed 0 0 1 0 0) ∷ line (Checkpoint 1) Done ∷ line (Tell 1 2) Done
+    -- 15: controller 2 hears of the crash
+    ∷ line (Hear 2 0 0) (Heard 2)
+    -- 16: message 4 goes out
+    ∷ line (Release 4) (Released 4 0)
+    ∷ []
+
+-- With controller 2 asked alone, message 4 may go out already, under the degree 1.
+abbrev pub allButOne : List ListingLine
+allButOne = take 12 woven ++ line (Release 4) (Released 4 2) ∷ []
+
+-- Message 3 rests on a lost interval, and its sender does not know; all is logged and told, and it is held.
+abbrev pub unheard : List ListingLine
+unheard =
+    -- 0 to 5: as above
+    line (Send 0 1 7) (Sent 1) ∷ line (Release 1) (Released 1 0) ∷ line (Deliver 1) (Delivered 1 0 2)
+    ∷ line (Send 1 2 9) (Sent 2) ∷ line (Release 2) (Released 2 2) ∷ line (Deliver 2) (Delivered 2 0 2)
+    -- 6: message 3 from (2;0,2) to the desk
+    ∷ line (Send 2 desk 5) (Sent 3)
+    -- 7: controller 1 crashes, and (1;0,2) is lost; controller 2 has not heard of it
+    ∷ line (Crash 1) (Crashed 1 0 1 1 0)
+    -- 8 to 12: every controller checkpoints, and the others tell controller 2
+    ∷ line (Checkpoint 2) Done ∷ line (Checkpoint 1) Done ∷ line (Checkpoint 0) Done ∷ line (Tell 1 2) Done ∷ line (Tell 0 2) Done
+    -- 13: message 3 is held
+    ∷ line (Release 3) (Held 3 2)
+    ∷ []
+
+-- Messages 2 and 3 are released, and one of them comes from a lost interval; message 4 comes from there too, and was never released.
+abbrev pub loss : List ListingLine
+loss =
+    -- 0 to 2: message 1 from controller 0 to 1, which begins (1;0,2)
+    line (Send 0 1 7) (Sent 1) ∷ line (Release 1) (Released 1 0) ∷ line (Deliver 1) (Delivered 1 0 2)
+    -- 3 and 4: message 2 from (1;0,2) to controller 2 is let out, with controller 1 named
+    ∷ line (Send 1 2 9) (Sent 2) ∷ line (Release 2) (Released 2 2)
+    -- 5 and 6: message 3 from controller 0's (0,1) to controller 2 is let out
+    ∷ line (Send 0 2 5) (Sent 3) ∷ line (Release 3) (Released 3 0)
+    -- 7: message 4 from (1;0,2) to the desk
+    ∷ line (Send 1 desk 4) (Sent 4)
+    -- 8 to 10: controller 1 crashes, and (1;0,2) is lost; it tells controller 2, which hears of the crash
+    ∷ line (Crash 1) (Crashed 1 0 1 1 0) ∷ line (Tell 1 2) Done ∷ line (Hear 2 1 0) (Heard 2)
+    -- 11 and 12: message 3 is delivered, and message 2 is dropped
+    ∷ line (Deliver 3) (Delivered 3 0 2) ∷ line (Deliver 2) (Dropped 2)
+    ∷ []
+
+-- Message 2, from an interval of one incarnation, waits at a controller that rests on one of the next; then it is delivered.
+abbrev pub waiting : List ListingLine
+waiting =
+    -- 0 to 4: as above
+    line (Send 0 1 7) (Sent 1) ∷ line (Release 1) (Released 1 0) ∷ line (Deliver 1) (Delivered 1 0 2)
+    ∷ line (Send 1 2 9) (Sent 2) ∷ line (Release 2) (Released 2 2)
+    -- 5 and 6: controller 1 logs (1;0,2), and crashes; nothing is lost
+    ∷ line (Log 1 1) Done ∷ line (Crash 1) (Crashed 1 0 2 0 1)
+    -- 7 to 9: message 3 from controller 0 to 1, which begins (1;1,4)
+    ∷ line (Send 0 1 8) (Sent 3) ∷ line (Release 3) (Released 3 0) ∷ line (Deliver 3) (Delivered 3 1 4)
+    -- 10 to 12: message 4 from (1;1,4), let out with controller 1 named, begins (2;0,2)
+    ∷ line (Send 1 2 10) (Sent 4) ∷ line (Release 4) (Released 4 2) ∷ line (Deliver 4) (Delivered 4 0 2)
+    -- 13: message 2 rests on (1;0,2), and (2;0,2) on (1;1,4)
+    ∷ line (Deliver 2) (Waits 2)
+    -- 14 and 15: controller 1 checkpoints, and tells 2
+    ∷ line (Checkpoint 1) Done ∷ line (Tell 1 2) Done
+    -- 16: controller 2 hears of the crash
+    ∷ line (Hear 2 1 0) (Heard 2)
+    -- 17: message 2 is delivered
+    ∷ line (Deliver 2) (Delivered 2 0 3)
+    ∷ []
+
+-- It could be before the hearing.
+abbrev pub deliveredSooner : List ListingLine
+deliveredSooner = take 16 waiting ++ line (Deliver 2) (Delivered 2 0 3) ∷ []
+
+-- the calls of a list
+abbrev pub callsOf : List ListingLine → List Call
+callsOf l = calls (asked l)
+
+-- ON STATES
+-- a run that goes another way from its step j on
+unfoldable pub branch : {σ : State} {g : List ℕ} {xs zs : List Command} {ys ws : List Answer} (w : Q.Run σ g xs ys) (j : ℕ) →
+    Q.Run (stateAt w j) (ledgerAt w j) zs ws → Q.Run σ g (take j xs ++ zs) (take j ys ++ ws)
+unfolding stateAt ledgerAt
+branch Q.end zero v = v
+branch Q.end (suc j) v = v
+branch (Q.opening e w) zero v = v
+branch (Q.opening e w) (suc j) v = Q.opening e (branch w j v)
+branch (Q.next keep f e w) zero v = v
+branch (Q.next keep f e w) (suc j) v = Q.next keep f e (branch w j v)
+
+-- a list that gets its answers
+abbrev pub Computed : List ListingLine → Type 0
+Computed l = Q.Run (openHouse 3 1) (blankLedger house) (asked l) (answered l)
+
+-- Each line has the words that its step writes; the rest is computed.
+abbrev none : Vector
+none = tab controllers (λ (_ : ℕ). noPair)
+
+abbrev unknown : List ℕ
+unknown = tab incarnations (λ (_ : ℕ). 0)
+
+unfoldable pub woven-run : Computed woven
+unfolding steps stateAt ledgerAt sample-run goes stepCheckpoint told toldRow stepTell
+woven-run =
+    let two : Vector = set (set none 1 (pair 0 2)) 2 (pair 0 2) in
+    branch sample-run 6
+    (Q.next (λ q. quiet-put SentCount 3 refl (quiet-part (OfMessage 2 0) 0 (messageRecord stateHeld 2 desk 0 2 5 two) (λ _. refl) q)) refl refl  -- S 2 8 5
+    (goes (λ q. q) refl blank-ok refl  -- R 3
+    (Q.next (λ q. quiet-put SentCount 4 refl (quiet-part (OfMessage 3 0) 0 (messageRecord stateHeld 2 0 0 2 6 two) (λ _. refl) q)) refl refl  -- S 2 0 6
+    (goes (λ q. q) refl blank-ok refl  -- R 4
+    (Q.next (λ q. quiet-put (Flag 2 1) 1 refl (quiet-put (Known 2 2 0) 2 refl (quiet-put (StableCount 2) 2 refl q))) refl refl  -- C 2
+    (goes (λ q. q) refl blank-ok refl  -- R 3
+    (Q.next (λ q. quiet-removed 0 1 refl refl refl refl (further 4 refl _ _) (quiet-put (End 0 0 0) 1 refl q)) refl refl  -- X 0
+    (Q.next (λ q. quiet-put (Flag 1 1) 1 refl (quiet-put (Known 1 1 0) 2 refl (quiet-put (StableCount 1) 2 refl q))) refl refl  -- C 1
+    (Q.next (λ q. quiet-part (Known 2 1 0) 0 (set unknown 0 2) (λ _. refl) q) refl refl  -- T 1 2
+    (Q.next (λ q. quiet-put (Known 2 0 0) 1 refl (quiet-put (End 2 0 0) 1 refl q)) refl refl  -- H 2 0 0
+    (goes (λ q. quiet-put (MessageState 3) stateReleased refl (quiet-part (OfMessage 3 0) messageHead (flat none) (λ _. refl) q)) refl blank-ok refl  -- R 4
+    Q.end)))))))))))
+
+pub all-but-one-run : Computed allButOne
+unfolding steps stateAt ledgerAt sample-run goes branch woven-run stepCheckpoint
+all-but-one-run =
+    branch woven-run 12
+    (goes (λ q. quiet-put (MessageState 3) stateReleased refl (quiet-part (OfMessage 3 0) messageHead (flat (set none 1 (pair 0 2))) (λ _. refl) q)) refl blank-ok refl  -- R 4
+    Q.end)
+
+pub unheard-run : Computed unheard
+unfolding steps stateAt ledgerAt sample-run goes stepCheckpoint told toldRow stepTell
+unheard-run =
+    let two : Vector = set (set none 1 (pair 0 2)) 2 (pair 0 2) in
+    branch sample-run 6
+    (Q.next (λ q. quiet-put SentCount 3 refl (quiet-part (OfMessage 2 0) 0 (messageRecord stateHeld 2 desk 0 2 5 two) (λ _. refl) q)) refl refl  -- S 2 8 5
+    (Q.next (λ q. quiet-removed 1 1 refl refl refl refl (further 3 refl _ _) (quiet-put (End 1 1 0) 1 refl q)) refl refl  -- X 1
+    (Q.next (λ q. quiet-put (Flag 2 1) 1 refl (quiet-put (Known 2 2 0) 2 refl (quiet-put (StableCount 2) 2 refl q))) refl refl  -- C 2
+    (Q.next (λ q. quiet-put (Flag 1 1) 1 refl q) refl refl  -- C 1
+    (Q.next (λ q. quiet-put (Flag 0 0) 1 refl q) refl refl  -- C 0
+    (Q.next (λ q. quiet-part (Known 2 1 0) 0 (set (set unknown 0 1) 1 2) (λ _. refl) q) refl refl  -- T 1 2
+    (Q.next (λ q. quiet-part (Known 2 0 0) 0 (set unknown 0 1) (λ _. refl) q) refl refl  -- T 0 2
+    (goes (λ q. q) refl blank-ok refl  -- R 3
+    Q.end))))))))
+
+pub loss-run : Computed loss
+unfolding steps stateAt ledgerAt sample-run goes told toldRow stepTell
+loss-run =
+    let one : Vector = set none 1 (pair 0 2) in
+    branch sample-run 5
+    (Q.next (λ q. quiet-put SentCount 3 refl (quiet-part (OfMessage 2 0) 0 (messageRecord stateHeld 0 2 0 1 5 none) (λ _. refl) q)) refl refl  -- S 0 2 5
+    (goes (λ q. quiet-put (MessageState 2) stateReleased refl (quiet-part (OfMessage 2 0) messageHead (flat none) (λ _. refl) q)) refl blank-ok refl  -- R 3
+    (Q.next (λ q. quiet-put SentCount 4 refl (quiet-part (OfMessage 3 0) 0 (messageRecord stateHeld 1 desk 0 2 4 one) (λ _. refl) q)) refl refl  -- S 1 8 4
+    (Q.next (λ q. quiet-removed 1 1 refl refl refl refl (further 4 refl _ _) (quiet-put (End 1 1 0) 1 refl q)) refl refl  -- X 1
+    (Q.next (λ q. quiet-part (Known 2 1 0) 0 (set (set unknown 0 1) 1 2) (λ _. refl) q) refl refl  -- T 1 2
+    (Q.next (λ q. quiet-put (Known 2 1 0) 1 refl (quiet-put (End 2 1 0) 1 refl q)) refl refl  -- H 2 1 0
+    (Q.next (λ q. quiet-put (MessageState 2) stateDelivered refl (quiet-put (LiveCount 2) 2 refl (quiet-part (OfPlace 2 1 0) 0 (placeRecord 0 2 3 0 (set none 2 (pair 0 2))) (λ _. refl) q))) refl refl  -- D 3
+    (Q.next (λ q. quiet-put (MessageState 1) stateDropped refl q) refl refl  -- D 2
+    Q.end))))))))
+
+unfoldable pub waiting-run : Computed waiting
+unfolding steps stateAt ledgerAt sample-run goes stepCheckpoint told toldRow stepTell
+waiting-run =
+    let four : Vector = set none 1 (pair 1 4) in
+    branch sample-run 5
+    (Q.next (λ q. quiet-put (Known 1 1 0) 2 refl (quiet-put (StableCount 1) 2 refl q)) refl refl  -- L 1 1
+    (Q.next (λ q. quiet-removed 1 2 refl refl refl refl (further 2 refl _ _) (quiet-put (End 1 1 0) 2 refl q)) refl refl  -- X 1
+    (Q.next (λ q. quiet-put SentCount 3 refl (quiet-part (OfMessage 2 0) 0 (messageRecord stateHeld 0 1 0 1 8 none) (λ _. refl) q)) refl refl  -- S 0 1 8
+    (goes (λ q. quiet-put (MessageState 2) stateReleased refl (quiet-part (OfMessage 2 0) messageHead (flat none) (λ _. refl) q)) refl blank-ok refl  -- R 3
+    (Q.next (λ q. quiet-put (MessageState 2) stateDelivered refl (quiet-put (LiveCount 1) 4 refl (quiet-part (OfPlace 1 3 0) 0 (placeRecord 1 4 3 0 four) (λ _. refl) q))) refl refl  -- D 3
+    (Q.next (λ q. quiet-put SentCount 4 refl (quiet-part (OfMessage 3 0) 0 (messageRecord stateHeld 1 2 1 4 10 four) (λ _. refl) q)) refl refl  -- S 1 2 10
+    (goes (λ q. quiet-put (MessageState 3) stateReleased refl (quiet-part (OfMessage 3 0) messageHead (flat four) (λ _. refl) q)) refl blank-ok refl  -- R 4
+    (Q.next (λ q. quiet-put (MessageState 3) stateDelivered refl (quiet-put (LiveCount 2) 2 refl (quiet-part (OfPlace 2 1 0) 0 (placeRecord 0 2 4 0 (set four 2 (pair 0 2))) (λ _. refl) q))) refl refl  -- D 4
+    (Q.next (λ q. q) refl refl  -- D 2
+    (Q.next (λ q. quiet-put (Flag 1 3) 1 refl (quiet-put (Known 1 1 1) 4 refl (quiet-put (StableCount 1) 4 refl q))) refl refl  -- C 1
+    (Q.next (λ q. quiet-part (Known 2 1 0) 0 (set (set unknown 0 2) 1 4) (λ _. refl) q) refl refl  -- T 1 2
+    (Q.next (λ q. quiet-put (Known 2 1 0) 2 refl (quiet-put (End 2 1 0) 2 refl q)) refl refl  -- H 2 1 0
+    (Q.next (λ q. quiet-put (MessageState 1) stateDelivered refl (quiet-put (LiveCount 2) 3 refl (quiet-part (OfPlace 2 2 0) 0 (placeRecord 0 3 2 0 (set none 2 (pair 0 3))) (λ _. refl) q))) refl refl  -- D 2
+    Q.end)))))))))))))
+
+pub delivered-sooner-run : Computed deliveredSooner
+unfolding steps stateAt ledgerAt sample-run goes branch waiting-run stepCheckpoint told toldRow stepTell
+delivered-sooner-run =
+    branch waiting-run 16
+    (Q.next (λ q. quiet-put (MessageState 1) stateDelivered refl (quiet-put (LiveCount 2) 3 refl (quiet-part (OfPlace 2 2 0) 0 (placeRecord 0 3 2 0 (set none 2 (pair 0 3))) (λ _. refl) q))) refl refl  -- D 2
+    Q.end)
