@@ -186,6 +186,14 @@ static void set_gap(const char *what, uint32_t gap)
     print_answer(answer, values);
 }
 
+/* Asks whether a controller is at a checkpoint. One that the gap forces shows in no answer to a step. */
+static void ask(uint32_t controller)
+{
+    uint32_t due = goulvizad_is_checkpoint(table, GOULVIZAD_TABLE_WORDS, controller);
+
+    printf("is %s at a checkpoint: %s\n", name(controller), due ? "yes, it has to be written" : "no");
+}
+
 /* The drive works on from two messages that it hasn't written to stable storage. */
 static void work(void)
 {
@@ -275,8 +283,13 @@ static void bound_replay(void)
     set_gap("set a gap of 2", 2);
     step("bench sends 5 to drive", 'S', BENCH, DRIVE, 5);
     step("release 12", 'R', 12, 0, 0);
+    ask(DRIVE);
     step("deliver 12", 'D', 12, 0, 0);
+
+    /* It counts as stable from here on, so the drive has to write the checkpoint. */
+    ask(DRIVE);
     step("drive crashes", 'X', DRIVE, 0, 0);
+    ask(DRIVE);
 }
 
 /* A message from its sending to its delivery in one call, which looks at the form of the table once. */
@@ -301,6 +314,9 @@ static void pass_on(void)
         printf("%s: ", what[i]);
         print_answer(answer[0], answer + 1);
     }
+
+    /* Here the last step alone has begun an interval, so that one question tells of all. */
+    ask(DRIVE);
 }
 
 /* The ledger for the printed filmography, in the order of publishing. */

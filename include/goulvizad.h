@@ -1,6 +1,6 @@
 /*
  * The house recovery machine: one step function over a lent table and a lent ledger, by the step or for
- * a list of steps, and a step beside it that sets the gap. README.md says what it is for,
+ * a list of steps, a step beside it that sets the gap, and two questions. README.md says what it is for,
  * examples/recovery.c shows a crash, all that follows, two readings that go out, a gap, and a list,
  * docs/GUIDE.md leads through the rules, and crates/rules/specs has them.
  *
@@ -83,8 +83,11 @@ extern "C" {
  * A new interval, of a delivery or the first one after a crash or a rollback, that would stand Q or more
  * numbers above the latest checkpoint among the intervals before it that are live is checkpointed as it
  * begins. As with 'C' this logs all before it and itself. The answer to the step is the same as without
- * a gap: whoever writes the checkpoint to stable storage knows by this rule that it is due, from the
- * steps and their answers alone.
+ * a gap, but all of this counts as stable from then on, so the checkpoint has to be written to stable
+ * storage as one that was asked for. goulvizad_is_checkpoint tells that it is due: ask it after each
+ * GOULVIZAD_DELIVERED, GOULVIZAD_CRASHED and GOULVIZAD_ROLLED, for the controller at which the interval
+ * began. After a list of steps it tells of the newest interval alone; which of those before it are
+ * checkpoints follows by this rule from the steps and their answers.
  *
  * Numbers end at 64 and the first interval is a checkpoint, so a gap of 64 asks for none. Where the 64th
  * interval is checkpointed as it begins, all 64 are stable, and a crash of that controller is refused by
@@ -213,6 +216,13 @@ uint32_t goulvizad_run(uint32_t *table, size_t table_words, uint32_t *ledger, si
 
 /* 1 where the table has GOULVIZAD_TABLE_WORDS words and is in form, else 0. Writes nothing. */
 uint32_t goulvizad_in_form(const uint32_t *table, size_t table_words);
+
+/*
+ * 1 where the newest live interval of a controller is a checkpoint, by 'C', by the gap, or as the first
+ * of all; else 0. It is 0 too where the controller is not below n, and where the table has another
+ * length than GOULVIZAD_TABLE_WORDS or is not in form. Writes nothing.
+ */
+uint32_t goulvizad_is_checkpoint(const uint32_t *table, size_t table_words, uint32_t controller);
 
 /*
  * The step that sets the gap, on a table of any length and content. Returns GOULVIZAD_DONE;

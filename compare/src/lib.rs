@@ -15,7 +15,7 @@ pub mod house;
 pub mod inputs;
 pub mod proved;
 
-pub use proved::{in_form, step};
+pub use proved::{in_form, is_checkpoint, step};
 
 /// How much to do: so much, or twenty times as much where `COMPARE_LONG` is 1.
 pub fn effort(usual: u64) -> u64 {

@@ -53,6 +53,18 @@ pub fn in_form(table: &[u32]) -> bool {
     }
 }
 
+/// Whether the newest live interval of a controller is a checkpoint, as the proved machine sees it.
+///
+/// # Panics
+/// If what comes back is neither 0 nor 1.
+pub fn is_checkpoint(table: &[u32], controller: u32) -> bool {
+    match raw::is_checkpoint(table, controller) {
+        0 => false,
+        raw::CHECKPOINT => true,
+        told => panic!("neither a checkpoint nor none: {told}"),
+    }
+}
+
 /// A step, by the function that does it.
 enum Call {
     /// One that has a letter.

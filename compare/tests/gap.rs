@@ -4,7 +4,7 @@
 mod margins;
 
 use compare::agreement::{on_lent, Lent};
-use compare::{effort, in_form};
+use compare::{effort, in_form, is_checkpoint};
 use goulvizad::raw::returned::{DONE, REFUSED, WRONG_VALUES};
 use goulvizad::raw::{set_gap, VALUE_WORDS};
 use margins::{inner, within_margins, UNTOUCHED};
@@ -185,13 +185,17 @@ fn bring(lent: &mut Lent, message: u32) {
     go_on(lent, Command::Deliver { message });
 }
 
-/// The numbers of controller 1's flagged places, and its stable count.
+/// The numbers of controller 1's flagged places, and its stable count. Whether the newest of them is the
+/// newest of all can be asked for.
 fn checkpoints(lent: &Lent) -> (Vec<u32>, u32) {
     let table = Table::new(&lent.table[..]).expect("a table of its length");
     let counts = table.controller(1);
     let places = (0..counts.live as usize).map(|place| table.place(1, place));
     let flagged = places.filter(|record| record.flag == 1);
-    (flagged.map(|record| record.number).collect(), counts.stable)
+    let flagged: Vec<u32> = flagged.map(|record| record.number).collect();
+    let newest = flagged.last() == Some(&counts.live);
+    assert_eq!(is_checkpoint(&lent.table, 1), newest, "{flagged:?}");
+    (flagged, counts.stable)
 }
 
 /// The numbers up to the last that are checkpoints by the gap alone: 1, and each that is the gap above it.

@@ -342,6 +342,13 @@ impl<W: DerefMut<Target = [u32]>> Table<W> {
     }
 }
 
+/// "Whether the newest live interval of a controller is flagged": not where the words are no table in form,
+/// nor where the controller isn't below n.
+pub fn is_checkpoint(words: &[u32], controller: u32) -> bool {
+    let table = Table::new(words).filter(|table| in_form(words) && controller < table.n());
+    table.is_some_and(|table| table.newest(controller as usize).flag == 1)
+}
+
 /// "Holder, owner, incarnation (8 by 8 by 16)."
 fn row_position(from: usize, holder: usize, owner: usize, incarnation: u32) -> usize {
     from + holder * ROW_WORDS + owner * INCARNATIONS + incarnation as usize

@@ -4,7 +4,7 @@ mod common;
 
 use common::{bring, House};
 use reference::machine::Command;
-use reference::table::{state, Place};
+use reference::table::{is_checkpoint, state, Place};
 use reference::vector::Pair;
 
 /// The numbers of a controller's flagged places.
@@ -138,6 +138,42 @@ fn a_forced_checkpoint_is_a_checkpoint() {
         other.set_gap(3);
         assert!(house.words == other.words, "after {logged:?}");
     }
+}
+
+/// Whether the newest interval of each of these is a checkpoint: of both controllers, and of three that
+/// aren't there.
+fn at_checkpoint(house: &House) -> [bool; 5] {
+    [0, 1, 2, 8, u32::MAX].map(|controller| is_checkpoint(&house.words, controller))
+}
+
+/// With a gap of 2 numbers 3 and 5 are. A step takes the one at number 4, so that 5 is spared and 6 is one.
+#[test]
+fn whether_the_newest_is_a_checkpoint_can_be_asked() {
+    let told = |at| [true, at, false, false, false];
+    let mut house = opened(2);
+    for at in [true, false, true, false] {
+        assert_eq!(at_checkpoint(&house), told(at));
+        bring_many(&mut house, 1);
+    }
+    assert_eq!(at_checkpoint(&house), told(true));
+    let mut house = opened(2);
+    bring_many(&mut house, 3);
+    house.go_on("C 1");
+    for at in [true, false, true] {
+        assert_eq!(at_checkpoint(&house), told(at));
+        bring_many(&mut house, 1);
+    }
+    // A start may be one too: number 8 stands two above number 6.
+    assert!(house.say("X 1").starts_with("crashed"));
+    assert_eq!(at_checkpoint(&house), told(false));
+    assert!(house.say("X 1").starts_with("crashed"));
+    assert_eq!(at_checkpoint(&house), told(true));
+    // Words that are no house have none.
+    house.words.push(0);
+    assert_eq!(at_checkpoint(&house), [false; 5]);
+    house.words.pop();
+    house.words[2] = 1;
+    assert_eq!(at_checkpoint(&house), [false; 5]);
 }
 
 /// What rests on a forced checkpoint rests on stable work: it may go out to the desk at once.

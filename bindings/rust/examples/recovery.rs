@@ -103,6 +103,17 @@ impl Story {
         self.say(&format!("set a gap of {gap}"), answer)
     }
 
+    /// Asks whether a controller is at a checkpoint. One that the gap forces shows in no answer to a step.
+    fn ask(&mut self, controller: u32) {
+        let due = self.table.is_checkpoint(controller);
+        let told = if due {
+            "yes, it has to be written"
+        } else {
+            "no"
+        };
+        self.text += &format!("is {} at a checkpoint: {told}\n", name(controller));
+    }
+
     fn say(&mut self, what: &str, answer: Told) -> Told {
         let told = answer.map_or_else(
             |refusal| format!("refused {}, {refusal}", refusal.number()),
@@ -246,8 +257,13 @@ fn bound_replay(story: &mut Story) -> Result<(), Refusal> {
     story.set_gap(2)?;
     story.send(BENCH, DRIVE, 5)?;
     story.release(12)?;
+    story.ask(DRIVE);
     story.deliver(12)?;
+
+    // It counts as stable from here on, so the drive has to write the checkpoint.
+    story.ask(DRIVE);
     story.crash(DRIVE)?;
+    story.ask(DRIVE);
     Ok(())
 }
 
@@ -268,6 +284,9 @@ fn pass_on(story: &mut Story) -> Result<(), Refusal> {
     for ((what, _), answer) in steps.into_iter().zip(answers) {
         story.say(what, answer)?;
     }
+
+    // Here the last step alone has begun an interval, so that one question tells of all.
+    story.ask(DRIVE);
     Ok(())
 }
 

@@ -78,9 +78,10 @@
 //!     table.step(Step::Send { sender: ARM, receiver: DRIVE, payload: message })?;
 //!     table.step(Step::Release { message })?;
 //!     table.step(Step::Deliver { message })?;
+//!     // Every second delivery is a checkpoint, without a step that takes it: it has to be written too.
+//!     assert_eq!(table.is_checkpoint(DRIVE), message % 2 == 0);
 //! }
 //!
-//! // The second and the fourth delivery were checkpoints, and nobody had to ask for them.
 //! let crashed = table.step(Step::Crash { controller: DRIVE })?;
 //! assert!(matches!(crashed, Answer::Crashed { kept: 5, lost: 0, replayed: 0, .. }));
 //! # Ok::<(), Refusal>(())
@@ -189,4 +190,34 @@ pub fn set_gap(words: &mut [u32], gap: u32) -> Result<(), Refusal> {
 /// is not in use 0.
 pub fn in_form(words: &[u32]) -> bool {
     raw::in_form(words) == raw::FORMED
+}
+
+/// Whether the newest live interval of a controller in the lent words is a checkpoint: one that
+/// [`Step::Checkpoint`] took, one that the gap forced, or the first of all. False where there is no such
+/// controller, and where the words are not [`in_form`].
+///
+/// A checkpoint that the gap forces has no answer of its own, and counts as stable. So where a gap is set,
+/// ask after each answer [`Delivered`](Answer::Delivered), [`Crashed`](Answer::Crashed) and
+/// [`Rolled`](Answer::Rolled), for the controller at which the interval began, whether one has to be
+/// written to stable storage. After a list of steps it is told of the newest interval alone.
+///
+/// ```
+/// use goulvizad::{is_checkpoint, set_gap, step, Refusal, Step, LEDGER_WORDS, TABLE_WORDS};
+///
+/// let (mut words, mut ledger) = (vec![0; TABLE_WORDS], [0; LEDGER_WORDS]);
+/// assert!(!is_checkpoint(&words, 0));
+/// step(&mut words, &mut ledger, Step::Open { n: 2, degree: 0 })?;
+/// set_gap(&mut words, 2)?;
+/// assert!(is_checkpoint(&words, 1) && !is_checkpoint(&words, 2));
+///
+/// // The start after a crash stands one above the first interval, that after the next crash two.
+/// let crash = Step::Crash { controller: 1 };
+/// step(&mut words, &mut ledger, crash)?;
+/// assert!(!is_checkpoint(&words, 1));
+/// step(&mut words, &mut ledger, crash)?;
+/// assert!(is_checkpoint(&words, 1));
+/// # Ok::<(), Refusal>(())
+/// ```
+pub fn is_checkpoint(words: &[u32], controller: u32) -> bool {
+    raw::is_checkpoint(words, controller) == raw::CHECKPOINT
 }

@@ -1,6 +1,6 @@
 //! The C interface as it is, numbers in and numbers out. All functions are safe, since a slice carries its
-//! length; [`step`](crate::step()), [`run`](crate::run()), [`set_gap`](crate::set_gap()) and
-//! [`in_form`](crate::in_form()) stand on them.
+//! length; [`step`](crate::step()), [`run`](crate::run()), [`set_gap`](crate::set_gap()),
+//! [`in_form`](crate::in_form()) and [`is_checkpoint`](crate::is_checkpoint()) stand on them.
 
 /// The words of a table.
 pub const TABLE_WORDS: usize = 15_152;
@@ -19,6 +19,9 @@ pub const ANSWER_WORDS: usize = 7;
 
 /// What [`in_form`] returns for a table in form; otherwise it is 0.
 pub const FORMED: u32 = 1;
+
+/// What [`is_checkpoint`] returns for a controller whose newest interval is one; otherwise it is 0.
+pub const CHECKPOINT: u32 = 1;
 
 /// What [`call`] and [`set_gap`] return, by the names of the header, and the values that they write. [`run`]
 /// writes both for each of its steps.
@@ -78,6 +81,7 @@ extern "C" {
         answers_words: usize,
     ) -> u32;
     fn goulvizad_in_form(table: *const u32, table_words: usize) -> u32;
+    fn goulvizad_is_checkpoint(table: *const u32, table_words: usize, controller: u32) -> u32;
     fn goulvizad_set_gap(
         table: *mut u32,
         table_words: usize,
@@ -189,6 +193,27 @@ pub fn in_form(table: &[u32]) -> u32 {
     }
 }
 
+/// [`CHECKPOINT`] where the newest live interval of a controller is one, else 0: also where there is no such
+/// controller, or these are no [`TABLE_WORDS`] words in form.
+///
+/// ```
+/// use goulvizad::raw::{call, is_checkpoint, CHECKPOINT, LEDGER_WORDS, TABLE_WORDS, VALUE_WORDS};
+///
+/// let (mut table, mut ledger) = (vec![0; TABLE_WORDS], [0; LEDGER_WORDS]);
+/// assert_eq!(is_checkpoint(&table, 0), 0);
+/// call(&mut table, &mut ledger, u32::from(b'O'), [3, 1, 0, 0], &mut [0; VALUE_WORDS]);
+/// assert_eq!(is_checkpoint(&table, 2), CHECKPOINT);
+/// assert_eq!(is_checkpoint(&table, 3), 0);
+/// ```
+pub fn is_checkpoint(table: &[u32], controller: u32) -> u32 {
+    // SAFETY: as in `in_form`: the pointer comes with the length of its slice, which is borrowed until the
+    // call returns, and the call writes nothing.
+    #[allow(unsafe_code)]
+    unsafe {
+        goulvizad_is_checkpoint(table.as_ptr(), table.len(), controller)
+    }
+}
+
 #[cfg(test)]
 mod tests {
     use super::*;
@@ -241,8 +266,13 @@ mod tests {
         assert_eq!(ledger, [UNTOUCHED; LEDGER_WORDS]);
         // SAFETY: no word is behind a pointer with length 0.
         #[allow(unsafe_code)]
-        let formed = unsafe { goulvizad_in_form(null_mut(), 0) };
-        assert_eq!(formed, 0);
+        let asked = unsafe {
+            [
+                goulvizad_in_form(null_mut(), 0),
+                goulvizad_is_checkpoint(null_mut(), 0, 0),
+            ]
+        };
+        assert_eq!(asked, [0; 2]);
     }
 
     /// Openings and releases look at the ledger; for all other steps it may be none.

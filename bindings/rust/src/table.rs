@@ -1,6 +1,8 @@
 //! A house that owns its words and its ledger.
 
-use crate::{citations, in_form, Answer, Citation, Refusal, Step, LEDGER_WORDS, TABLE_WORDS};
+use crate::{
+    citations, in_form, is_checkpoint, Answer, Citation, Refusal, Step, LEDGER_WORDS, TABLE_WORDS,
+};
 use std::fmt::{self, Debug, Formatter};
 
 /// A house that owns its words and its ledger. Only steps change them, so they always belong together.
@@ -74,6 +76,13 @@ impl Table {
     /// Sets the gap, as [`set_gap`](crate::set_gap()) does on lent words.
     pub fn set_gap(&mut self, gap: u32) -> Result<(), Refusal> {
         crate::set_gap(&mut self.words[..], gap)
+    }
+
+    /// Whether the newest live interval of a controller is a checkpoint, as
+    /// [`is_checkpoint`](crate::is_checkpoint()) tells it of lent words: where a gap is set, ask it after a
+    /// step that has begun an interval.
+    pub fn is_checkpoint(&self, controller: u32) -> bool {
+        is_checkpoint(&self.words[..], controller)
     }
 
     /// Whether a house is in the words: true after an opening and the steps that follow it.

@@ -50,7 +50,7 @@ const DEFINED: [(&str, u32); 6] = [
 ];
 
 /// The calls that `raw.rs` declares.
-const CALLS: [&str; 4] = [
+const CALLS: [&str; 5] = [
     "uint32_t goulvizad_step(uint32_t *table, size_t table_words, uint32_t *ledger, \
      size_t ledger_words, uint32_t letter, uint32_t a, uint32_t b, uint32_t c, uint32_t d, \
      uint32_t *values, size_t values_words)",
@@ -58,6 +58,8 @@ const CALLS: [&str; 4] = [
      size_t ledger_words, const uint32_t *steps, size_t steps_words, uint32_t *answers, \
      size_t answers_words)",
     "uint32_t goulvizad_in_form(const uint32_t *table, size_t table_words)",
+    "uint32_t goulvizad_is_checkpoint(const uint32_t *table, size_t table_words, \
+     uint32_t controller)",
     "uint32_t goulvizad_set_gap(uint32_t *table, size_t table_words, uint32_t gap, \
      uint32_t *values, size_t values_words)",
 ];

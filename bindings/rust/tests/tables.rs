@@ -1,8 +1,8 @@
 //! Houses that are saved, lent, cloned, cited from, and used from several threads at once.
 
 use goulvizad::{
-    citations, in_form, run, step, Answer, Citation, Refusal, Step, Table, DESK, LEDGER_WORDS,
-    TABLE_WORDS,
+    citations, in_form, is_checkpoint, run, step, Answer, Citation, Refusal, Step, Table, DESK,
+    LEDGER_WORDS, TABLE_WORDS,
 };
 use std::thread;
 
@@ -184,6 +184,40 @@ fn a_gap_takes_checkpoints() {
         replayed: 0,
     };
     assert_eq!(table.step(CRASH), Ok(crashed));
+}
+
+/// Whether each of these is at a checkpoint: the two controllers, and three that are none.
+fn checkpoints(table: &Table) -> [bool; 5] {
+    [0, 1, 2, 8, u32::MAX].map(|controller| table.is_checkpoint(controller))
+}
+
+/// By the first interval, by the gap, and by its own step; not where there is no such controller or house.
+#[test]
+fn a_checkpoint_can_be_asked_for() {
+    const ONE: [bool; 5] = [true, false, false, false, false];
+    const BOTH: [bool; 5] = [true, true, false, false, false];
+    let mut table = working();
+    assert_eq!(checkpoints(&Table::new()), [false; 5]);
+    assert_eq!(checkpoints(&table), ONE);
+    assert_eq!(table.set_gap(2), Ok(()));
+    assert_eq!(checkpoints(&table), ONE, "what has begun stays as it is");
+    let mut bring = |message| {
+        let sending = Step::Send {
+            sender: 0,
+            receiver: 1,
+            payload: 0,
+        };
+        let (release, deliver) = (Step::Release { message }, Step::Deliver { message });
+        let answers = table.run(&[sending, release, deliver]);
+        assert!(matches!(answers[2], Ok(Answer::Delivered { .. })));
+        table.clone()
+    };
+    assert_eq!(checkpoints(&bring(3)), BOTH, "two above the first");
+    assert_eq!(checkpoints(&bring(4)), ONE);
+    let taken = table.step(Step::Checkpoint { controller: 1 });
+    assert_eq!((taken, checkpoints(&table)), (Ok(Answer::Done), BOTH));
+    let words = table.words();
+    assert!(is_checkpoint(words, 1) && !is_checkpoint(&words[1..], 1));
 }
 
 /// A reading for the desk.
