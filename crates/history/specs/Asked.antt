@@ -17,7 +17,7 @@ use Rattle.rules.specs.declared.Answer.the-variants.{Done, Released, Held, Deli
 use Rattle.rules.specs.declared.Command.{Command}
 use Rattle.rules.specs.declared.Command.the-variants.{Release, Deliver, Checkpoint, Tell, Crash, Hear}
 use Rattle.history.specs.History.{Interval, History, newest}
-use Rattle.history.specs.Demand.{Run, stepIn, named, upTo, end}
+use Rattle.history.specs.Demand.{Run, callIn, stepIn, named, upTo, end}
 use Rattle.history.specs.Progress.{Orphan, SendingLive, HeldIn, LetOutIn, NotLetOut, HasHeard}
 
 -- A step with this answer secures controller c, so that all its live intervals are stable then: C c that is done; or a crash of c, or a hearing
@@ -31,6 +31,11 @@ pub data Secures (c : ℕ) : Command → Answer → Type 0 where
 pub data Names : ℕ → Answer → Type 0 where
   names-held : (echoed mask : ℕ) → Names mask (Held echoed mask)
   names-out : (echoed mask : ℕ) → Names mask (Released echoed mask)
+
+-- a checkpoint, or a telling
+pub data Spreads : Call → Type 0 where
+  by-checkpoint : (c : ℕ) → Spreads (asks (Checkpoint c))
+  by-telling : (teller told : ℕ) → Spreads (asks (Tell teller told))
 
 -- lists from the opening of t, beside the ledger g, with n and k
 module _ (t g : List ℕ) (n k : ℕ) (l : List Call) where
@@ -127,6 +132,12 @@ module _ (t g : List ℕ) (n k : ℕ) (l : List Call) where
   pub record Arrives (m : ℕ) : Type 0 where
     pub dropped : (stepIn last (Deliver m) .answer ≡ Dropped m) ↔ Orphan h (h .sending m)
     pub otherwise : (Orphan h (h .sending m) → ⊥) → Begins m
+
+  -- "Eventually": from where one stands, after some more checkpoints and tellings, each of which is done.
+  pub record Eventually (P : List Call → Type 0) : Type 0 where
+    pub more : List Call
+    pub each : (before : List Call) (x : Call) (after : List Call) → more ≡ before ++ x ∷ after → Spreads x × (callIn (upTo t g n k (l ++ before)) x .answer ≡ Done)
+    pub then : P (l ++ more)
 
   -- What has become of a message, by the end of the list: "either lost in a failure, or discarded as an orphan, or eventually sent."
   pub data Fate (m : ℕ) : Type 0 where

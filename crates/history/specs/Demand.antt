@@ -3,7 +3,7 @@ use mathlib.Core.Path.{_≡_}
 use mathlib.Core.Bool.{Bool, true, false}
 use mathlib.Core.List.{List, [], _∷_, _++_}
 use mathlib.Core.Logic.{_↔_, _≢_}
-use Prim.Native.Nat.{ℕ, _+_, _^_, _/_, _%_, _≤_, _<_}
+use Prim.Native.Nat.{ℕ, _^_, _/_, _%_, _≤_, _<_}
 use lib.Count.{ones}
 use Rattle.base.specs.Choice.{_==_}
 use Rattle.table.specs.Field.{desk}

@@ -14,9 +14,9 @@ use Rattle.rules.specs.Step.{Call, asks}
 use Rattle.rules.specs.declared.Answer.the-variants.{Done, Sent, Released, Waits}
 use Rattle.rules.specs.declared.Command.the-variants.{Send, Release, Deliver, Checkpoint, Tell, Hear}
 use Rattle.history.specs.History.{Interval, History, member}
-use Rattle.history.specs.Demand.{stepIn, next, Accepted, RestsOnLost, named, upTo, end, Demand3}
+use Rattle.history.specs.Demand.{callIn, stepIn, next, Accepted, RestsOnLost, named, upTo, end, Demand3}
 use Rattle.history.specs.Progress.{SentIn, HeldIn, Deliverable, CrashIn, HasHeard, CanHear}
-use Rattle.history.specs.Asked.{Secures, checkpoints, Asked, AllAsked, Learned, was-told, has-heard, Cleared, held-without, was-asked, AllCleared}
+use Rattle.history.specs.Asked.{Secures, checkpoints, Spreads, by-checkpoint, by-telling, Asked, AllAsked, Learned, was-told, has-heard, Cleared, held-without, was-asked, AllCleared, Eventually}
 
 -- a test that doesn't fail holds, and one that doesn't hold fails
 holds : (b : Bool) → (b ≡ false → ⊥) → b ≡ true
@@ -135,3 +135,17 @@ module _ (t g : List ℕ) (n k : ℕ) (l : List Call) where
       named? : (b : Bool) → named mask c ≡ b → Cleared t g n k l m (h .sending m .owner) c
       named? true e = was-asked (asked c below e)
       named? false e = held-without mask held e refl
+
+  -- EVENTUALLY
+  module _ (P : List Call → Type 0) (e : Eventually t g n k l P) (before after : List Call) where
+    -- whatever is done for it is done,
+    pub eventually-done : (x : Call) → e .more ≡ before ++ x ∷ after → callIn (upTo t g n k (l ++ before)) x .answer ≡ Done
+    eventually-done x is = e .each before x after is .1
+
+    -- and is no release
+    pub eventually-unreleased : (m : ℕ) → e .more ≡ before ++ asks (Release m) ∷ after → ⊥
+    eventually-unreleased m is = none (asks (Release m)) refl (e .each before (asks (Release m)) after is .0)
+      where
+        none : (x : Call) → x ≡ asks (Release m) → Spreads x → ⊥
+        none _ z (by-checkpoint c) = absurd (let q : _≡_ {A = ℕ} 0 1 = cc in omega arith)
+        none _ z (by-telling teller told) = absurd (let q : _≡_ {A = ℕ} 0 1 = cc in omega arith)

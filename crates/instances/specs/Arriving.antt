@@ -3,7 +3,7 @@
 -- 257. Lists.antt has the lists, Told.antt what their lines tell, GoingOut.antt the other theorems.
 use mathlib.Core.Path.{_≡_, refl, sym, _∙_, ap, ap₂, subst}
 use mathlib.Core.Bool.{true, false, true≢false, _&&_}
-use mathlib.Core.List.{List, []}
+use mathlib.Core.List.{List, [], _∷_, _++_}
 use mathlib.Core.Logic.{_≢_, ⊎-elim}
 use Prim.Native.Nat.{ℕ, _+_, _≤_, _<_}
 use native.Mathlib.Omega.{arith}
@@ -17,12 +17,12 @@ use Rattle.rules.specs.Refusal.{STATE, LEDGER-USED-UP}
 use Rattle.rules.specs.Ledger.{ledgerWords}
 use Rattle.rules.specs.Report.{report}
 use Rattle.rules.specs.Step.{Call}
-use Rattle.rules.specs.declared.Answer.the-variants.{Done, Released, Held, Delivered, Dropped, Waits, Crashed, Refused}
+use Rattle.rules.specs.declared.Answer.the-variants.{Done, Released, Held, Delivered, Dropped, Waits, Crashed, Heard, Rolled, Refused}
 use Rattle.rules.specs.declared.Command.the-variants.{Release, Deliver, Checkpoint, Crash, Hear}
 use Rattle.history.specs.History.{Interval, interval, History, newest, member}
-use Rattle.history.specs.Demand.{stepIn, Accepted, RestsOnLost, named, upTo, end}
+use Rattle.history.specs.Demand.{stepIn, Accepted, answersRolled, RestsOnLost, named, upTo, end}
 use Rattle.history.specs.Progress.{Orphan, SentIn, SendingLive, LetOutIn, NotLetOut, HasHeard, Deliverable}
-use Rattle.history.specs.Asked.{checkpoints, crashes, Asked, AllAsked, Cleared, out-without, was-asked, AllCleared, GoesOut, NotHeld, Begins, Fate, was-let-out, is-discarded, still-held}
+use Rattle.history.specs.Asked.{checkpoints, crashes, Asked, AllAsked, Cleared, out-without, was-asked, AllCleared, GoesOut, NotHeld, Begins, Arrives, Eventually, Fate, was-let-out, is-discarded, still-held}
 use Rattle.history.specs.Examples.{line}
 use Rattle.model.specs.Model.{Model}
 use Rattle.model.specs.Tests.{contrary}
@@ -94,6 +94,14 @@ module _ (t g : List ℕ) (long : length t ≡ tableWords) (wide : length g ≡ 
         said .1 (interval 1 0 2) 0 (sample-says (λ h. h .rests (h .sending 2) (interval 1 0 2) ≡ true) (sample-told .sending-rests))
             (sample-says (λ h. h .lost (interval 1 0 2) 0 ≡ true) (sample-told .lost)),
       )
+
+  -- Controller 2 heard the crash and rolled back: it won't again.
+  pub one-rollback-a-failure : Accepted (stepIn (upTo t g 3 1 s) (Hear 2 1 0) .answer) → ⊥
+  unfolding allLook
+  one-rollback-a-failure =
+      let again = sample ++ line (Hear 2 1 0) (Heard 2) ∷ [] in
+      T.one-rollback-a-failure t g 3 1 (callsOf again) (from-opening t g long wide again refl) (callsOf (take 10 sample)) (callsOf (drop 11 sample)) [] 2 1 0 refl
+      (subst Accepted (sym (answer-in t g sample sampled (take 10 sample) (line (Hear 2 1 0) (Rolled 2 1 1 0)) (drop 11 sample) refl)) (answersRolled 2 1 1 0))
 
   -- A MESSAGE RESTS ON LOST WORK, AND ITS SENDER HAS NOT HEARD
   unheard-shown : Shown t g unheard
@@ -266,6 +274,12 @@ module _ (t g : List ℕ) (long : length t ≡ tableWords) (wide : length g ≡ 
       (subst (AllAsked t g 3 1 q 2 2) (sym lost-receiver) lost-asked)
       (subst (HasHeard t g 3 1 q) (sym lost-receiver) (has-heard t g (take 12 loss) loss-12 2 (loss-told .all-heard))) .dropped .1
       (record { on = lost-rests .on; crash = lost-rests .crash; rests = lost-rests .rests; lost = lost-rests .lost })
+
+  -- From wherever one stands checkpoints and tellings would do.
+  pub theorem-A-2-eventually-delivery : Eventually t g 3 1 q (λ l. Arrives t g 3 1 l 2)
+  theorem-A-2-eventually-delivery =
+      T.theorem-A-2-eventually-delivery t g 3 1 q (loss-12 .from) 2 lost-deliverable
+      (subst (HasHeard t g 3 1 q) (sym lost-receiver) (has-heard t g (take 12 loss) loss-12 2 (loss-told .all-heard)))
 
   -- Message 2 has the first of three fates, and message 4, sent from there and never released, the second.
   pub theorem-A-2-let-out : (mask : ℕ) × LetOutIn t g 3 1 q 2 mask

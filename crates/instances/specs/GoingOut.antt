@@ -20,8 +20,8 @@ use Rattle.rules.specs.declared.Answer.the-variants.{Done, Released, Held, Refu
 use Rattle.rules.specs.declared.Command.the-variants.{Release, Checkpoint, Tell}
 use Rattle.history.specs.History.{Interval, interval, History, member}
 use Rattle.history.specs.Demand.{stepIn, next, named, justOpened, upTo, end}
-use Rattle.history.specs.Progress.{SentIn, HasHeard}
-use Rattle.history.specs.Asked.{checkpoints, Asked, AllAsked, AllCleared, names-held, Unlearned, GoesOut, GoesOutWithin, NotHeld, Fate, was-let-out, is-discarded, still-held}
+use Rattle.history.specs.Progress.{Orphan, SentIn, HasHeard}
+use Rattle.history.specs.Asked.{checkpoints, Asked, AllAsked, AllCleared, names-held, Unlearned, GoesOut, GoesOutWithin, NotHeld, Eventually, Fate, was-let-out, is-discarded, still-held}
 use Rattle.history.specs.Uses.{mask-cleared}
 use Rattle.history.specs.Examples.{line, allCited}
 use Rattle.history.specs.Citations.{noCitations}
@@ -36,9 +36,9 @@ use Rattle.testers.specs.Sample.{allLook, from-opening, run-answered}
 use Rattle.testers.specs.Along.{citations-after}
 use Rattle.paper.specs.Ready.{modelIn}
 use Rattle.paper.specs.Theorems as T
-use Rattle.instances.specs.Lists.{woven, allButOne, callsOf, woven-run, all-but-one-run}
+use Rattle.instances.specs.Lists.{woven, allButOne, unrevoked, callsOf, woven-run, all-but-one-run, unrevoked-run}
 use Rattle.instances.specs.Shown.{three, Shown, shown-to, told, no-orphan, not-let-out, has-heard, answer-in, sent-by, release-by, own-asked-by, asked-by}
-use Rattle.instances.specs.Told.{wovenTo, woven-told}
+use Rattle.instances.specs.Told.{wovenTo, woven-told, unrevoked-told}
 
 module _ (t g : List ℕ) (long : length t ≡ tableWords) (wide : length g ≡ ledgerWords house) where
   -- TWO MESSAGES ARE HELD, AND GO OUT
@@ -234,3 +234,29 @@ module _ (t g : List ℕ) (long : length t ≡ tableWords) (wide : length g ≡ 
   theorem-A-2-done =
       let done = T.theorem-A-2-done t g 3 1 (upto 12) (shown 12 .from) 1 (omega arith) in
       (done .0, done .1 2 (omega arith) (λ e. omega arith))
+
+  -- From the end of the first ten lines message 3 can be brought out by checkpoints and tellings.
+  pub theorem-A-2-eventually : Eventually t g 3 1 (upto 10) (λ l. GoesOut t g 3 1 l 3)
+  theorem-A-2-eventually =
+      let sender = says 10 (λ h. h .sending 3 ≡ interval 2 0 2) (woven-told .then-from) in
+      T.theorem-A-2-eventually t g 3 1 (upto 10) (shown 10 .from) 3 (sent-by t g (take 10 woven) (shown 10) 6 3 2 desk 5 refl)
+      (not-let-out t g (take 10 woven) (shown 10) 3 (woven-told .then-inside)) (subst (λ (y : Interval). member y (h 10 .chain (y .owner)) ≡ true) (sym sender) live)
+      (subst (λ (y : Interval). HasHeard t g 3 1 (upto 10) (y .owner)) (sym sender) (has-heard t g (take 10 woven) (shown 10) 2 (woven-told .then-heard)))
+
+  -- Message 4, to a controller, was held: the degree of its sender was below 3.
+  pub optimism-n : h 9 .degree (h 9 .sending 4 .owner) < 3
+  optimism-n =
+      T.optimism-n t g 3 1 (upto 9) (shown 9 .from) 4 4 6 (answer-in t g (take 10 woven) (shown 10) (take 9 woven) (line (Release 4) (Held 4 6)) [] refl)
+      (says 9 (λ h. h .receiver 4 ≢ desk) (subst (λ c. c ≢ desk) (sym (woven-told .then-to)) (λ e. omega arith)))
+
+  -- A MESSAGE IS LET OUT UNDER THE DEGREE 0
+  sure : Shown t g unrevoked
+  unfolding allLook
+  sure = record { from = from-opening t g long wide unrevoked refl; answers = run-answered t g long wide unrevoked unrevoked-run }
+
+  -- It is never revoked.
+  pub optimism-0 : let e = end t g 3 1 (callsOf unrevoked) in Orphan e (e .sending 1) → ⊥
+  optimism-0 =
+      T.optimism-0 t g 3 1 (callsOf unrevoked) (sure .from) (callsOf (take 2 unrevoked)) [] 1 1 0 refl
+      (answer-in t g unrevoked sure (take 2 unrevoked) (line (Release 1) (Released 1 0)) [] refl)
+      (told t g (take 2 unrevoked) (shown-to t g unrevoked sure 2) (λ h. h .degree (h .sending 1 .owner) ≡ 0) (unrevoked-told .degree))

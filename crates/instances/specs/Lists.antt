@@ -5,19 +5,19 @@ use mathlib.Core.List.{List, [], _∷_, _++_}
 use Prim.Native.Nat.{ℕ, zero, suc}
 use lib.ListN.{take, set}
 use Rattle.base.specs.Lists.{tab}
-use Rattle.table.specs.Field.{State, OfMessage, OfPlace, SentCount, LiveCount, StableCount, MessageState, Known, End, Flag, desk, messageHead}
+use Rattle.table.specs.Field.{State, OfMessage, OfPlace, SentCount, Degree, LiveCount, StableCount, MessageState, Known, End, Flag, desk, messageHead}
 use Rattle.table.specs.Layout.{controllers, incarnations}
 use Rattle.rules.specs.Limits.{house}
 use Rattle.rules.specs.Vector.{Vector, pair, noPair, flat}
 use Rattle.rules.specs.Form.{stateHeld, stateReleased, stateDelivered, stateDropped}
 use Rattle.rules.specs.Ledger.{blankLedger}
 use Rattle.rules.specs.Shared.{placeRecord}
-use Rattle.rules.specs.Steps.{openHouse, messageRecord, stepCheckpoint, toldRow, told, stepTell}
+use Rattle.rules.specs.Steps.{openHouse, messageRecord, stepDegree, stepCheckpoint, toldRow, told, stepTell}
 use Rattle.rules.specs.Step.{Call}
 use Rattle.rules.specs.declared.Answer.{Answer}
 use Rattle.rules.specs.declared.Answer.the-variants.{Done, Sent, Released, Held, Delivered, Dropped, Waits, Crashed, Heard}
 use Rattle.rules.specs.declared.Command.{Command}
-use Rattle.rules.specs.declared.Command.the-variants.{Send, Release, Deliver, Log, Checkpoint, Tell, Crash, Hear}
+use Rattle.rules.specs.declared.Command.the-variants.{SetDegree, Send, Release, Deliver, Log, Checkpoint, Tell, Crash, Hear}
 use Rattle.listing.specs.Quiet as Q
 use Rattle.listing.specs.Quiet.{steps, quiet-put, quiet-part, quiet-removed, blank-ok, goes, further}
 use Rattle.history.specs.Examples.{ListingLine, line}
@@ -109,6 +109,10 @@ waiting =
 -- It could be before the hearing.
 abbrev pub deliveredSooner : List ListingLine
 deliveredSooner = take 16 waiting ++ line (Deliver 2) (Delivered 2 0 3) ∷ []
+
+-- A message is let out under the degree 0.
+abbrev pub unrevoked : List ListingLine
+unrevoked = line (SetDegree 0 0) Done ∷ line (Send 0 1 7) (Sent 1) ∷ line (Release 1) (Released 1 0) ∷ []
 
 -- the calls of a list
 abbrev pub callsOf : List ListingLine → List Call
@@ -218,3 +222,11 @@ delivered-sooner-run =
     branch waiting-run 16
     (Q.next (λ q. quiet-put (MessageState 1) stateDelivered refl (quiet-put (LiveCount 2) 3 refl (quiet-part (OfPlace 2 2 0) 0 (placeRecord 0 3 2 0 (set none 2 (pair 0 3))) (λ _. refl) q))) refl refl  -- D 2
     Q.end)
+
+pub unrevoked-run : Computed unrevoked
+unfolding steps goes stepDegree
+unrevoked-run =
+    Q.next (λ q. quiet-put (Degree 0) 0 refl q) refl refl  -- K 0 0
+    (Q.next (λ q. quiet-put SentCount 1 refl (quiet-part (OfMessage 0 0) 0 (messageRecord stateHeld 0 1 0 1 7 none) (λ _. refl) q)) refl refl  -- S 0 1 7
+    (goes (λ q. quiet-put (MessageState 0) stateReleased refl (quiet-part (OfMessage 0 0) messageHead (flat none) (λ _. refl) q)) refl blank-ok refl  -- R 1
+    Q.end))

@@ -6,13 +6,13 @@ use Prim.Native.Nat.{ℕ}
 use lib.ListN.{take}
 use Rattle.base.specs.Choice.{_==_}
 use Rattle.rules.specs.Report.{report}
-use Rattle.history.specs.History.{Interval, interval, History, sameInterval, changedAt, changedAtInterval, newest, member, those, oldest, sentFrom, joined, leaving, stabilized, hearing, losing, flagging, opening, logging, checkpointing, latestOn, forcedAt, capping, beginning, delivering, restarting, crashing, rollingBack, answers, valueAt, fedStep, fed}
+use Rattle.history.specs.History.{Interval, interval, History, sameInterval, changedAt, changedAtInterval, newest, member, those, oldest, degreeSet, sentFrom, joined, leaving, stabilized, hearing, losing, flagging, opening, logging, checkpointing, latestOn, forcedAt, capping, beginning, delivering, restarting, crashing, rollingBack, answers, valueAt, fedStep, fed}
 use Rattle.history.specs.Citations.{noCitations, sentWith, letOutTo, citedStep, cited}
 use Rattle.history.specs.Progress.{Orphan}
 use Rattle.history.specs.Examples.{all, allCited}
 use Rattle.model.specs.Tests.{sameInterval-true}
 use Rattle.testers.specs.Sample.{sample}
-use Rattle.instances.specs.Lists.{woven, unheard, loss, waiting}
+use Rattle.instances.specs.Lists.{woven, unrevoked, unheard, loss, waiting}
 use Rattle.instances.specs.Shown.{judged, passes, holding, hears, allStable, none-lost, historyOf}
 
 -- the history after the first j lines of each
@@ -104,6 +104,13 @@ pub record Woven : Type 0 where
   pub begun-2 : wovenTo 10 .begun (interval 2 0 2) ≡ true
   pub live-then : member (interval 2 0 2) (wovenTo 10 .chain 2) ≡ true
   pub then-lost : (y : Interval) (i : ℕ) → wovenTo 10 .lost y i ≡ false
+  -- message 3 was sent from there, and not let out; there is no crash yet
+  pub then-from : wovenTo 10 .sending 3 ≡ interval 2 0 2
+  pub then-inside : passes (holding 3) (take 10 woven) ≡ true
+  pub then-heard : passes (hears (wovenTo 10) 2) (take 10 woven) ≡ true
+  -- message 4 is for controller 0, and its sender has the degree 1
+  pub then-to : wovenTo 9 .receiver 4 ≡ 0
+  pub then-degree : wovenTo 9 .degree (wovenTo 9 .sending 4 .owner) ≡ 1
   -- message 3 was sent from there
   pub first-then : wovenTo 7 .sending 3 ≡ interval 2 0 2
   pub first-lost : (y : Interval) (i : ℕ) → wovenTo 7 .lost y i ≡ false
@@ -141,11 +148,24 @@ woven-told =
       begun-2 = refl;
       live-then = refl;
       then-lost = λ y i. refl;
+      then-from = refl;
+      then-inside = refl;
+      then-heard = refl;
+      then-to = refl;
+      then-degree = refl;
       first-then = refl;
       first-lost = λ y i. refl;
       told-live = refl;
       told-stable = refl;
     }
+
+-- A message is let out under the degree 0.
+pub record Unrevoked : Type 0 where
+  pub degree : (let h = historyOf (take 2 unrevoked) in h .degree (h .sending 1 .owner)) ≡ 0
+
+pub unrevoked-told : Unrevoked
+unfolding degreeSet judged passes allStable all allCited cited citedStep sentWith letOutTo fed fedStep answers report valueAt sameInterval changedAt changedAtInterval newest member those oldest sentFrom joined leaving stabilized hearing losing flagging opening logging checkpointing latestOn forcedAt capping beginning delivering restarting crashing rollingBack
+unrevoked-told = record { degree = refl }
 
 -- A message rests on lost work, and its sender has not heard.
 pub record Unheard : Type 0 where

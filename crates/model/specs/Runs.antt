@@ -66,13 +66,13 @@ no-opening-before r l l′ unopened before after size degree e =
     unopened before (after ++ l′) size degree (ap (λ z. z ++ l′) e ∙ append-assoc before (asks (Open size degree) ∷ after) l′)
 
 -- nor in its second part
-no-opening-after : (r : Run) (l l′ : List Call) → NoOpening r (l ++ l′) → NoOpening (runs r l) l′
+pub no-opening-after : (r : Run) (l l′ : List Call) → NoOpening r (l ++ l′) → NoOpening (runs r l) l′
 no-opening-after r l l′ unopened before after size degree e =
     subst (λ q. stepIn q (Open size degree) .answer ≢ Done) (runs-append r l before)
     (unopened (l ++ before) after size degree (ap (λ z. l ++ z) e ∙ sym (append-assoc l before (asks (Open size degree) ∷ after))))
 
 -- nor is its first call
-not-done : (r : Run) (x : Call) (l : List Call) → NoOpening r (x ∷ l) → NotDone r x
+pub not-done : (r : Run) (x : Call) (l : List Call) → NoOpening r (x ∷ l) → NotDone r x
 unfolding runs stepCall
 not-done r x l unopened size degree e = subst (λ y. callIn r y .answer ≢ Done) (sym e) (unopened [] l size degree (ap (λ y. y ∷ l) e))
 

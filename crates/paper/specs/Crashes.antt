@@ -35,7 +35,7 @@ use Rattle.laws.specs.Facts.{form, controllerForm}
 use Rattle.progress.specs.Hears.{Hears, hear-answers}
 
 -- a new start marks none as heard
-restarted-heard : (h : History) (c : ℕ) → restarting h c .heard ≡ h .heard
+pub restarted-heard : (h : History) (c : ℕ) → restarting h c .heard ≡ h .heard
 unfolding restarting beginning joined
 restarted-heard h c = capped-heard _ c
 

@@ -6,5 +6,7 @@ pub mod Spreading
 pub mod Named
 pub mod Interleaved
 pub mod Whenever
+pub mod Eventually
+pub mod Extremes
 pub mod Fates
 pub mod Theorems

@@ -1,25 +1,23 @@
 -- What is known only grows along a list, and the vector of a message only loses pairs: so a pair that filtering for b empties is emptied ever
 -- after.
 use mathlib.Core.Path.{_≡_, refl, sym, _∙_, ap, subst}
-use mathlib.Core.List.{List, [], _∷_, _++_, append-assoc}
+use mathlib.Core.List.{List, [], _∷_, _++_}
 use mathlib.Core.Logic.{_≢_, _⊎_, inl, inr, ⊎-elim}
 use Prim.Native.Nat.{ℕ, _+_, _≤_, _<_}
 use native.Mathlib.Omega.{arith}
 use borrow.Author.Tests.{ltb-true}
 use Rattle.base.specs.Choice.{_<?_, cond-ind, le?}
-use Rattle.rules.specs.Step.{Call, asks, stepCall}
+use Rattle.rules.specs.Step.{Call}
 use Rattle.rules.specs.declared.Answer.{Answer}
-use Rattle.rules.specs.declared.Answer.the-variants.{Done}
-use Rattle.rules.specs.declared.Command.the-variants.{Open}
 use Rattle.history.specs.History.{interval, History}
-use Rattle.history.specs.Demand.{Run, callIn, stepIn, next, runs, FromOpening, upTo}
+use Rattle.history.specs.Demand.{Run, next, runs, FromOpening, upTo}
 use Rattle.model.specs.Model.{pair, Vec, Controller, Message, Model, putController, putMessage, degreeController, logController, loggedController, flagController, checkpointController, forcedModel, capModel, gapModel, tellController, endController, noteController, beginController, anewController, sendMessage, releasedVec, releaseMessage}
 use Rattle.model.specs.Tests.{Is, changedAt-ind, changedAt-other, changedAt₂-ind, changedAt₂-same, changedAt₂-other}
 use Rattle.model.specs.Invariant.{ControllerOk, Inv}
 use Rattle.model.specs.Vectors.{filtered-ind}
 use Rattle.model.specs.Keeping.{putController-twice}
 use Rattle.model.specs.Recovery.{hears-other, notedController}
-use Rattle.model.specs.Runs.{NoDoneOpening, NotDone, NoOpening, runs-append, first-part}
+use Rattle.model.specs.Runs.{NoDoneOpening, NotDone, NoOpening, runs-append, no-opening-after, not-done, first-part}
 use Rattle.image.specs.Outcome as O
 use Rattle.image.specs.Outcome.{Outcome}
 use Rattle.demand.specs.Demanded.{table-inv, table-outcome}
@@ -208,11 +206,6 @@ grown {μ = μ} (O.rolled b a i j undone w y) o v =
 grown {μ = μ} (O.gap-set q h) o v = record { known-le = λ b. grows-self (μ .controller b); sent-le = omega arith; pair-kept = λ m l a. inl refl }
 
 -- RUNS
--- the first call of a list in which no opening is done
-first-not-done : (r : Run) (x : Call) (l : List Call) → NoOpening r (x ∷ l) → NotDone r x
-unfolding runs stepCall
-first-not-done r x l unopened size degree e = subst (λ y. callIn r y .answer ≢ Done) (sym e) (unopened [] l size degree (ap (λ y. y ∷ l) e))
-
 -- one call
 pub grown-next : {n : ℕ} {r : Run} → Ready n r → (x : Call) → NotDone r x → Grown (modelIn r) (modelIn (next x r))
 unfolding next
@@ -223,7 +216,7 @@ grown-runs : (l : List Call) {n : ℕ} {r : Run} → Ready n r → NoOpening r l
 unfolding runs
 grown-runs [] {r = r} s unopened = grown-self (modelIn r)
 grown-runs (x ∷ l) {r = r} s unopened =
-    let one = first-not-done r x l unopened in
+    let one = not-done r x l unopened in
     grown-trans (grown-next s x one) (grown-runs l (ready-next x s one) (λ before after size degree e. unopened (x ∷ before) after size degree (ap (λ z. x ∷ z) e)))
 
 module _ (t g : List ℕ) (n k : ℕ) (l : List Call) (O : FromOpening t g n k l) (before rest : List Call) (e : l ≡ before ++ rest) where
@@ -237,9 +230,7 @@ module _ (t g : List ℕ) (n k : ℕ) (l : List Call) (O : FromOpening t g n k l
 
   -- no opening is done from there on
   unopened : NoOpening (upTo t g n k before) rest
-  unopened b a size degree d =
-      subst (λ q. stepIn q (Open size degree) .answer ≢ Done) (runs-append _ before b)
-      (O .no-opening (before ++ b) a size degree (e ∙ ap (λ z. before ++ z) d ∙ sym (append-assoc before b (asks (Open size degree) ∷ a))))
+  unopened = no-opening-after _ before rest (subst (NoOpening _) e (O .no-opening))
 
   -- the end of the list is where its rest leads from there
   end-is : runs (upTo t g n k before) rest ≡ upTo t g n k l
@@ -257,5 +248,5 @@ grown-after t g n k l O before x after e =
     let r = upTo t g n k before in
     let none = unopened t g n k l O before (x ∷ after) e in
     subst (λ q. Grown (modelIn (next x r)) (modelIn q)) (end-is t g n k l O before (x ∷ after) e)
-    (grown-runs after (ready-next x (ready-at t g n k l O before (x ∷ after) e) (first-not-done r x after none))
+    (grown-runs after (ready-next x (ready-at t g n k l O before (x ∷ after) e) (not-done r x after none))
     (λ b a size degree d. none (x ∷ b) a size degree (ap (λ z. x ∷ z) d)))

@@ -11,12 +11,12 @@ use Rattle.table.specs.Field.{desk}
 use Rattle.table.specs.Layout.{controllers}
 use Rattle.rules.specs.Step.{Call, asks}
 use Rattle.rules.specs.declared.Answer.{Answer}
-use Rattle.rules.specs.declared.Answer.the-variants.{Done, Released, Dropped}
-use Rattle.rules.specs.declared.Command.the-variants.{Release, Deliver, Checkpoint, Tell}
+use Rattle.rules.specs.declared.Answer.the-variants.{Done, Released, Held, Dropped}
+use Rattle.rules.specs.declared.Command.the-variants.{Release, Deliver, Checkpoint, Tell, Hear}
 use Rattle.history.specs.History.{Interval, interval, History, member}
-use Rattle.history.specs.Demand.{stepIn, next, RestsOnLost, named, FromOpening, upTo, end}
-use Rattle.history.specs.Progress.{Orphan, SentIn, HeldIn, LetOutIn, NotLetOut, HasHeard, CanHear, Deliverable}
-use Rattle.history.specs.Asked.{Asked, AllAsked, AllCleared, Names, Unlearned, GoesOut, GoesOutWithin, NotHeld, Begins, Arrives, Fate}
+use Rattle.history.specs.Demand.{stepIn, next, Accepted, RestsOnLost, named, FromOpening, upTo, end}
+use Rattle.history.specs.Progress.{Orphan, SentIn, SendingLive, HeldIn, LetOutIn, NotLetOut, HasHeard, CanHear, Deliverable}
+use Rattle.history.specs.Asked.{Asked, AllAsked, AllCleared, Names, Unlearned, GoesOut, GoesOutWithin, NotHeld, Begins, Arrives, Eventually, Fate}
 use Rattle.model.specs.Model.{intervalOf, Model, full}
 use Rattle.model.specs.Tests.{contrary, passes, fails}
 use Rattle.model.specs.Invariant.{Inv, Covers}
@@ -35,7 +35,9 @@ use Rattle.paper.specs.Ready.{modelIn, ready}
 use Rattle.paper.specs.Crashes.{can-hear, live-sure}
 use Rattle.paper.specs.Interleaved.{telling-knows}
 use Rattle.paper.specs.Whenever.{checkpoint-is-done, tell-is-done, mask-asked, useful-goes, mask-all-but-K, masks-shrink, named-with-cause, dropped-exactly, useful-arrives, mask-arrives}
+use Rattle.paper.specs.Eventually.{brought-out, brought-in}
 use Rattle.paper.specs.Fates.{fate}
+use Rattle.paper.specs.Extremes.{never-revoked, never-held, heard-once}
 
 module _ (t g : List ℕ) (n k : ℕ) (l : List Call) (O : FromOpening t g n k l) where
   -- the history at the end of the list, and the known words and vectors of the table there
@@ -145,6 +147,12 @@ module _ (t g : List ℕ) (n k : ℕ) (l : List Call) (O : FromOpening t g n k l
   pub theorem-A-2-useful : (m : ℕ) → SentIn t g n k l m → NotLetOut t g n k l m → (Orphan h (h .sending m) → ⊥) → AllCleared t g n k l m (h .sending m .owner) → GoesOut t g n k l m
   theorem-A-2-useful = useful-goes t g n k l O
 
+  -- "Eventually sent": let no release have let m out, its sending interval be live and its sender have heard every crash. From there some more
+  -- checkpoints and tellings, each of which is done, bring it out.
+  pub theorem-A-2-eventually : (m : ℕ) → SentIn t g n k l m → NotLetOut t g n k l m → SendingLive t g n k l m → HasHeard t g n k l (h .sending m .owner) →
+      Eventually t g n k l (λ l. GoesOut t g n k l m)
+  theorem-A-2-eventually = brought-out t g n k l O
+
   -- By the mask, whatever stands between: let a release of m in the list have been held, and each controller that it names have been asked. Where
   -- the sender has heard every crash, the release of m at the end answers `released m 0` (or 18), unless it is refused with 7.
   pub theorem-A-2-mask : (m mask : ℕ) → HeldIn t g n k l m mask → AllAsked t g n k l m mask (h .sending m .owner) → HasHeard t g n k l (h .sending m .owner) →
@@ -177,6 +185,10 @@ module _ (t g : List ℕ) (n k : ℕ) (l : List Call) (O : FromOpening t g n k l
   pub theorem-A-2-useful-delivery : (m : ℕ) → Deliverable t g n k l m → AllCleared t g n k l m (h .receiver m) → (Orphan h (h .sending m) → ⊥) → Begins t g n k l m
   theorem-A-2-useful-delivery = useful-arrives t g n k l O
 
+  -- From wherever one stands it arrives after some more checkpoints and tellings, each of which is done, where its receiver has heard every crash.
+  pub theorem-A-2-eventually-delivery : (m : ℕ) → Deliverable t g n k l m → HasHeard t g n k l (h .receiver m) → Eventually t g n k l (λ l. Arrives t g n k l m)
+  theorem-A-2-eventually-delivery = brought-in t g n k l O
+
   -- What is asked for can always be done: a checkpoint, a telling,
   pub theorem-A-2-done : (c : ℕ) → c < n → (stepIn (upTo t g n k l) (Checkpoint c) .answer ≡ Done) × ((b : ℕ) → b < n → c ≢ b → stepIn (upTo t g n k l) (Tell c b) .answer ≡ Done)
   theorem-A-2-done c below = (checkpoint-is-done t g n k l O c below, λ b near. tell-is-done t g n k l O c b below near)
@@ -197,3 +209,19 @@ module _ (t g : List ℕ) (n k : ℕ) (l : List Call) (O : FromOpening t g n k l
     λ y crash rests lost. demand-3 t g n k l O .releases before after m echoed mask e released y crash rests
         (lost-unstable t g n k l O before (asks (Release m) ∷ after) e y crash lost) lost,
   )
+
+  -- Section 1. "Pessimistic logging corresponds to 0-optimistic logging because messages can never be revoked by any process failures": what was
+  -- let out under the degree 0 is no orphan.
+  pub optimism-0 : (before after : List Call) (m echoed mask : ℕ) → l ≡ before ++ asks (Release m) ∷ after → stepIn (upTo t g n k before) (Release m) .answer ≡ Released echoed mask →
+      (let then = upTo t g n k before .history in then .degree (then .sending m .owner) ≡ 0) → Orphan h (h .sending m) → ⊥
+  optimism-0 = never-revoked t g n k l O
+
+  -- "Traditional optimistic logging corresponds to n-optimistic logging": where a message to a controller is held, the degree is below n.
+  pub optimism-n : (m echoed mask : ℕ) → stepIn (upTo t g n k l) (Release m) .answer ≡ Held echoed mask → h .receiver m ≢ desk → h .degree (h .sending m .owner) < n
+  optimism-n = never-held t g n k l O
+
+  -- Table 1. "Number of rollbacks per failure": 1. Of two hearings of one crash by one controller only the first is accepted.
+  pub one-rollback-a-failure : (before between after : List Call) (b a i : ℕ) → let x = Hear b a i in
+      l ≡ before ++ asks x ∷ (between ++ asks x ∷ after) → Accepted (stepIn (upTo t g n k before) x .answer) →
+      Accepted (stepIn (upTo t g n k (before ++ asks x ∷ between)) x .answer) → ⊥
+  one-rollback-a-failure = heard-once t g n k l O

@@ -232,8 +232,8 @@ module _ (t g : List ℕ) (n k : ℕ) (l : List Call) (O : FromOpening t g n k l
     receiver-is = sym (to-is (state u) m here) ∙ sym (there-ok u v m here .receiver-is)
 
     -- to a controller of the house
-    below : c < n
-    below = omega (arith, receiver-is, s .holds .reads .size-is, receiver-below u (r .ledger) (s .sound) m here (is-released .1))
+    pub receiver-in : c < n
+    receiver-in = omega (arith, receiver-is, s .holds .reads .size-is, receiver-below u (r .ledger) (s .sound) m here (is-released .1))
 
     -- its vector is condemned to its receiver, which the delivery sees by the words
     abbrev Doomed : Type 0
@@ -244,7 +244,7 @@ module _ (t g : List ℕ) (n k : ℕ) (l : List Call) (O : FromOpening t g n k l
 
     -- just where its sending interval rests on one lost in a crash that the receiver has heard
     judged : Doomed ↔ RestsOnLost h h c (h .sending m)
-    judged = theorem-3-message v m c (present-pos _ m here) (present-sent _ m here) below
+    judged = theorem-3-message v m c (present-pos _ m here) (present-sent _ m here) receiver-in
 
     -- so it is dropped there, and only there
     pub dropped-exactly : (stepIn r (Deliver m) .answer ≡ Dropped m) ↔ RestsOnLost h h c (h .sending m)
@@ -258,13 +258,13 @@ module _ (t g : List ℕ) (n k : ℕ) (l : List Call) (O : FromOpening t g n k l
     σ = state u
 
     near : c < controllers
-    near = omega (arith, below, opening-done t g n k (O .done) .size-le)
+    near = omega (arith, receiver-in, opening-done t g n k (O .done) .size-le)
 
     incarnation-now : σ (Incarnation c) ≡ h .incarnation c
-    incarnation-now = sym (incarnation-is σ c near) ∙ sym (v .controller-ok c below .shape .incarnation-is)
+    incarnation-now = sym (incarnation-is σ c near) ∙ sym (v .controller-ok c receiver-in .shape .incarnation-is)
 
     number-now : numberOf σ c (σ (LiveCount c)) ≡ newest (h .chain c) .number
-    number-now = sym (live-is σ c near) ∙ sym (ap (λ (y : Interval). y .number) (newest-is (v .controller-ok c below .shape)))
+    number-now = sym (live-is σ c near) ∙ sym (ap (λ (y : Interval). y .number) (newest-is (v .controller-ok c receiver-in .shape)))
 
     begins : let b = receiverIn u m in
         Delivered m (σ (Incarnation b)) (numberOf σ b (σ (LiveCount b)) + 1) ≡ Delivered m (h .incarnation c) (newest (h .chain c) .number + 1)
@@ -282,7 +282,7 @@ module _ (t g : List ℕ) (n k : ℕ) (l : List Call) (O : FromOpening t g n k l
     useful-arrives all sure =
         ⊎-elim (λ e. inl (e ∙ begins)) (λ e. inr (e .0, no-place (e .1)))
         (delivery-goes u (r .ledger) (s .sound) m here (is-released .1) (λ z. sure (loss-orphan (judged .0 (subst (λ X. X) doomed-is z))))
-        (subst (λ b. (a : ℕ) → full (filtered (μ .controller b) (μ .message m .vec) a) ≡ false) (sym receiver-is) (all-emptied t g n k l O m here sure c below all)))
+        (subst (λ b. (a : ℕ) → full (filtered (μ .controller b) (μ .message m .vec) a) ≡ false) (sym receiver-is) (all-emptied t g n k l O m here sure c receiver-in all)))
 
     -- Where its receiver has heard every crash besides, it is dropped just where its sending interval is an orphan.
     pub cleared-arrives : AllCleared t g n k l m c → HasHeard t g n k l c → Arrives t g n k l m

@@ -200,6 +200,20 @@ module _ (L : Limits) (σ : State) (g : List ℕ) (good : inForm L σ ≡ true) 
               (λ _. cond-ind P (L .places ≤? σ (LiveCount c)) (λ _ q. absurd (let z : _≡_ {A = ℕ} 0 1 = cc in omega arith))
               (λ _ q. absurd (let z : _≡_ {A = ℕ} 0 1 = cc in omega arith))))
 
+      -- a released message is refused neither as unknown nor for its state
+      released-taken : (stepOn L σ g (Deliver m) .answer ≢ Refused MESSAGE) × (stepOn L σ g (Deliver m) .answer ≢ Refused STATE)
+      unfolding deliver intervalBegins
+      released-taken = (taken MESSAGE (λ z. omega arith), taken STATE (λ z. omega arith))
+        where
+          taken : (n : ℕ) → n ≢ PLACES-USED-UP → stepOn L σ g (Deliver m) .answer ≢ Refused n
+          taken n ne =
+              let P : After → Type 0 = λ o. o .answer ≢ Refused n in
+              subst (λ a. a ≢ Refused n) (sym delivered)
+              (cond-ind P (condemned σ c (messageVector σ r)) (λ _ q. absurd (let z : _≡_ {A = ℕ} 0 1 = cc in omega arith))
+              (λ _. cond-ind P (conflict c _ _) (λ _ q. absurd (let z : _≡_ {A = ℕ} 0 1 = cc in omega arith))
+              (λ _. cond-ind P (L .places ≤? σ (LiveCount c)) (λ _ q. ne (let z : n ≡ PLACES-USED-UP = cc in z))
+              (λ _ q. absurd (let z : _≡_ {A = ℕ} 0 1 = cc in omega arith)))))
+
       -- the answer of a delivery, or the refusal where the receiver's places are used up
       abbrev Goes : Answer → Type 0
       Goes a =
@@ -268,6 +282,12 @@ module _ (t g : List ℕ) (s : Sound t g) where
       -- its receiver is a controller
       pub receiver-below : receiverIn t m < sizeOf t
       receiver-below = released-lt (form house (state t) good) (recordIn t m) l e
+
+      -- D refuses it neither as unknown nor for its state
+      pub released-deliverable : (step t g (Deliver m) .answer ≢ Refused MESSAGE) × (step t g (Deliver m) .answer ≢ Refused STATE)
+      released-deliverable =
+          let (there, released) = released-taken house (state t) g good m l e in
+          (λ z. there (sym (same-answer (Deliver m)) ∙ z), λ z. released (sym (same-answer (Deliver m)) ∙ z))
 
       -- D drops it where its vector is condemned to the receiver
       pub delivery-drops : Condemned (sizeOf t) (modelOf t .controller (receiverIn t m)) (modelOf t .message m .vec) →

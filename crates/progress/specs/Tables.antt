@@ -1,6 +1,6 @@
 -- The same of tables of words: what a step on a lent table leaves are the words of what it leaves on the state.
 use mathlib.Core.Path.{_≡_, refl, sym, ap, _∙_, subst}
-use mathlib.Core.Bool.{not}
+use mathlib.Core.Bool.{not, cond}
 use mathlib.Core.List.{List}
 use mathlib.Core.Logic.{_≢_, _⊎_, inl, inr, ⊎-elim}
 use Prim.Native.Nat.{ℕ, _≤_, _<_}
@@ -8,20 +8,23 @@ use native.Mathlib.Omega.{arith}
 use lib.ListN.{length}
 use borrow.Author.Tests.{eq-eqb, ltb-true}
 use Rattle.base.specs.Choice.{_==_, _<?_, cond-ind, and-right}
-use Rattle.base.specs.Cases.{firstOf}
-use Rattle.table.specs.Field.{State, OfMessage, Size, Incarnation, LiveCount, Cause, MessageState, Sender, SendingNumber, word, messageHead}
+use Rattle.base.specs.Cases.{Case, firstOf}
+use Rattle.table.specs.Field.{State, OfMessage, Size, Incarnation, LiveCount, StableCount, Cause, MessageState, Sender, SendingNumber, word, same, messageHead}
 use Rattle.table.specs.Layout.{controllers, tableWords}
+use Rattle.table.specs.Change.{put, putPart}
 use Rattle.table.specs.Words.{state, Agree, agree-words}
 use Rattle.table.specs.Numbering.{numberOf, used, recordOf, nextMessage, posted, none-used, posted-used, posted-new, posted-at, number-same, used-agree, record-agree, message-agree}
 use Rattle.rules.specs.Limits.{Limits, house}
 use Rattle.rules.specs.Vector.{Vector}
+use Rattle.rules.specs.Refusal.{FORM}
 use Rattle.rules.specs.Form.{stateHeld, inForm}
-use Rattle.rules.specs.Steps.{After, AfterBoth, refusing, openHouse, messageRecord, sent, sendRefusals, stepSend}
+use Rattle.rules.specs.Shared.{logged, loggedTo, checkpointed}
+use Rattle.rules.specs.Steps.{After, after, AfterBoth, beside, refuse, refusing, openHouse, messageRecord, sent, sendRefusals, stepSend, checkpointRefusals, stepCheckpoint, told, tellRefusals, stepTell}
 use Rattle.rules.specs.Step.{perform, stepOn, writtenBoth, lent, step}
 use Rattle.rules.specs.declared.Answer.{Answer}
 use Rattle.rules.specs.declared.Answer.the-variants.{Done, Sent, Refused}
 use Rattle.rules.specs.declared.Command.{Command}
-use Rattle.rules.specs.declared.Command.the-variants.{Open, Send}
+use Rattle.rules.specs.declared.Command.the-variants.{Open, Send, Checkpoint, Tell}
 use Rattle.laws.specs.Facts.{Form, form, below-8, controllerForm, messageForm}
 use Rattle.laws.specs.Records.{length-message-record}
 use Rattle.laws.specs.Answering.{Lent}
@@ -127,6 +130,27 @@ pub there-step : (t g : List ℕ) (x : Command) → Lent t → ((n k : ℕ) → 
 there-step t g x h ne =
     stays-agree _ _ (left-agree t g x h) (left-form t g x h) (state t) (stays-step house (state t) g x (λ n k e d. ne n k e (answer-is t g x h ∙ d)))
 
+-- C and T write no state of a message
+module _ (L : Limits) (σ : State) (g : List ℕ) (r : ℕ) where
+  abbrev Kept : AfterBoth → Type 0
+  Kept o = o .left (MessageState r) ≡ σ (MessageState r)
+
+  kept-looked : (cases : List Case) (o : After) → o .left (MessageState r) ≡ σ (MessageState r) →
+      Kept (cond (not (inForm L σ)) (beside (refuse FORM σ) g) (beside (refusing cases σ o) g))
+  unfolding refusing
+  kept-looked cases o h =
+      cond-ind Kept (not (inForm L σ)) (λ _. refl) (λ _. cond-ind (λ (o : After). o .left (MessageState r) ≡ σ (MessageState r)) (firstOf cases == 0) (λ _. h) (λ _. refl))
+
+  pub checkpoint-leaves : (c : ℕ) → Kept (stepOn L σ g (Checkpoint c))
+  unfolding stepOn perform stepCheckpoint checkpointed loggedTo logged put same
+  checkpoint-leaves c =
+      kept-looked (checkpointRefusals σ c) (after Done (checkpointed σ c))
+      (cond-ind (λ (τ : State). τ (MessageState r) ≡ σ (MessageState r)) (σ (StableCount c) <? σ (LiveCount c)) (λ _. refl) (λ _. refl))
+
+  pub tell-leaves : (teller told : ℕ) → Kept (stepOn L σ g (Tell teller told))
+  unfolding stepOn perform stepTell told putPart
+  tell-leaves teller hearer = kept-looked (tellRefusals σ teller hearer) (after Done (told σ teller hearer)) refl
+
 -- and message m among them, which is in record r
 module _ (t g : List ℕ) (x : Command) (h : Lent t) (ne : (n k : ℕ) → x ≡ Open n k → step t g x .answer ≢ Done) (m : ℕ)
     (l : recordOf (state t) m < used (state t)) where
@@ -153,6 +177,10 @@ module _ (t g : List ℕ) (x : Command) (h : Lent t) (ne : (n k : ℕ) → x ≡
   -- and its state is that which is left
   state-left : then (MessageState r) ≡ ρ (MessageState r)
   state-left = left-agree t g x h (MessageState r) (omega (arith, still, left-form t g x h .used-le), omega arith)
+
+  -- so a step that leaves the word leaves its state
+  pub state-same : stepOn house σ g x .left (MessageState r) ≡ σ (MessageState r) → then (MessageState (recordOf then m)) ≡ σ (MessageState r)
+  state-same e = ap (λ i. then (MessageState i)) same-record ∙ state-left ∙ e
 
   -- its sender is a controller
   sender : σ (Sender r) < controllers
