@@ -32,12 +32,12 @@ use Rattle.image.specs.Mask.{count}
 use Rattle.image.specs.Reads.{present-sent}
 use Rattle.image.specs.Tables.{modelOf}
 use Rattle.testers.specs.Refused.{answers-differ}
-use Rattle.testers.specs.Sample.{sample, allLook, from-opening, run-answered, sample-from-opening, sample-answers}
+use Rattle.testers.specs.Sample.{sample, allLook, from-opening, sample-from-opening, sample-answers}
 use Rattle.demand.specs.Demanded.{table-inv}
 use Rattle.paper.specs.Ready.{ready, sent-there}
 use Rattle.paper.specs.Theorems as T
 use Rattle.instances.specs.Lists.{unheard, loss, waiting, deliveredSooner, callsOf, unheard-run, loss-run, waiting-run, delivered-sooner-run}
-use Rattle.instances.specs.Shown.{three, Shown, shown-to, told, no-orphan, not-let-out, has-heard, answer-in, deliverable-by, crash-by, sent-by, release-by, own-asked-by, asked-by}
+use Rattle.instances.specs.Shown.{three, Shown, shown, shown-to, told, no-orphan, not-let-out, has-heard, answer-in, deliverable-by, crash-by, sent-by, release-by, own-asked-by, asked-by}
 use Rattle.instances.specs.Told.{sampleTo, unheardTo, lossTo, waitingTo, sample-told, unheard-told, loss-told, waiting-told}
 
 module _ (t g : List ℕ) (long : length t ≡ tableWords) (wide : length g ≡ ledgerWords house) where
@@ -106,7 +106,7 @@ module _ (t g : List ℕ) (long : length t ≡ tableWords) (wide : length g ≡ 
   -- A MESSAGE RESTS ON LOST WORK, AND ITS SENDER HAS NOT HEARD
   unheard-shown : Shown t g unheard
   unfolding allLook
-  unheard-shown = record { from = from-opening t g long wide unheard refl; answers = run-answered t g long wide unheard unheard-run }
+  unheard-shown = shown t g long wide unheard refl unheard-run
 
   unheard-13 : Shown t g (take 13 unheard)
   unheard-13 = shown-to t g unheard unheard-shown 13
@@ -193,7 +193,7 @@ module _ (t g : List ℕ) (long : length t ≡ tableWords) (wide : length g ≡ 
   -- ONE OF TWO RELEASED MESSAGES COMES FROM A LOST INTERVAL
   loss-shown : Shown t g loss
   unfolding allLook
-  loss-shown = record { from = from-opening t g long wide loss refl; answers = run-answered t g long wide loss loss-run }
+  loss-shown = shown t g long wide loss refl loss-run
 
   loss-12 : Shown t g (take 12 loss)
   loss-12 = shown-to t g loss loss-shown 12
@@ -304,7 +304,7 @@ module _ (t g : List ℕ) (long : length t ≡ tableWords) (wide : length g ≡ 
   -- A MESSAGE WAITS, AND IS DELIVERED
   waited : Shown t g waiting
   unfolding allLook
-  waited = record { from = from-opening t g long wide waiting refl; answers = run-answered t g long wide waiting waiting-run }
+  waited = shown t g long wide waiting refl waiting-run
 
   waited-to : (j : ℕ) → Shown t g (take j waiting)
   waited-to = shown-to t g waiting waited
@@ -365,7 +365,7 @@ module _ (t g : List ℕ) (long : length t ≡ tableWords) (wide : length g ≡ 
   -- before, too, since nothing that it rests on is lost.
   sooner : Shown t g deliveredSooner
   unfolding allLook
-  sooner = record { from = from-opening t g long wide deliveredSooner refl; answers = run-answered t g long wide deliveredSooner delivered-sooner-run }
+  sooner = shown t g long wide deliveredSooner refl delivered-sooner-run
 
   pub theorem-A-2-useful-delivery : (stepIn (upTo t g 3 1 (w 16)) (Deliver 2) .answer ≡ Delivered 2 0 3) × (wh 16 .heard 2 1 0 ≡ false)
   unfolding report

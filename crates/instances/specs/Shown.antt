@@ -10,7 +10,10 @@ use lib.ListN.{length, take, drop, take-append-drop}
 use lib.Seq.{take-all}
 use borrow.Author.Tests.{eq-eqb}
 use Rattle.base.specs.Choice.{_==_, and-left, and-right}
+use Rattle.table.specs.Layout.{tableWords}
+use Rattle.rules.specs.Limits.{house}
 use Rattle.rules.specs.Refusal.{MESSAGE, STATE}
+use Rattle.rules.specs.Ledger.{ledgerWords}
 use Rattle.rules.specs.Report.{report}
 use Rattle.rules.specs.Step.{Call, asks, stepCall}
 use Rattle.rules.specs.declared.Answer.{Answer}
@@ -26,10 +29,10 @@ use Rattle.model.specs.Tests.{Is, fails, contrary}
 use Rattle.model.specs.Chain.{member-cases}
 use Rattle.model.specs.Runs.{first-part}
 use Rattle.testers.specs.Refused.{answers-differ}
-use Rattle.testers.specs.Sample.{asked, answered, calls, answersFrom}
+use Rattle.testers.specs.Sample.{asked, calls, answersFrom, allLook, from-opening, run-answered}
 use Rattle.testers.specs.Along.{Answered, head-answered, tail-answered, history-at}
 use Rattle.paper.specs.Whenever.{secured-since}
-use Rattle.instances.specs.Lists.{callsOf}
+use Rattle.instances.specs.Lists.{callsOf, Computed}
 
 -- ALONG LINES
 -- the calls of two parts
@@ -132,6 +135,10 @@ module _ (t g : List ℕ) where
   pub record Shown (l : List ListingLine) : Type 0 where
     pub from : FromOpening t g 3 1 (callsOf l)
     pub answers : Answered (justOpened t g 3 1) l
+
+  -- one that was computed on states
+  pub shown : length t ≡ tableWords → length g ≡ ledgerWords house → (l : List ListingLine) → allLook (callsOf l) ≡ true → Computed l → Shown l
+  shown long wide l looks run = record { from = from-opening t g long wide l looks; answers = run-answered t g long wide l run }
 
   -- its first part is another
   pub first-shown : (l l′ : List ListingLine) → Shown (l ++ l′) → Shown l

@@ -77,9 +77,8 @@ pub record Woven : Type 0 where
   pub first-from : wovenTo 16 .sending 3 ≡ interval 2 0 2
   pub second-from : wovenTo 16 .sending 4 ≡ interval 2 0 2
   pub first-live : (let y = wovenTo 16 .sending 3 in member y (wovenTo 16 .chain (y .owner))) ≡ true
-  -- no release let them out by then, controller 2 has heard the crash, and nothing is published
+  -- no release let the first out by then, controller 2 has heard the crash, and nothing is published
   pub first-inside : passes (holding 3) (take 16 woven) ≡ true
-  pub second-inside : passes (holding 4) (take 16 woven) ≡ true
   pub all-heard : passes (hears (wovenTo 16) 2) (take 16 woven) ≡ true
   pub none-published : allCited (take 16 woven) noCitations .published ≡ []
   -- nothing is lost: all that controller 0 had was stable when it crashed
@@ -108,11 +107,12 @@ pub record Woven : Type 0 where
   pub then-from : wovenTo 10 .sending 3 ≡ interval 2 0 2
   pub then-inside : passes (holding 3) (take 10 woven) ≡ true
   pub then-heard : passes (hears (wovenTo 10) 2) (take 10 woven) ≡ true
-  -- message 4 is for controller 0, and its sender has the degree 1
+  -- message 4 is for controller 0
   pub then-to : wovenTo 9 .receiver 4 ≡ 0
-  pub then-degree : wovenTo 9 .degree (wovenTo 9 .sending 4 .owner) ≡ 1
   -- message 3 was sent from there
   pub first-then : wovenTo 7 .sending 3 ≡ interval 2 0 2
+  pub first-rests : wovenTo 7 .rests (wovenTo 7 .sending 3) (interval 1 0 2) ≡ true
+  pub first-unstable : wovenTo 7 .stable (interval 1 0 2) ≡ false
   pub first-lost : (y : Interval) (i : ℕ) → wovenTo 7 .lost y i ≡ false
   -- when controller 1 tells, its (0,2) is live and stable
   pub told-live : member (interval 1 0 2) (wovenTo 14 .chain 1) ≡ true
@@ -127,7 +127,6 @@ woven-told =
       second-from = refl;
       first-live = refl;
       first-inside = refl;
-      second-inside = refl;
       all-heard = refl;
       none-published = refl;
       none-lost = λ y i. none-lost (wovenTo 12) 0 refl y i refl;
@@ -152,8 +151,9 @@ woven-told =
       then-inside = refl;
       then-heard = refl;
       then-to = refl;
-      then-degree = refl;
       first-then = refl;
+      first-rests = refl;
+      first-unstable = refl;
       first-lost = λ y i. refl;
       told-live = refl;
       told-stable = refl;

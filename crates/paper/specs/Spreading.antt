@@ -124,10 +124,6 @@ unfolding tellController
 grows-told a k w = changedAt-ind (λ b row. (i : ℕ) → k .known b i ≤ row i) (k .known) a _ (λ i. omega arith) (λ b ne i. omega arith)
 
 -- MODELS
--- pair a of the vector of message m is as it was, or was emptied
-abbrev PairKept : Model → Model → ℕ → ℕ → Type 0
-PairKept μ μ′ m a = (μ′ .message m .vec a ≡ μ .message m .vec a) ⊎ (μ′ .message m .vec a ≡ pair 0 0)
-
 -- from one model to a later one: known words only grow, and messages stay, but that pairs of their vectors may be emptied
 pub record Grown (μ μ′ : Model) : Type 0 where
   pub known-le : GrowsIn μ μ′

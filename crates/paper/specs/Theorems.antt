@@ -34,7 +34,7 @@ use Rattle.demand.specs.Claims.{at-most-K-named}
 use Rattle.paper.specs.Ready.{modelIn, ready}
 use Rattle.paper.specs.Crashes.{can-hear, live-sure}
 use Rattle.paper.specs.Interleaved.{telling-knows}
-use Rattle.paper.specs.Whenever.{checkpoint-is-done, tell-is-done, mask-asked, useful-goes, mask-all-but-K, masks-shrink, named-with-cause, dropped-exactly, useful-arrives, mask-arrives}
+use Rattle.paper.specs.Whenever.{checkpoint-is-done, tell-is-done, mask-asked, useful-goes, mask-all-but-K, masks-shrink, unstable-named, named-with-cause, dropped-exactly, useful-arrives, mask-arrives}
 use Rattle.paper.specs.Eventually.{brought-out, brought-in}
 use Rattle.paper.specs.Fates.{fate}
 use Rattle.paper.specs.Extremes.{never-revoked, never-held, heard-once}
@@ -169,6 +169,11 @@ module _ (t g : List ℕ) (n k : ℕ) (l : List Call) (O : FromOpening t g n k l
   pub theorem-A-2-masks : (m mask later : ℕ) {a : Answer} → HeldIn t g n k l m mask → Names later a → stepIn (upTo t g n k l) (Release m) .answer ≡ a →
       (c : ℕ) → named mask c ≡ false → named later c ≡ false
   theorem-A-2-masks = masks-shrink t g n k l O
+
+  -- They name all that must be named: the controller of each interval that the sending interval rests on and that is not stable.
+  pub theorem-A-2-names : (m mask : ℕ) {a : Answer} → Names mask a → stepIn (upTo t g n k l) (Release m) .answer ≡ a →
+      (z : Interval) → h .rests (h .sending m) z ≡ true → h .stable z ≡ false → named mask (z .owner) ≡ true
+  theorem-A-2-names = unstable-named t g n k l O
 
   -- And they name with cause: of each controller that a release names, where the sending interval is no orphan, it rests on an interval of which
   -- the sender has no word.
