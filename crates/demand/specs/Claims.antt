@@ -31,6 +31,7 @@ use Rattle.history.specs.Citations.{ledgerOf}
 use Rattle.history.specs.Demand.{Run, stepIn, next, runs, justOpened, Accepted, answersHeard, answersRolled, RestsOnLost, named, FromOpening, upTo, end, Cited, Demand3}
 use Rattle.history.specs.Citable.{Citable, AllCitable}
 use Rattle.history.specs.Ceiling.{largestGap, NeverOff, Ceiling}
+use Rattle.history.specs.Uses.{orphan-is-not-live}
 use Rattle.history.specs.Examples.{ListingLine}
 use Rattle.image.specs.Mask.{count}
 use Rattle.image.specs.Tables.{opening-done}
@@ -50,7 +51,7 @@ use Rattle.testers.specs.Ledgers.{count-ledger, message-cited, payload-cited}
 use Rattle.testers.specs.Desk.{publishes, Writes, ledger-stays, whatever-ledger}
 use Rattle.testers.specs.Sample.{sample, asked, answered, calls, answersFrom, sample-from-opening, sample-answers}
 use Rattle.testers.specs.Written.{leftColumn, rightColumn, listing-written}
-use Rattle.testers.specs.Judged.{list, publications, sampleAt, sample-answer, published-is, live-before, gone-after, live-first, still-live, sending-rests, not-yet-stable, lost-later, sent-to-desk, sent-from}
+use Rattle.testers.specs.Judged.{list, publications, sampleAt, sample-answer, published-is, live-before, gone-after, live-first, still-live, sending-rests, not-yet-stable, lost-later, undone-rests, heard-later, degree-then, sent-to-desk, sent-from}
 use Rattle.testers.specs.Gapped.{crashing, rolling, GapRun, crashes, rolls, gap-from-opening, gap-never-off, gap-answer, gap-largest, gap-newest}
 
 -- 1. "A step that can't be done answers one refusal number from document 01 and changes no word of the table", nor of the ledger.
@@ -100,6 +101,18 @@ module _ (t g : List ℕ) (long : length t ≡ tableWords) (wide : length g ≡ 
   kept-rests-on-none r =
       true≢false (sym (still-live t g long wide) ∙ said .hearings (take 9 list) (drop 10 list) 0 1 0 refl
       (subst Accepted (sym (sample-answer t g long wide 9 refl)) (answersHeard 0)) (interval 0 0 1) (live-first t g long wide) .1 r)
+
+  -- "No live interval rests on one lost in a crash its controller has heard": that one rests on (1;0,2), so it is live no more at the end.
+  pub undone-is-not-live : member (interval 2 0 2) (end t g 3 1 list .chain 2) ≡ false
+  undone-is-not-live =
+      orphan-is-not-live t g 3 1 list said 2 (omega arith) (interval 2 0 2)
+      (record { on = interval 1 0 2; crash = 0; rests = undone-rests t g long wide; lost = lost-later t g long wide; heard = heard-later t g long wide })
+
+  -- "let out with at most K controllers named": message 2 under the degree 1.
+  pub one-named-under-1 : ones 2 ≤ 1
+  unfolding runs
+  one-named-under-1 =
+      subst (λ k. ones 2 ≤ k) (degree-then t g long wide) (said .degrees (take 4 list) (drop 5 list) 2 2 2 refl (sample-answer t g long wide 4 refl))
 
   -- "these own every interval .. that is lost anywhere in the list, before it or after": message 2 was let out with the owner named
   -- of an interval that is lost later.

@@ -42,6 +42,10 @@ record Told : Type 0 where
   sending-rests : told 12 .rests (told 12 .sending 2) (interval 1 0 2) ≡ true
   not-yet-stable : told 4 .stable (interval 1 0 2) ≡ false
   lost-later : told 12 .lost (interval 1 0 2) 0 ≡ true
+  -- so was what controller 2 undid, which has heard that crash; the degree at the release was 1
+  undone-rests : told 12 .rests (interval 2 0 2) (interval 1 0 2) ≡ true
+  heard-later : told 12 .heard 2 1 0 ≡ true
+  degree-then : told 4 .degree (told 4 .sending 2 .owner) ≡ 1
   -- message 3 was sent to the desk, from controller 0's (0,1)
   sent-to-desk : told 7 .receiver 3 ≡ desk
   sent-from : told 7 .sending 3 ≡ interval 0 0 1
@@ -57,6 +61,9 @@ facts =
       sending-rests = refl;
       not-yet-stable = refl;
       lost-later = refl;
+      undone-rests = refl;
+      heard-later = refl;
+      degree-then = refl;
       sent-to-desk = refl;
       sent-from = refl;
     }
@@ -128,6 +135,15 @@ module _ (t g : List ℕ) (long : length t ≡ tableWords) (wide : length g ≡ 
 
   pub lost-later : sampleAt t g 12 .history .lost (interval 1 0 2) 0 ≡ true
   lost-later = ap (λ h. h .lost (interval 1 0 2) 0) (history 12) ∙ facts .lost-later
+
+  pub undone-rests : sampleAt t g 12 .history .rests (interval 2 0 2) (interval 1 0 2) ≡ true
+  undone-rests = ap (λ h. h .rests (interval 2 0 2) (interval 1 0 2)) (history 12) ∙ facts .undone-rests
+
+  pub heard-later : sampleAt t g 12 .history .heard 2 1 0 ≡ true
+  heard-later = ap (λ h. h .heard 2 1 0) (history 12) ∙ facts .heard-later
+
+  pub degree-then : sampleAt t g 4 .history .degree (sampleAt t g 4 .history .sending 2 .owner) ≡ 1
+  degree-then = ap (λ h. h .degree (h .sending 2 .owner)) (history 4) ∙ facts .degree-then
 
   pub sent-to-desk : sampleAt t g 7 .history .receiver 3 ≡ desk
   sent-to-desk = ap (λ h. h .receiver 3) (history 7) ∙ facts .sent-to-desk
