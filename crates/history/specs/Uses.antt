@@ -11,12 +11,12 @@ use lib.Count.{ones}
 use Rattle.table.specs.Field.{desk}
 use Rattle.rules.specs.Limits.{lastIncarnation}
 use Rattle.rules.specs.Step.{Call, asks}
-use Rattle.rules.specs.declared.Answer.the-variants.{Done, Sent, Released, Waits}
+use Rattle.rules.specs.declared.Answer.the-variants.{Done, Sent, Released, Waits, Rolled}
 use Rattle.rules.specs.declared.Command.the-variants.{Send, Release, Deliver, Checkpoint, Tell, Hear}
 use Rattle.history.specs.History.{Interval, History, member}
 use Rattle.history.specs.Demand.{callIn, stepIn, next, Accepted, RestsOnLost, named, upTo, end, Demand3}
 use Rattle.history.specs.Progress.{SentIn, HeldIn, Deliverable, CrashIn, HasHeard, CanHear}
-use Rattle.history.specs.Asked.{Secures, checkpoints, Spreads, by-checkpoint, by-telling, Asked, AllAsked, Learned, was-told, has-heard, Cleared, held-without, was-asked, AllCleared, Eventually}
+use Rattle.history.specs.Asked.{Secures, checkpoints, undoes, SecuredIn, Spreads, by-checkpoint, by-telling, Asked, AllAsked, Learned, its-own, was-told, has-heard, Cleared, held-without, was-asked, each-learned, AllCleared, Eventually}
 
 -- a test that doesn't fail holds, and one that doesn't hold fails
 holds : (b : Bool) → (b ≡ false → ⊥) → b ≡ true
@@ -112,6 +112,20 @@ module _ (t g : List ℕ) (n k : ℕ) (l : List Call) where
         tell = inr (record { between = between; after = after; is-in = refl; answer = told });
       }
 
+  -- a hearing at which c undoes serves as a checkpoint
+  pub rollback-secures : (m c crashed i echoed kept undone replayed : ℕ) (before after : List Call) → l ≡ before ++ asks (Hear c crashed i) ∷ after →
+      upTo t g n k before .history .begun (h .sending m) ≡ true → stepIn (upTo t g n k before) (Hear c crashed i) .answer ≡ Rolled echoed kept undone replayed →
+      SecuredIn t g n k l m c
+  rollback-secures m c crashed i echoed kept undone replayed before after e began rolled =
+      record {
+        before = before;
+        step = Hear c crashed i;
+        after = after;
+        is-in = e;
+        secures = subst (Secures c (Hear c crashed i)) (sym rolled) (undoes crashed i echoed kept undone replayed);
+        began = began;
+      }
+
   -- who was asked for another has told it: of an interval that is stable whenever it tells
   pub asked-has-told : (m b c : ℕ) → Asked t g n k l m b c → c ≢ b → (z : Interval) → z .owner ≡ c →
       ((before after : List Call) → l ≡ before ++ asks (Tell c b) ∷ after → upTo t g n k before .history .stable z ≡ true) → Learned t g n k l b z
@@ -127,6 +141,10 @@ module _ (t g : List ℕ) (n k : ℕ) (l : List Call) where
   -- who has heard a crash has word of every interval of the incarnation that it ended
   pub heard-has-word : (b : ℕ) → HasHeard t g n k l b → (z : Interval) → CrashIn t g n k l (z .owner) (z .incarnation) → Learned t g n k l b z
   heard-has-word b heard z crash = has-heard (heard (z .owner) (z .incarnation) crash)
+
+  -- b needs nobody's word of its own intervals that are stable
+  pub own-cleared : (m b : ℕ) → ((z : Interval) → z .owner ≡ b → h .rests (h .sending m) z ≡ true → h .stable z ≡ true) → Cleared t g n k l m b b
+  own-cleared m b stable = each-learned (λ z mine rests. its-own mine (stable z mine rests))
 
   -- where each controller that a held release of m named was asked for its sender, all are cleared
   pub mask-cleared : (m mask : ℕ) → HeldIn t g n k l m mask → AllAsked t g n k l m mask (h .sending m .owner) → AllCleared t g n k l m (h .sending m .owner)

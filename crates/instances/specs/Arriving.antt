@@ -268,12 +268,17 @@ module _ (t g : List ℕ) (long : length t ≡ tableWords) (wide : length g ≡ 
       (λ _. asked-by t g (take 12 loss) loss-12 2 2 1 8 (line (Crash 1) (Crashed 1 0 1 1 0)) refl (crashes 1 0 1 1 0)
       (sent-by t g (take 8 loss) (shown-to t g loss loss-shown 8) 3 2 1 2 9 refl) 0 refl) (λ e. absurd (true≢false (sym e)))
 
-  pub theorem-A-2-delivery-dropped : stepIn (upTo t g 3 1 q) (Deliver 2) .answer ≡ Dropped 2
-  theorem-A-2-delivery-dropped =
+  lost-arrives : Arrives t g 3 1 q 2
+  lost-arrives =
       T.theorem-A-2-delivery t g 3 1 q (loss-12 .from) 2 lost-deliverable 2 (release-by t g (take 12 loss) loss-12 Released 4 2 2 refl)
       (subst (AllAsked t g 3 1 q 2 2) (sym lost-receiver) lost-asked)
-      (subst (HasHeard t g 3 1 q) (sym lost-receiver) (has-heard t g (take 12 loss) loss-12 2 (loss-told .all-heard))) .dropped .1
-      (record { on = lost-rests .on; crash = lost-rests .crash; rests = lost-rests .rests; lost = lost-rests .lost })
+      (subst (HasHeard t g 3 1 q) (sym lost-receiver) (has-heard t g (take 12 loss) loss-12 2 (loss-told .all-heard)))
+
+  pub theorem-A-2-delivery-dropped : (stepIn (upTo t g 3 1 q) (Deliver 2) .answer ≡ Dropped 2) × Orphan qh (qh .sending 2)
+  theorem-A-2-delivery-dropped = (
+    lost-arrives .dropped .1 (record { on = lost-rests .on; crash = lost-rests .crash; rests = lost-rests .rests; lost = lost-rests .lost }),
+    lost-arrives .dropped .0 (answer-in t g loss loss-shown (take 12 loss) (line (Deliver 2) (Dropped 2)) [] refl),
+  )
 
   -- From wherever one stands checkpoints and tellings would do.
   pub theorem-A-2-eventually-delivery : Eventually t g 3 1 q (λ l. Arrives t g 3 1 l 2)

@@ -21,12 +21,12 @@ use Rattle.rules.specs.declared.Command.the-variants.{Release, Checkpoint, Tell
 use Rattle.history.specs.History.{Interval, interval, History, member}
 use Rattle.history.specs.Demand.{stepIn, next, named, justOpened, upTo, end}
 use Rattle.history.specs.Progress.{Orphan, SentIn, HasHeard}
-use Rattle.history.specs.Asked.{checkpoints, Asked, AllAsked, AllCleared, names-held, Unlearned, GoesOut, GoesOutWithin, NotHeld, Eventually, Fate, was-let-out, is-discarded, still-held}
+use Rattle.history.specs.Asked.{checkpoints, Asked, AllAsked, AllCleared, Learned, names-held, Unlearned, GoesOut, GoesOutWithin, NotHeld, Eventually, Fate, was-let-out, is-discarded, still-held}
 use Rattle.history.specs.Uses.{mask-cleared}
 use Rattle.history.specs.Examples.{line, allCited}
 use Rattle.history.specs.Citations.{noCitations}
 use Rattle.model.specs.Model.{intervalOf, Model}
-use Rattle.model.specs.Tests.{contrary}
+use Rattle.model.specs.Tests.{contrary, fails}
 use Rattle.model.specs.Vectors.{pos-full}
 use Rattle.model.specs.Paper.{Useful, vectorOf}
 use Rattle.image.specs.Mask.{count}
@@ -201,9 +201,9 @@ module _ (t g : List ℕ) (long : length t ≡ tableWords) (wide : length g ≡ 
   abbrev the-first : ℕ → Bool
   the-first c = c == 1
 
-  pub theorem-A-2-all-but-K : GoesOutWithin t g 3 1 (upto 12) 4 the-first
+  all-but-K : GoesOutWithin t g 3 1 (upto 12) 4 the-first
   unfolding count
-  theorem-A-2-all-but-K =
+  all-but-K =
       let sender = by-2 12 4 (woven-told .asked-from) in
       ⊎-elim (λ z. absurd (is-held (upto 12) 4 2 (answer-in t g allButOne butOne (take 12 woven) (line (Release 4) (Released 4 2)) [] refl) z)) (λ z. z)
       (T.theorem-A-2-all-but-K t g 3 1 (upto 12) (first 12 .from) 4 6 (release-by t g (take 12 woven) (first 12) Held 9 4 6 refl)
@@ -214,6 +214,10 @@ module _ (t g : List ℕ) (long : length t ≡ tableWords) (wide : length g ≡ 
       (λ _ e. absurd (true≢false e))
       (λ _ _. subst (λ b. Asked t g 3 1 (upto 12) 4 b 2) (sym sender)
       (own-asked-by t g (take 12 woven) (first 12) 4 2 10 (line (Checkpoint 2) Done) refl checkpoints (sent-by t g (take 10 woven) (first 10) 8 4 2 0 6 refl)))))
+
+  -- So it does, and doesn't name controller 2.
+  pub theorem-A-2-all-but-K : (mask : ℕ) × (stepIn (upTo t g 3 1 (upto 12)) (Release 4) .answer ≡ Released 4 mask) × (named mask 2 ≡ false)
+  theorem-A-2-all-but-K = (all-but-K .mask, all-but-K .answer, fails _ (λ e. absurd (true≢false (sym (all-but-K .within 2 e)))))
 
   -- The second mask of message 3 names nobody whom the first didn't name.
   pub theorem-A-2-masks : (c : ℕ) → named 6 c ≡ false → named 2 c ≡ false
@@ -229,12 +233,15 @@ module _ (t g : List ℕ) (long : length t ≡ tableWords) (wide : length g ≡ 
       (says 7 (λ h. h .stable (interval 1 0 2) ≡ false) (woven-told .first-unstable))
 
   -- and its sender has no word of some such interval.
-  pub theorem-A-2-cause : Unlearned t g 3 1 (upto 7) 3 2 1
-  theorem-A-2-cause =
-      subst (λ b. Unlearned t g 3 1 (upto 7) 3 b 1) (by-2 7 3 (woven-told .first-then))
-      (T.theorem-A-2-cause t g 3 1 (upto 7) (first 7 .from) 3 6 (names-held 3 6)
-      (answer-in t g (take 8 woven) (first 8) (take 7 woven) (line (Release 3) (Held 3 6)) [] refl)
-      (no-orphan t g (take 7 woven) (first 7) (woven-told .first-lost) (h 7 .sending 3)) 1 refl)
+  pub theorem-A-2-cause : (z : Interval) × (z .owner ≡ 1) × (h 7 .rests (h 7 .sending 3) z ≡ true) × (Learned t g 3 1 (upto 7) 2 z → ⊥)
+  theorem-A-2-cause = (why .on, why .owner-is, why .rests, why .no-word)
+    where
+      why : Unlearned t g 3 1 (upto 7) 3 2 1
+      why =
+          subst (λ b. Unlearned t g 3 1 (upto 7) 3 b 1) (by-2 7 3 (woven-told .first-then))
+          (T.theorem-A-2-cause t g 3 1 (upto 7) (first 7 .from) 3 6 (names-held 3 6)
+          (answer-in t g (take 8 woven) (first 8) (take 7 woven) (line (Release 3) (Held 3 6)) [] refl)
+          (no-orphan t g (take 7 woven) (first 7) (woven-told .first-lost) (h 7 .sending 3)) 1 refl)
 
   -- At any time a controller can checkpoint, and tell another.
   pub theorem-A-2-done : (stepIn (upTo t g 3 1 (upto 12)) (Checkpoint 1) .answer ≡ Done) × (stepIn (upTo t g 3 1 (upto 12)) (Tell 1 2) .answer ≡ Done)
