@@ -1,21 +1,20 @@
-//! Nothing is held for ever. At the end of a list a controller hears every crash that it hasn't heard, every
-//! controller takes a checkpoint, and every other one tells it. After that, with both machines, what it has sent
-//! and not let out is released with nobody named, unless the work that sent it is gone; and what was released to it
-//! doesn't wait: it is dropped exactly where it rests on lost work, and else delivered if there is a place.
+//! Nothing is held for ever, and what is cited stands: the theorems on messages in `paper/specs/Theorems.antt`
+//! (theorem-A-1-messages, theorem-A-2 and those under its name), and `AllCitable` in `history/specs/Citable.antt`.
+//!
+//! In random lists both machines are held to these at every release and every delivery. Where a release was held, or
+//! let a message out, or a delivery waits, the list goes on for a second time: those whom the mask names are asked, or
+//! all but K of them, each by a checkpoint or a crash and by a telling after it, and the sender or the receiver hears
+//! every crash; in any order, and among other steps. Then the message goes out, or comes in, or its work is gone. At
+//! the end of a list everyone is asked so for one controller, and all its messages and all those to it are tried.
 
-use compare::agreement::Lent;
+mod woven;
+
 use compare::effort;
-use reference::demand::Judge;
-use reference::generate::{Profile, Walk};
-use reference::history::{Crash, History, Message};
-use reference::ledger::{self, Entry, ENTRIES};
-use reference::lines;
-use reference::machine::{step_with, Answer, Command, Fault};
-use reference::refusal::{self, Refusal};
-use reference::table::{DESK, LAST_NUMBER};
-use std::collections::{BTreeMap, BTreeSet};
-use std::ops::Range;
+use reference::generate::{Profile, Random};
+use reference::machine::{Answer, Command, Fault};
+use reference::refusal;
 use std::thread;
+use woven::{named, refused, weave, Aim, Broken, House, Met, Trial};
 
 /// How many lists of each profile.
 const LISTS: [(&Profile, u64); 10] = [
@@ -23,346 +22,175 @@ const LISTS: [(&Profile, u64); 10] = [
     (&Profile::CRASHES, 700),
     (&Profile::PARTIAL, 500),
     (&Profile::FULL, 60),
-    (&Profile::WORN, 900),
+    (&Profile::WORN, 400),
     (&Profile::WILD, 300),
     (&Profile::DESK, 60),
     (&Profile::GAPS, 700),
     (&Profile::CEILING, 700),
-    (&Profile::LONG, 100),
+    (&Profile::LONG, 60),
 ];
 
-/// What the ends of these lists come across, and how often at least: hearings; deliveries, releases to the desk, and
-/// other releases, by the answers before the checkpoints and after the controller was told. Nothing is held in the
-/// end, and nothing waits, but for what rests on lost work and was sent by who couldn't hear every crash.
-const CASES: [(&str, u64); 22] = [
-    ("delivery: delivered, then delivered", 9_000),
-    ("delivery: dropped, then dropped", 1_500),
-    ("delivery: refused 12, then refused 12", 100),
-    ("delivery: waits, then delivered", 150),
-    ("desk, not all heard: held, then held", 100),
-    ("desk, not all heard: held, then released", 10),
-    ("desk, not all heard: refused 7, then refused 7", 200),
-    ("desk, not all heard: released, then released", 10),
-    ("desk, the ledger full: refused 18", 4_000),
-    ("desk: held, then released", 2_500),
-    ("desk: refused 7, then refused 7", 6_000),
-    ("desk: released, then released", 1_500),
-    ("hearing: heard", 20_000),
-    ("hearing: refused 13", 100),
-    ("hearing: rolled", 1_500),
-    ("release, not all heard: held, then held", 200),
-    ("release, not all heard: held, then released", 100),
-    ("release, not all heard: refused 7, then refused 7", 1_000),
-    ("release, not all heard: released, then released", 200),
-    ("release: held, then released", 2_000),
-    ("release: refused 7, then refused 7", 20_000),
-    ("release: released, then released", 10_000),
+/// How many other steps stand among those that are needed, of a hundred: none, half of them, most.
+const OTHERS: [u32; 3] = [0, 50, 80];
+
+/// What comes up, and how often at least: by what those of a mask were secured; what is tried after an answer, or at
+/// the end of a list, by what was done for it; and what stands in the lists themselves.
+const CASES: [(&str, u64); 41] = [
+    ("asked by a checkpoint", 20_000),
+    ("asked by a crash", 12_000),
+    ("asked by a rollback", 4_000),
+    ("delivery, all asked: released 0, then begins", 3_500),
+    ("delivery, all asked: released, then begins", 2_000),
+    ("delivery, all asked: released, then dropped", 1_300),
+    ("delivery, all asked: waits, then begins", 700),
+    ("delivery, all asked: waits, then dropped", 700),
+    ("delivery, not all heard: waits, then begins", 80),
+    ("delivery, not all heard: waits, then dropped", 30),
+    ("end: delivery, all asked: begins", 2_500),
+    ("end: delivery, all asked: dropped", 400),
+    ("end: delivery, all asked: refused 7", 18_000),
+    ("end: delivery, not all heard: begins", 50),
+    ("end: delivery, not all heard: dropped", 30),
+    ("end: delivery, not all heard: refused 7", 700),
+    ("end: publishing, all asked: released 0", 800),
+    ("end: publishing, gone: refused 7", 1_800),
+    ("end: publishing, let out: refused 7", 5_500),
+    ("end: publishing, not all heard: held", 30),
+    ("end: release, all asked: released 0", 2_300),
+    ("end: release, gone: refused 7", 6_000),
+    ("end: release, let out: refused 7", 22_000),
+    ("end: release, not all heard: held", 50),
+    ("end: release, not all heard: released", 60),
+    ("entries cited", 60_000),
+    ("list: dropped", 5_000),
+    ("list: fewer named again", 3_000),
+    ("list: not dropped", 90_000),
+    ("list: the same named again", 15_000),
+    ("no place: refused 12", 40),
+    ("not asked, as one of K", 1_000),
+    ("publishing, all asked: held, then released 0", 5_500),
+    ("publishing, gone: held, then refused 7", 3_500),
+    ("publishing, not all heard: held, then held", 100),
+    ("release, all asked: held, then released 0", 4_000),
+    ("release, all but K asked: held, then released 0", 70),
+    ("release, all but K asked: held, then released", 800),
+    ("release, gone: held, then refused 7", 3_500),
+    ("release, not all heard: held, then held", 100),
+    ("steps in between", 180_000),
 ];
 
-/// How often each case came up.
-#[derive(Debug, Default, PartialEq, Eq)]
-struct Met(BTreeMap<String, u64>);
-
-impl Met {
-    fn note(&mut self, case: String) {
-        *self.0.entry(case).or_default() += 1;
+/// How many of a hundred such answers are followed by a trial.
+fn tried(answer: Answer) -> u32 {
+    match answer {
+        Answer::Held { .. } => 60,
+        Answer::Released { .. } => 10,
+        Answer::Waits { .. } => 20,
+        _ => 0,
     }
+}
 
-    /// Takes note of a step, by its answers at first and in the end.
-    fn note_step(&mut self, step: &str, first: Answer, then: Answer) {
-        self.note(format!("{step}: {}, then {}", named(first), named(then)));
-    }
+/// What is to be tried after an answer, and what is to be done before.
+fn trial_after(house: &House, answer: Answer) -> Option<(Trial, Aim)> {
+    let trial = Trial::after(answer)?;
+    Some((trial, trial.aim(house)?))
+}
 
-    fn join(mut self, other: Met) -> Met {
-        for (case, count) in other.0 {
-            *self.0.entry(case).or_default() += count;
+/// What a list has come across, and the numbers that decide on what is left to chance.
+struct Check {
+    random: Random,
+    met: Met,
+}
+
+impl Check {
+    /// Goes through a list, and after some of its answers for a second time on from there.
+    fn list(&mut self, house: &mut House) -> Result<(), Broken> {
+        while let Some(answer) = house.go_on()? {
+            self.met.note_delivery(answer);
+            if self.random.chance(tried(answer)) {
+                self.second_time(house, answer)?;
+            }
         }
-        self
-    }
-}
-
-/// The first word of an answer; a refusal with its number.
-fn named(answer: Answer) -> String {
-    let line = lines::render(&answer);
-    match (answer, line.split_once(' ')) {
-        (Answer::Refused { .. }, _) | (_, None) => line,
-        (_, Some((word, _))) => word.to_owned(),
-    }
-}
-
-fn refused(number: Refusal) -> Answer {
-    Answer::Refused { number }
-}
-
-/// A step with an answer that it must not have.
-type Broken = (Command, Answer);
-
-/// What does a step on what is lent.
-type Machine = dyn Fn(&mut Lent, Command) -> Answer;
-
-/// A house after some steps: what is lent for the next, and what the steps and their answers say.
-#[derive(Clone)]
-struct House<'a> {
-    machine: &'a Machine,
-    lent: Lent,
-    history: History,
-    /// The messages that releases have let out.
-    let_out: BTreeSet<u32>,
-}
-
-/// Steps.
-impl House<'_> {
-    fn step(&mut self, command: Command) -> Result<Answer, Broken> {
-        let answer = (self.machine)(&mut self.lent, command);
-        let read = self.history.feed(command, answer);
-        read.map_or(Err((command, answer)), |()| Ok(answer))
+        self.met.note_masks(house);
+        self.end(house)
     }
 
-    /// What a step would answer now.
-    fn answer(&self, command: Command) -> Answer {
-        (self.machine)(&mut self.lent.clone(), command)
+    /// Does what is needed for the message of an answer, and tries it.
+    fn second_time(&mut self, house: &House, answer: Answer) -> Result<(), Broken> {
+        let Some((trial, aim)) = trial_after(house, answer) else {
+            return Ok(());
+        };
+        let all_but_k = self.random.chance(50);
+        let aim = Aim { all_but_k, ..aim };
+        let mut house = house.clone();
+        self.weave(&mut house, aim)?;
+        self.met.note_asked(&house, aim);
+        let (case, then) = self.attempt(&mut house, trial)?;
+        let [answer, then] = [answer, then].map(named);
+        self.met.note(format!("{case}: {answer}, then {then}"));
+        self.end(&house)
     }
 
-    /// The step would have this answer now.
-    fn expect(&self, command: Command, expected: Answer) -> Result<(), Broken> {
-        let answer = self.answer(command);
-        (answer == expected).then_some(()).ok_or((command, answer))
-    }
-
-    fn controllers(&self) -> Range<u32> {
-        0..self.history.controllers().len() as u32
-    }
-
-    /// The crashes since the opening that a controller hasn't heard. Who crashed has heard its own.
-    fn unheard(&self, hearer: u32) -> Vec<Crash> {
-        let controllers = self.history.controllers();
-        let crashes: BTreeSet<Crash> = controllers.iter().flat_map(|c| c.heard.clone()).collect();
-        let heard = &controllers[hearer as usize].heard;
-        crashes.difference(heard).copied().collect()
-    }
-
-    /// Lets a controller hear every crash, and says whether it could: in its last incarnation it can't where it
-    /// would have to undo something.
-    fn hear_all(&mut self, hearer: u32, met: &mut Met) -> Result<bool, Broken> {
-        let mut all = true;
-        for crash in self.unheard(hearer) {
-            let command = Command::Hear {
-                hearer,
-                crashed: crash.controller as u32,
-                incarnation: crash.incarnation,
+    /// Asks everyone for one controller, and tries all messages so far that it has sent and that are for it.
+    fn all_messages(&mut self, house: &mut House) -> Result<(), Broken> {
+        let holder = self.random.below(house.controllers().end);
+        let messages: Vec<u32> = house.history().messages().keys().copied().collect();
+        self.weave(house, Aim::everyone(house, holder))?;
+        for message in messages {
+            let Some(trial) = Trial::by(house, holder, message) else {
+                continue;
             };
-            let answer = self.step(command)?;
-            met.note(format!("hearing: {}", named(answer)));
-            match answer {
-                Answer::Heard { .. } | Answer::Rolled { .. } => {}
-                _ if answer == refused(refusal::INCARNATIONS_USED_UP) => all = false,
-                _ => return Err((command, answer)),
-            }
+            let (case, answer) = self.attempt(house, trial)?;
+            self.met.note(format!("end: {case}: {}", named(answer)));
         }
-        Ok(all)
+        self.end(house)
     }
 
-    /// Every controller takes a checkpoint, and every other one tells the holder. Each of these steps is done.
-    fn tell_all(&mut self, holder: u32) -> Result<(), Broken> {
-        let checkpoints = self.controllers();
-        let checkpoints = checkpoints.map(|controller| Command::Checkpoint { controller });
-        let owners = self.controllers().filter(|&owner| owner != holder);
-        let told = owners.map(|owner| Command::Tell { owner, holder });
-        for command in checkpoints.chain(told) {
-            let answer = self.step(command)?;
-            if answer != Answer::Done {
-                return Err((command, answer));
-            }
+    /// Tries a message, and says of what case that is, too.
+    fn attempt(&mut self, house: &mut House, trial: Trial) -> Result<(String, Answer), Broken> {
+        let case = trial.case(house);
+        let answer = trial.attempt(house)?;
+        if answer == refused(refusal::PLACES_USED_UP) {
+            self.met.note("no place: refused 12");
         }
-        Ok(())
-    }
-}
-
-/// What the history asks for, once a controller was told.
-impl House<'_> {
-    fn sender(&self, sent: &Message) -> u32 {
-        self.history.intervals()[sent.sending_interval].owner as u32
+        Ok((case, answer))
     }
 
-    /// The owners of what a message rests on and isn't stable, as a mask.
-    fn owners_at_risk(&self, sent: &Message) -> u32 {
-        let intervals = self.history.intervals();
-        let rests_on = intervals[sent.sending_interval].rests_on.iter();
-        let at_risk = rests_on.map(|id| &intervals[id]).filter(|on| !on.stable);
-        at_risk.fold(0, |mask, on| mask | 1 << on.owner)
-    }
-
-    /// The answer to the release of a message that wasn't let out, and that these could revoke.
-    fn release(&self, message: u32, sent: &Message, mask: u32) -> Answer {
-        let sender = &self.history.controllers()[self.sender(sent) as usize];
-        let for_desk = sent.receiver == DESK;
-        let most = if for_desk { 0 } else { sender.degree };
-        if !sender.chain.contains(&sent.sending_interval) {
-            refused(refusal::STATE)
-        } else if mask.count_ones() > most {
-            Answer::Held { message, mask }
-        } else {
-            Answer::Released { message, mask }
-        }
-    }
-
-    /// The answer to the delivery of a released message at a receiver that has heard every crash.
-    fn delivery(&self, message: u32, sent: &Message) -> Answer {
-        let intervals = self.history.intervals();
-        let receiver = &self.history.controllers()[sent.receiver as usize];
-        let newest = receiver.chain.last().map_or(0, |&id| intervals[id].number);
-        let mut rests_on = intervals[sent.sending_interval].rests_on.iter();
-        if rests_on.any(|id| intervals[id].lost_in.is_some()) {
-            Answer::Dropped { message }
-        } else if newest == LAST_NUMBER {
-            refused(refusal::PLACES_USED_UP)
-        } else {
-            Answer::Delivered {
-                message,
-                incarnation: receiver.incarnation,
-                number: newest + 1,
-            }
-        }
-    }
-}
-
-/// A house before the checkpoints, and after a controller was told.
-struct Told<'a> {
-    before: House<'a>,
-    after: House<'a>,
-    /// Whether the controller has heard every crash.
-    heard: bool,
-}
-
-impl Told<'_> {
-    /// The release of a message that its sender, who was told, hasn't let out.
-    fn check_release(&self, message: u32, sent: &Message, met: &mut Met) -> Result<(), Broken> {
-        let command = Command::Release { message };
-        let first = self.before.answer(command);
-        // Who couldn't hear all lets out what rests on no lost work, and holds the rest.
-        let mask = if self.heard {
-            0
-        } else {
-            self.after.owners_at_risk(sent)
-        };
-        let expected = self.after.release(message, sent, mask);
-        self.after.expect(command, expected)?;
-        let step = match (sent.receiver == DESK, self.heard) {
-            (true, true) => "desk",
-            (true, false) => "desk, not all heard",
-            (false, true) => "release",
-            (false, false) => "release, not all heard",
-        };
-        met.note_step(step, first, expected);
-        if sent.receiver == DESK && matches!(expected, Answer::Released { .. }) {
-            let mut full = self.after.clone();
-            full.lent.ledger = ledger::words_of(&[Entry::default(); ENTRIES as usize]);
-            full.expect(command, refused(refusal::LEDGER_USED_UP))?;
-            met.note("desk, the ledger full: refused 18".to_owned());
-        }
+    fn weave(&mut self, house: &mut House, aim: Aim) -> Result<(), Broken> {
+        let others = self.random.pick(&OTHERS).unwrap_or(0);
+        let between = weave(house, aim, others, &mut self.random)?;
+        self.met.add("steps in between", between);
         Ok(())
     }
 
-    /// The delivery of a message, if it is released, to its receiver, who was told and has heard every crash.
-    fn check_delivery(&self, message: u32, sent: &Message, met: &mut Met) -> Result<(), Broken> {
-        let command = Command::Deliver { message };
-        let first = self.before.answer(command);
-        if first != refused(refusal::STATE) {
-            let expected = self.after.delivery(message, sent);
-            self.after.expect(command, expected)?;
-            met.note_step("delivery", first, expected);
-        }
-        Ok(())
+    /// At the end of a list every entry of the ledger may be cited.
+    fn end(&mut self, house: &House) -> Result<(), Broken> {
+        let cited = house.cited().map_err(Broken::Entry)?;
+        self.met.add("entries cited", cited.into());
+        house.is_alike().then_some(()).ok_or(Broken::Words)
     }
 }
 
-/// Goes through what a controller has sent and not let out, and what is for it.
-fn check_controller(end: &House, c: u32, met: &mut Met) -> Result<(), Broken> {
-    let mut before = end.clone();
-    let heard = before.hear_all(c, met)?;
-    let mut after = before.clone();
-    after.tell_all(c)?;
-    let told = Told {
-        before,
-        after,
-        heard,
+/// Goes through one list of a machine, and through its end.
+fn check_list(profile: &'static Profile, seed: u64, fault: Fault) -> Result<Met, Broken> {
+    let mut check = Check {
+        random: Random::new(!seed),
+        met: Met::default(),
     };
-    for (&message, sent) in end.history.messages() {
-        if end.sender(sent) == c && !end.let_out.contains(&message) {
-            told.check_release(message, sent, met)?;
-        }
-        if heard && sent.receiver == c {
-            told.check_delivery(message, sent, met)?;
-        }
-    }
-    Ok(())
-}
-
-/// Goes through all controllers of a house.
-fn check(end: &House) -> Result<Met, Broken> {
-    let mut met = Met::default();
-    for c in end.controllers() {
-        check_controller(end, c, &mut met)?;
-    }
-    Ok(met)
-}
-
-/// The house at the end of a list, if it was opened, and the steps of the list.
-fn walked(mut walk: Walk, machine: &Machine) -> (Option<House<'_>>, Vec<Command>) {
-    let (mut judge, mut let_out) = (Judge::default(), BTreeSet::new());
-    let mut commands = Vec::new();
-    for (command, answer) in walk.by_ref() {
-        judge.feed(command, answer);
-        match (command, answer) {
-            (Command::Open { .. }, Answer::Done) => let_out.clear(),
-            (_, Answer::Released { message, .. }) => let_out.extend([message]),
-            _ => {}
-        }
-        commands.push(command);
-    }
-    let end = judge.history().map(|history| House {
-        machine,
-        lent: Lent::by(&walk),
-        history: history.clone(),
-        let_out,
-    });
-    (end, commands)
-}
-
-/// The end of one list with both machines.
-fn check_list(profile: &'static Profile, seed: u64) -> Met {
-    let name = profile.name;
-    let walk = Walk::new(seed, profile);
-    let mut lent = Lent::by(&walk);
-    let (end, commands) = walked(walk, &by_proved);
-    let proved = end.expect("a list begins with an opening");
-    lent.run(&commands);
-    assert!(lent == proved.lent, "{name} list {seed}");
-    let second = House {
-        machine: &by_reference,
-        ..proved.clone()
-    };
-    let [met, again] = [proved, second].map(|end| {
-        let met = check(&end);
-        met.unwrap_or_else(|broken| panic!("{name} list {seed}: {broken:?}"))
-    });
-    assert_eq!(met, again, "{name} list {seed}");
-    met
-}
-
-fn by_proved(lent: &mut Lent, command: Command) -> Answer {
-    lent.step(command)
-}
-
-fn by_reference(lent: &mut Lent, command: Command) -> Answer {
-    step_with(Fault::None, &mut lent.table, &mut lent.ledger, command)
+    let mut house = House::open(seed, profile, fault)?;
+    check.list(&mut house)?;
+    check.all_messages(&mut house)?;
+    Ok(check.met)
 }
 
 fn check_lists((profile, lists): (&'static Profile, u64)) -> Met {
-    let lists = (0..effort(lists)).map(|seed| check_list(profile, seed));
+    let lists = (0..effort(lists)).map(|seed| {
+        let met = check_list(profile, seed, Fault::None);
+        met.unwrap_or_else(|broken| panic!("{} list {seed}: {broken:?}", profile.name))
+    });
     lists.fold(Met::default(), Met::join)
 }
 
+/// These cases come up often enough, and no others but of a holder that could not hear all, of which less is claimed.
 #[test]
 fn nothing_is_held_for_ever() {
     let workers = LISTS.map(|lists| thread::spawn(move || check_lists(lists)));
@@ -371,25 +199,114 @@ fn nothing_is_held_for_ever() {
         .map(|worker| worker.join().expect("lists that went well"))
         .fold(Met::default(), Met::join);
     println!("{met:#?}");
-    let cases: Vec<&str> = met.0.keys().map(String::as_str).collect();
-    assert_eq!(cases, CASES.map(|(case, _)| case));
-    for (case, least) in CASES {
-        assert!(met.0[case] >= least, "{case}");
+    met.assert_at_least(&CASES);
+    let mut cases = met.cases().filter(|case| !case.contains("not all heard"));
+    let other = cases.find(|case| CASES.iter().all(|(expected, _)| expected != case));
+    assert_eq!(other, None);
+}
+
+/// What is done for a message, with something left out or too early.
+#[derive(Clone, Copy, Debug, PartialEq, Eq)]
+enum Recipe {
+    Whole,
+    NoCheckpoints,
+    NoTellings,
+    TellingsFirst,
+    NoHearings,
+}
+
+impl Recipe {
+    const ALL: [Recipe; 5] = [
+        Recipe::Whole,
+        Recipe::NoCheckpoints,
+        Recipe::NoTellings,
+        Recipe::TellingsFirst,
+        Recipe::NoHearings,
+    ];
+
+    /// The steps by which it asks.
+    fn asking(self, aim: Aim) -> Vec<Command> {
+        let checkpoints = aim
+            .asked()
+            .map(|controller| Command::Checkpoint { controller });
+        let owners = aim.asked().filter(|&owner| owner != aim.holder);
+        let holder = aim.holder;
+        let tellings = owners.map(|owner| Command::Tell { owner, holder });
+        match self {
+            Recipe::Whole | Recipe::NoHearings => checkpoints.chain(tellings).collect(),
+            Recipe::NoCheckpoints => tellings.collect(),
+            Recipe::NoTellings => checkpoints.collect(),
+            Recipe::TellingsFirst => tellings.chain(checkpoints).collect(),
+        }
+    }
+
+    /// What a trial answers after it.
+    fn then(self, mut house: House, trial: Trial, aim: Aim) -> Result<Answer, Broken> {
+        for command in self.asking(aim) {
+            house.step(command)?;
+        }
+        if self != Recipe::NoHearings {
+            let hearing = Aim { mask: 0, ..aim };
+            weave(&mut house, hearing, 0, &mut Random::new(0))?;
+        }
+        trial.attempt(&mut house)
     }
 }
 
-/// What a machine with this fault answers that it must not, if one of these lists shows it.
+fn is_stuck(answer: Answer) -> bool {
+    matches!(answer, Answer::Held { .. } | Answer::Waits { .. })
+}
+
+/// Tries every recipe after each answer of a list that holds a message or lets it wait.
+fn try_recipes(profile: &'static Profile, seed: u64, met: &mut Met) -> Result<(), Broken> {
+    let mut house = House::open(seed, profile, Fault::None)?;
+    while let Some(answer) = house.go_on()? {
+        let stuck = trial_after(&house, answer).filter(|_| is_stuck(answer));
+        let Some((trial, aim)) = stuck else {
+            continue;
+        };
+        for recipe in Recipe::ALL {
+            let then = recipe.then(house.clone(), trial, aim)?;
+            let then = if is_stuck(then) { "still" } else { "not" };
+            met.note(format!("{recipe:?}: {}, then {then}", named(answer)));
+        }
+    }
+    Ok(())
+}
+
+/// The recipe by itself always serves, and with something left out or too early it may not: none of it could be left
+/// out of the theorems. (What waits needs no checkpoints where the tellings come last: it waits for an incarnation that
+/// has ended, and all that was kept of that is stable.)
+#[test]
+fn all_that_is_done_is_needed() {
+    let mut met = Met::default();
+    for profile in [&Profile::CRASHES, &Profile::PARTIAL] {
+        for seed in 0..effort(40) {
+            let tried = try_recipes(profile, seed, &mut met);
+            assert_eq!(tried, Ok(()), "{} list {seed}", profile.name);
+        }
+    }
+    println!("{met:#?}");
+    met.assert_at_least(&[
+        ("Whole: held, then not", 800),
+        ("Whole: waits, then not", 200),
+        ("NoCheckpoints: held, then still", 500),
+        ("NoTellings: held, then still", 200),
+        ("NoTellings: waits, then still", 15),
+        ("TellingsFirst: held, then still", 100),
+        ("NoHearings: held, then still", 150),
+        ("NoHearings: waits, then still", 15),
+    ]);
+    let mut whole = met.cases().filter(|case| case.starts_with("Whole"));
+    assert_eq!(whole.find(|case| case.ends_with("still")), None);
+}
+
+/// What a machine with this fault does that it must not, if one of these lists shows it.
 fn broken(fault: Fault) -> Option<Broken> {
-    let machine = move |lent: &mut Lent, command| {
-        step_with(fault, &mut lent.table, &mut lent.ledger, command)
-    };
     let profiles = [&Profile::CRASHES, &Profile::PARTIAL, &Profile::CEILING];
-    profiles.into_iter().find_map(|profile| {
-        (0..20).find_map(|seed| {
-            let walk = Walk::with_fault(seed, profile, fault);
-            walked(walk, &machine).0.and_then(|end| check(&end).err())
-        })
-    })
+    profiles
+        .into_iter()
+        .find_map(|profile| (0..20).find_map(|seed| check_list(profile, seed, fault).err()))
 }
 
 /// The check can fail: demand 3 accuses none of these machines, which hold or wait for ever, hold what is gone, or
@@ -405,8 +322,24 @@ fn machines_that_hold_for_ever_are_found() {
         Fault::ForcedNotKnown,
         Fault::HeldKept,
     ] {
-        let found = broken(fault).unwrap_or_else(|| panic!("{fault:?} is not found"));
+        let found = broken(fault);
         println!("{fault:?}: {found:?}");
+        assert!(matches!(found, Some(Broken::Answer(..))), "{fault:?}");
     }
     assert_eq!(broken(Fault::None), None);
+}
+
+/// So can the claim on the ledger: of readings that are still held, of entries that say something else, and of
+/// readings from work that was lost later.
+#[test]
+fn wrong_records_are_found() {
+    for fault in [
+        Fault::LedgerWrittenOnHeld,
+        Fault::EntryOutOfOrder,
+        Fault::NumbersWithoutIncarnations,
+    ] {
+        let found = broken(fault);
+        println!("{fault:?}: {found:?}");
+        assert!(matches!(found, Some(Broken::Entry(_))), "{fault:?}");
+    }
 }

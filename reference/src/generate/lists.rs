@@ -8,7 +8,8 @@ use crate::table::{in_form, Table, CONTROLLERS, LAST_GAP, WORDS};
 use std::ops::RangeInclusive;
 
 /// A random list in the doing: each item is the next step and its answer, and the table and the ledger
-/// stand as the last one left them.
+/// stand as the last one left them. Other steps may be done in between, and after the last.
+#[derive(Clone)]
 pub struct Walk {
     random: Random,
     profile: &'static Profile,
@@ -58,7 +59,8 @@ impl Walk {
         &self.ledger
     }
 
-    fn command(&mut self) -> Command {
+    /// A step that the list could go on with.
+    pub fn choose(&mut self) -> Command {
         if std::mem::take(&mut self.first) {
             return opening(&mut self.random, self.profile);
         }
@@ -70,6 +72,13 @@ impl Walk {
         }
         self.sensible()
             .unwrap_or_else(|| senseless(&mut self.random))
+    }
+
+    /// Does a step, be it chosen by the list or not.
+    pub fn step(&mut self, command: Command) -> Answer {
+        let answer = step_with(self.fault, &mut self.table, &mut self.ledger, command);
+        self.opened = matches!((command, answer), (Command::Open { .. }, Answer::Done));
+        answer
     }
 
     /// The gap, where it is to be set now.
@@ -117,10 +126,8 @@ impl Iterator for Walk {
 
     fn next(&mut self) -> Option<Self::Item> {
         self.left = self.left.checked_sub(1)?;
-        let command = self.command();
-        let answer = step_with(self.fault, &mut self.table, &mut self.ledger, command);
-        self.opened = matches!((command, answer), (Command::Open { .. }, Answer::Done));
-        Some((command, answer))
+        let command = self.choose();
+        Some((command, self.step(command)))
     }
 }
 
