@@ -1,8 +1,8 @@
 -- Short lists of steps in a house of three, run on the definitions by the prover, the form check of every step included. Such a
--- list writes to the first controllers, places and message records only (`reach`). So that a form check need not compute all the
--- 15,152 words of each state, it is shown that the words of the others stay 0.
+-- list writes to the three controllers and to their first places and the first message records only (`reach`). So that a form check
+-- need not compute all the 15,152 words of each state, it is shown that the words of the others stay 0.
 use mathlib.Core.Path.{_≡_, refl, sym, ap, _∙_}
-use mathlib.Core.Bool.{Bool, true, false, true≢false, cond, _&&_, and-true, and-false}
+use mathlib.Core.Bool.{Bool, true, false, true≢false, cond, _&&_, and-false}
 use mathlib.Core.List.{List, [], _∷_}
 use Prim.Native.Nat.{ℕ, zero, suc, _+_, _-_, _<_}
 use native.Mathlib.Omega.{arith}
@@ -14,7 +14,7 @@ use Rattle.base.specs.Choice.{_==_, _≤?_, _<?_, cond-ind, le?}
 use Rattle.base.specs.Ranges.{allb, allb-all, allb-get, anyb, first}
 use Rattle.base.specs.Lists.{tab}
 use Rattle.base.specs.Cases.{allOf, passed, firstOf}
-use Rattle.table.specs.Field.{Field, State, OfHead, OfController, Known, End, OfPlace, OfMessage, Size, LiveCount, StableCount, MessageState, owner, second, wordOf, same}
+use Rattle.table.specs.Field.{Field, State, OfHead, OfController, Known, End, OfPlace, OfMessage, Size, LiveCount, StableCount, MessageState, wordOf, same}
 use Rattle.table.specs.Layout.{controllers, incarnations}
 use Rattle.table.specs.Change.{put, putPart, clearPlaces, putStates, put-ind, part-ind, clear-ind, states-ind}
 use Rattle.table.specs.Numbering.{numberOf, used, lastGiven, recordOf, messageOf, posted}
@@ -36,13 +36,18 @@ unfoldable pub answers : State → List ℕ → List Command → List Answer
 answers σ g [] = []
 answers σ g (x ∷ xs) = let o = stepOn house σ g x in o .answer ∷ answers (o .left) (o .ledger) xs
 
--- how many of each such a list may write
+-- how many places of each controller and how many message records such a list may write
 abbrev pub reach : ℕ
 reach = 4
 
 -- A state where the words of the others are 0 is quiet, and a change that writes near words keeps it so.
 abbrev pub near : Field → Bool
-near g = (owner g <? reach) && (second g <? reach)
+near (OfHead i) = true
+near (OfController c k) = c <? 3
+near (Known b a i) = (b <? 3) && (a <? 3)
+near (End b a i) = (b <? 3) && (a <? 3)
+near (OfPlace c p k) = (c <? 3) && (p <? reach)
+near (OfMessage r k) = r <? reach
 
 abbrev pub Rest : Field → ℕ → Type 0
 Rest g x = near g ≡ false → x ≡ 0
@@ -92,10 +97,10 @@ quiet-opened k = record { rest = rest }
   where
     rest : (g : Field) → Rest g (openHouse 3 k g)
     rest (OfHead i) z = absurd (true≢false z)
-    rest (OfController c i) z = rw (le-ltb c 3 (omega (arith, ltb-false c reach (rw and-true at z))))
-    rest (Known b a i) z = le? reach b (λ l. rw (le-ltb b 3 (omega arith))) (λ l. rw (ne-eqb b a (omega (arith, ltb-false a reach (rw (lt-ltb b reach l) at z))), and-false))
+    rest (OfController c i) z = rw z
+    rest (Known b a i) z = le? 3 b (λ l. rw (le-ltb b 3 l)) (λ l. rw (ne-eqb b a (omega (arith, ltb-false a 3 (rw (lt-ltb b 3 l) at z))), and-false))
     rest (End b a i) z = refl
-    rest (OfPlace c p i) z = le? reach c (λ l. rw (le-ltb c 3 (omega arith))) (λ l. rw (ne-eqb p 0 (omega (arith, ltb-false p reach (rw (lt-ltb c reach l) at z))), and-false))
+    rest (OfPlace c p i) z = le? 3 c (λ l. rw (le-ltb c 3 l)) (λ l. rw (ne-eqb p 0 (omega (arith, ltb-false p reach (rw (lt-ltb c 3 l) at z))), and-false))
     rest (OfMessage r i) z = refl
 
 -- The form check with its loops cut to the near words, and with counts that leave the others unused. A quiet state that
@@ -106,21 +111,21 @@ tests σ =
     ∷ (used σ ≤? reach)
     ∷ headOk house σ
     ∷ allb controllers (controllerOk house 3 σ)
-    ∷ allb controllers (λ (c : ℕ). σ (LiveCount c) ≤? cond (c <? reach) reach 0)
-    ∷ allb reach (λ (b : ℕ). allb reach (rowOk house 3 σ b))
-    ∷ allb reach (λ (c : ℕ). allb reach (placeOk house 3 σ c))
+    ∷ allb controllers (λ (c : ℕ). σ (LiveCount c) ≤? cond (c <? 3) reach 0)
+    ∷ allb 3 (λ (b : ℕ). allb 3 (rowOk house 3 σ b))
+    ∷ allb 3 (λ (c : ℕ). allb reach (placeOk house 3 σ c))
     ∷ allb reach (messageOk house 3 σ)
     ∷ []
 
 -- a loop passes that passes on the near indices and on each one further on
-every : (n : ℕ) (f : ℕ → Bool) → allb reach f ≡ true → ((i : ℕ) → (i <? reach) ≡ false → f i ≡ true) → allb n f ≡ true
-every n f e far = allb-all f n (λ i h. le? reach i (λ l. far i (le-ltb i reach l)) (λ l. allb-get f reach i e l))
+every : (k n : ℕ) (f : ℕ → Bool) → allb k f ≡ true → ((i : ℕ) → (i <? k) ≡ false → f i ≡ true) → allb n f ≡ true
+every k n f e far = allb-all f n (λ i h. le? k i (λ l. far i (le-ltb i k l)) (λ l. allb-get f k i e l))
 
-grid : (n m : ℕ) (f : ℕ → ℕ → Bool) → allb reach (λ (i : ℕ). allb reach (f i)) ≡ true →
-    ((i j : ℕ) → i < n → ((i <? reach) && (j <? reach)) ≡ false → f i j ≡ true) → allb n (λ (i : ℕ). allb m (f i)) ≡ true
-grid n m f e far =
-    allb-all _ n (λ i h. le? reach i (λ l. allb-all (f i) m (λ j _. far i j h (rw (le-ltb i reach l))))
-    (λ l. every m (f i) (allb-get _ reach i e l) (λ j z. far i j h (rw (z, and-false)))))
+grid : (k n m : ℕ) (f : ℕ → ℕ → Bool) → allb 3 (λ (i : ℕ). allb k (f i)) ≡ true →
+    ((i j : ℕ) → i < n → ((i <? 3) && (j <? k)) ≡ false → f i j ≡ true) → allb n (λ (i : ℕ). allb m (f i)) ≡ true
+grid k n m f e far =
+    allb-all _ n (λ i h. le? 3 i (λ l. allb-all (f i) m (λ j _. far i j h (rw (le-ltb i 3 l))))
+    (λ l. every k m (f i) (allb-get _ 3 i e l) (λ j z. far i j h (rw (z, and-false)))))
 
 -- an index further on is not below a count of near ones
 unused : (x : Bool) (i m : ℕ) → (x && (i <? reach)) ≡ false → (m ≤? cond x reach 0) ≡ true → (i <? m) ≡ false
@@ -132,12 +137,12 @@ unfolding inForm allOf rowOk placeOk messageOk zeros
 in-form σ q e =
     let size = eqb-true (σ Size) 3 (passed (tests σ) 0 e) in
     let few = passed (tests σ) 1 e in
-    let rows = grid controllers controllers (rowOk house 3 σ) (passed (tests σ) 5 e) (λ b a h z.
+    let rows = grid 3 controllers controllers (rowOk house 3 σ) (passed (tests σ) 5 e) (λ b a h z.
     allb-all _ incarnations (λ i _. rw (q .rest (Known b a i) z, q .rest (End b a i) z, leb·zero))) in
-    let chains = grid controllers (house .places) (placeOk house 3 σ) (passed (tests σ) 6 e) (λ c p h z.
-    rw (unused (c <? reach) p _ z (allb-get _ controllers c (passed (tests σ) 4 e) h)) (allb-all _ _ (λ k _. rw (q .rest (OfPlace c p k) z)))) in
-    let records = every (house .messages) (messageOk house 3 σ) (passed (tests σ) 7 e) (λ r z.
-    rw (unused true r _ z few) (allb-all _ _ (λ k _. rw (q .rest (OfMessage r k) (rw z))))) in
+    let chains = grid reach controllers (house .places) (placeOk house 3 σ) (passed (tests σ) 6 e) (λ c p h z.
+    rw (unused (c <? 3) p _ z (allb-get _ controllers c (passed (tests σ) 4 e) h)) (allb-all _ _ (λ k _. rw (q .rest (OfPlace c p k) z)))) in
+    let records = every reach (house .messages) (messageOk house 3 σ) (passed (tests σ) 7 e) (λ r z.
+    rw (unused true r _ z few) (allb-all _ _ (λ k _. rw (q .rest (OfMessage r k) z)))) in
     rw (size, passed (tests σ) 2 e, passed (tests σ) 3 e, rows, chains, records)
 
 -- An opening looks at the ledger's length, and a release at all of its words. That the ledger of a house just opened passes is shown
@@ -181,7 +186,7 @@ goes {σ} {g = g} {m = m} keep f ok e r = next keep f (by-message σ g m ok ∙ 
 
 -- no record further on is among the n in use
 pub further : (n : ℕ) → (n ≤? reach) ≡ true → (inHouse caused : ℕ → Bool) (r : ℕ) → near (MessageState r) ≡ false → (((r <? n) && inHouse r) && caused r) ≡ false
-further n h inHouse caused r z = rw (le-ltb r n (omega (arith, leb-true n reach h, ltb-false r reach (rw and-true at z))))
+further n h inHouse caused r z = rw (le-ltb r n (omega (arith, leb-true n reach h, ltb-false r reach z)))
 
 -- The rules on the way of these lists: `unfolding steps` opens them all.
 unfoldable pub steps : Unit {0}
