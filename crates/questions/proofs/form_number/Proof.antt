@@ -1,12 +1,12 @@
 -- The tests are those of the definition: the length, and then the form, of which a head that isn't in form settles the answer.
-use Rattle.goulvizad.specs.Call.{formNumber}
+use Rattle.questions.specs.Numbers.{formNumber}
 use Rattle.base.specs.Cases.{failed}
 use Rattle.rules.specs.Form.{inForm}
 use mathlib.Core.Path.{sym, _∙_}
 use borrow.Author.Tests.{eq-eqb, ne-eqb, not-true, not-false}
 use borrow.Author.Needs.{needs}
-use Rattle.goulvizad.proofs.goulvizad_in_form.Statement.{statement}
-use Rattle.goulvizad.proofs.goulvizad_in_form.Tie as tie
+use Rattle.questions.proofs.form_number.Statement.{statement}
+use Rattle.questions.proofs.form_number.Tie as tie
 
 returns : tie.Need-returns
 unfolding formNumber
@@ -27,7 +27,7 @@ returns-4 : tie.Need-returns-4
 unfolding formNumber
 returns-4 c = rw (eq-eqb _ _ (c .before .before .before .before .if1 .left), sym (c .before .records-ok .ensures) ∙ c .if3 .left)
 
-pub goulvizad-in-form-spec : {M : Type 1} → statement M
-goulvizad-in-form-spec =
+pub form-number-spec : {M : Type 1} → statement M
+form-number-spec =
     tie.close (tie.spec
     returns (λ c κs. search needs) records-ok-requires returns-2 returns-3 returns-4)

@@ -14,7 +14,7 @@ use Rattle.rules.specs.Limits.{house}
 use Rattle.rules.specs.Form.{inForm}
 use Rattle.laws.specs.Answering.{Lent}
 use Rattle.laws.specs.Chain.{Chain, chain-of}
-use Rattle.goulvizad.specs.Call.{formed, unformed, formNumber, checkpoint, noCheckpoint, checkpointNumber}
+use Rattle.questions.specs.Numbers.{formed, unformed, formNumber, checkpoint, noCheckpoint, checkpointNumber}
 
 -- The form check has returned r: the table is not in form.
 pub not-formed : (t : List ℕ) (c r : ℕ) → r ≡ formNumber t → (r ≡ formed → ⊥) → noCheckpoint ≡ checkpointNumber t c
