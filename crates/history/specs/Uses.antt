@@ -1,6 +1,7 @@
--- Each clause of the public statements is used here once, so that none can be emptied, and no hypothesis narrowed, unseen: what demand 3 gives, what
--- is a message that was sent or that can be delivered, when a crash can be heard, and when a controller was asked. (That the statements hold is
--- proved in the crates `demand` and `paper`, and of which lists they speak in `instances`.)
+-- Uses of the public statements, so that an edit that empties one of these clauses, or narrows one of these hypotheses, is refused here: what
+-- demand 3 gives, what is a message that was sent or that can be delivered, when a crash can be heard, when a controller was asked, and what
+-- "eventually" gives. (Clauses that are not here are used in `demand` and `paper`, where the statements are proved, and in `instances`, where
+-- lists are shown of which they speak.)
 use mathlib.Core.Path.{_≡_, refl, sym, _∙_, ap, subst}
 use mathlib.Core.Bool.{Bool, true, false, true≢false}
 use mathlib.Core.List.{List, _∷_, _++_, append-assoc}
@@ -160,7 +161,11 @@ module _ (t g : List ℕ) (n k : ℕ) (l : List Call) where
     pub eventually-done : (x : Call) → e .more ≡ before ++ x ∷ after → callIn (upTo t g n k (l ++ before)) x .answer ≡ Done
     eventually-done x is = e .each before x after is .1
 
-    -- and is no release
+    -- it brings what it says,
+    pub eventually-then : P (l ++ e .more)
+    eventually-then = e .then
+
+    -- and nothing of it is a release
     pub eventually-unreleased : (m : ℕ) → e .more ≡ before ++ asks (Release m) ∷ after → ⊥
     eventually-unreleased m is = none (asks (Release m)) refl (e .each before (asks (Release m)) after is .0)
       where
