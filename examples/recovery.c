@@ -1,10 +1,10 @@
 /*
  * A crash in a library of four controllers, what follows from it, readings that go out to be cited, a
- * ceiling on replay, and a list of steps in one call, told in words. It comes across every answer, and shows two refusals and the two
- * returns that are no answers.
+ * ceiling on replay, and a list of steps in one call, told in words. It comes across every answer, and
+ * shows two refusals and the two returns that are no answers.
  *
  *     rt staticlib goulvizad
- *     cc examples/recovery.c -Iinclude -Ltarget/staticlib -lgoulvizad -o recovery
+ *     cc examples/recovery.c -Iinclude -Ltarget/staticlib -lgoulvizad -o target/recovery
  */
 #include "goulvizad.h"
 
