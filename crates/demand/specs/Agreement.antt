@@ -1,5 +1,5 @@
--- The history and the table tell the same of each controller, after every step of a list: its degree, its incarnation, which
--- numbers are live, which of them are stable and, where the table is in form, which are flagged; and of Q.
+-- The history and the table tell the same of each controller, after every step of a list: its degree, its incarnation, which numbers are
+-- live, and which of them are stable and flagged; and of Q.
 use mathlib.Core.Path.{_≡_, sym, _∙_, ap}
 use mathlib.Core.Bool.{true}
 use mathlib.Core.List.{List, _++_}
