@@ -124,7 +124,8 @@ extern "C" {
 /*
  * What goulvizad_step and goulvizad_set_gap return, and the values that they write; goulvizad_run writes
  * both for each of its steps. Zeros follow the values, up to the sixth word. A mask has 2 to the power c
- * for each controller c that it names. Kept is the highest number that is kept.
+ * for each controller c that it names. Kept is the highest number that is kept; by GOULVIZAD_ROLLED what
+ * is kept becomes stable, all of it, so that the hearer has to have written it.
  */
 enum {
     GOULVIZAD_DONE = 0,      /* no values: to O, K, L, C and T, and to the gap; to a list of steps */

@@ -65,7 +65,7 @@ pub enum Answer {
         /// Who heard of the crash.
         hearer: u32,
     },
-    /// The hearer has rolled back, and goes on in its next incarnation.
+    /// The hearer has rolled back, and goes on in its next incarnation. What it keeps counts as stable.
     Rolled {
         /// Who heard of the crash.
         hearer: u32,

@@ -1,8 +1,8 @@
--- The paper's theorems, its corollary, and its lemmas, invariants and observation as far as they are proved, by name and under their sentence,
--- for every list of steps from an opening, at its end. (A first part of a list is a list, so they hold at all times.) Not here are Lemma A.6,
--- Invariant A.2 and Claim A.1. A state interval s happened before u where u rests on s; an entry of a vector
--- is a pair; knows_stable and knows_orphan are known words that reach a number, and condemned vectors. Known words and vectors are those
--- of the table, read as a model. docs/COVERAGE.md has them in a table, with what the paper has and this doesn't, and why.
+-- The paper's theorems, corollary, lemmas, invariants and observation, as far as they are proved, by name and under their sentence, for every
+-- list of steps from an opening, at its end. (A first part of a list is a list, so they hold at all times.) Not here are Lemma A.6, Invariant
+-- A.2 and Claim A.1. A state interval s happened before u where u rests on s; an entry of a vector is a pair; knows_stable and knows_orphan are
+-- known words that reach a number, and condemned vectors. Known words and vectors are those of the table, read as a model. docs/COVERAGE.md
+-- has them in a table, with what the paper has and this doesn't, and why.
 use mathlib.Core.Path.{_≡_, sym}
 use mathlib.Core.Bool.{Bool, true, false}
 use mathlib.Core.List.{List, [], _∷_, _++_, append-nil}
