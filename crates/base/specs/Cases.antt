@@ -2,9 +2,8 @@
 use mathlib.Core.Path.{_≡_, refl, sym, ap, _∙_, subst}
 use mathlib.Core.Bool.{Bool, true, false, cond, _&&_, true≢false}
 use mathlib.Core.List.{List, [], _∷_}
-use Prim.Native.Nat.{ℕ, zero, suc, _<_}
+use Prim.Native.Nat.{ℕ, _<_}
 use native.Mathlib.Nat.{not-suc-le-zero}
-use lib.ListN.{getD}
 use borrow.Author.Tests.{ltb-true}
 use Rattle.base.specs.Choice.{_<?_, and-left, and-right}
 
@@ -20,22 +19,25 @@ conj-acc : (acc : Bool) (bs : List Bool) → conj acc bs ≡ true → acc ≡ tr
 conj-acc acc [] e = e
 conj-acc acc (b ∷ bs) e = and-left acc b (conj-acc (acc && b) bs e)
 
-conj-get : (acc : Bool) (bs : List Bool) (i : ℕ) → conj acc bs ≡ true → getD bs i true ≡ true
-conj-get acc [] i e = refl
-conj-get acc (b ∷ bs) zero e = and-right acc b (conj-acc (acc && b) bs e)
-conj-get acc (b ∷ bs) (suc i) e = conj-get (acc && b) bs i e
+-- all tests of a list that passed: a law takes one of them by what it says (`search`), and not by where it stands
+abbrev pub Passed : List Bool → Type 0
+Passed [] = Unit {0}
+Passed (b ∷ bs) = (b ≡ true) × Passed bs
 
--- test i of a list that passed
-pub passed : (bs : List Bool) (i : ℕ) → allOf bs ≡ true → getD bs i true ≡ true
+conj-passed : (acc : Bool) (bs : List Bool) → conj acc bs ≡ true → Passed bs
+conj-passed acc [] e = tt
+conj-passed acc (b ∷ bs) e = (and-right acc b (conj-acc (acc && b) bs e), conj-passed (acc && b) bs e)
+
+pub passed : (bs : List Bool) → allOf bs ≡ true → Passed bs
 unfolding allOf
-passed bs i e = conj-get true bs i e
+passed bs e = conj-passed true bs e
 
 -- one test of a list failed
-pub failed : (bs : List Bool) (i : ℕ) → getD bs i true ≡ false → allOf bs ≡ false
-failed bs i e = go (allOf bs) refl
+pub failed : (bs : List Bool) {b : Bool} → b ≡ false → (Passed bs → b ≡ true) → allOf bs ≡ false
+failed bs e h = go (allOf bs) refl
   where
-    go : (b : Bool) → allOf bs ≡ b → b ≡ false
-    go true q = absurd (true≢false (sym (passed bs i q) ∙ e))
+    go : (all : Bool) → allOf bs ≡ all → all ≡ false
+    go true q = absurd (true≢false (sym (h (passed bs q)) ∙ e))
     go false q = refl
 
 -- a case: when it applies, and its number
@@ -74,11 +76,14 @@ cond-zero : (b : Bool) (n x : ℕ) → (0 <? n) ≡ true → cond b n x ≡ 0 �
 cond-zero true n x h e = absurd (not-suc-le-zero (subst (λ (k : ℕ). 0 < k) e (ltb-true 0 n h)))
 cond-zero false n x h e = (refl, e)
 
--- where the number is 0, no case applies
-pub cleared : (xs : List Case) (i : ℕ) → numbered xs ≡ true → 0 ≡ firstOf xs → getD xs i (false ⇒ 1) .test ≡ false
+-- where the number is 0, no case applies; a law takes one of them by what it says
+abbrev pub NoneApplies : List Case → Type 0
+NoneApplies [] = Unit {0}
+NoneApplies (x ∷ xs) = (x .test ≡ false) × NoneApplies xs
+
+pub cleared : (xs : List Case) → numbered xs ≡ true → 0 ≡ firstOf xs → NoneApplies xs
 unfolding firstOf
-cleared [] i h e = refl
-cleared (x ∷ xs) zero h e = cond-zero (x .test) (x .number) (firstOf xs) (and-left _ (numbered xs) h) (sym e) .0
-cleared (x ∷ xs) (suc i) h e =
-    cleared xs i (and-right (0 <? x .number) (numbered xs) h)
-    (sym (cond-zero (x .test) (x .number) (firstOf xs) (and-left (0 <? x .number) (numbered xs) h) (sym e) .1))
+cleared [] h e = tt
+cleared (x ∷ xs) h e =
+    let z = cond-zero (x .test) (x .number) (firstOf xs) (and-left _ (numbered xs) h) (sym e) in
+    (z .0, cleared xs (and-right (0 <? x .number) (numbered xs) h) (sym (z .1)))

@@ -5,6 +5,8 @@ ghost use lib.ListN.{length};
 ghost use Rattle.base.specs.Cases.{firstOf};
 ghost use Rattle.table.specs.Layout.{controllers, places, tableWords};
 ghost use Rattle.table.specs.Words.{state, words};
+ghost use Rattle.table.specs.Numbering.{lastLive};
+ghost use Rattle.rules.specs.Limits.{lastNumber};
 ghost use Rattle.rules.specs.Shared.{logged, loggedTo, checkpointed, replayed, forced, capped};
 ghost use Rattle.rules.specs.Steps.{gapRefusals, stepGap};
 ghost use Rattle.rules.specs.Step.{out, written};
@@ -15,7 +17,7 @@ use rules::refusal;
 
 // The k oldest live intervals of c are stable.
 pub fn log_to(t: &mut [u32], c: usize, k: u32)
-    requires { ⌜ (length (now t) ≡ tableWords) × Counts (state (now t)) c ⌝ }
+    requires { ⌜ (length (now t) ≡ tableWords) × Counts (state (now t)) c × (k ≤ places) ⌝ }
     ensures { λ _. ⌜ now (t .exit) ≡ words (logged (state (now (t .entry))) c k) ⌝ }
 {
     let i = table::incarnation(t, c) as usize;
@@ -26,7 +28,7 @@ pub fn log_to(t: &mut [u32], c: usize, k: u32)
 
 // The same, if any of them are not yet stable.
 pub fn log_rest(t: &mut [u32], c: usize, k: u32)
-    requires { ⌜ (length (now t) ≡ tableWords) × Counts (state (now t)) c ⌝ }
+    requires { ⌜ (length (now t) ≡ tableWords) × Counts (state (now t)) c × (k ≤ places) ⌝ }
     ensures { λ _. ⌜ now (t .exit) ≡ words (loggedTo (state (now (t .entry))) c k) ⌝ }
 {
     if table::stable_count(t, c) < k {
@@ -46,7 +48,7 @@ pub fn flag_newest(t: &mut [u32], c: usize)
 
 // How many intervals are to be replayed after the k-th.
 pub fn replay(t: &[u32], c: usize, k: u32) -> u32
-    requires { ⌜ (length (now t) ≡ tableWords) × (c < controllers) × (k ≤ places) ⌝ }
+    requires { ⌜ (length (now t) ≡ tableWords) × (c < controllers) × (k ≤ places) × (lastLive (state (now t)) c ≤ lastNumber) ⌝ }
     ensures { λ n. ⌜ n ≡ replayed (state (now (t .entry))) c k ⌝ }
 {
     let x = table::number_of(t, c, k);

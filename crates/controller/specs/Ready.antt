@@ -1,7 +1,7 @@
 -- What the passed refusals of a step say to the function that does it: n is the number that its refusals gave, and it is 0.
 use mathlib.Core.Path.{_≡_, sym, _∙_}
 use mathlib.Core.List.{List}
-use Prim.Native.Nat.{ℕ, _-_, _≤_, _<_}
+use Prim.Native.Nat.{ℕ, _+_, _≤_, _<_}
 use native.Mathlib.Omega.{arith}
 use Rattle.base.specs.Cases.{firstOf}
 use Rattle.table.specs.Field.{Size, LiveCount, StableCount}
@@ -34,8 +34,10 @@ module _ (t : List ℕ) (l : Lent t) (n : ℕ) (z : n ≡ 0) where
   pub log-counts : (c q : ℕ) → n ≡ firstOf (logRefusals (state t) c q) → Counts (state t) c
   log-counts c q e = chain-counts (chain-of t c l (logAllowed (state t) c q (sym z ∙ e) .controller-lt))
 
-  pub log-some : (c q : ℕ) → n ≡ firstOf (logRefusals (state t) c q) → q ≤ state t (LiveCount c) - state t (StableCount c)
-  log-some c q e = logAllowed (state t) c q (sym z ∙ e) .number-le
+  pub log-some : (c q : ℕ) → n ≡ firstOf (logRefusals (state t) c q) → state t (StableCount c) + q ≤ state t (LiveCount c)
+  log-some c q e =
+      let a = logAllowed (state t) c q (sym z ∙ e) in
+      omega (arith, a .number-le, controllerForm (form house (state t) (l .good)) c (a .controller-lt) .stable-le)
 
   -- T: both controllers have their words
   pub tell-owner : (owner holder : ℕ) → n ≡ firstOf (tellRefusals (state t) owner holder) → owner < controllers

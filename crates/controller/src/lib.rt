@@ -58,7 +58,7 @@ pub fn log_refusal(t: &[u32], c: u32, q: u32) -> u32
 
 // The q oldest live intervals of c that are not stable become so.
 pub fn log_oldest(t: &mut [u32], c: usize, q: u32)
-    requires { ⌜ (length (now t) ≡ tableWords) × Counts (state (now t)) c × (q ≤ state (now t) (LiveCount c) - state (now t) (StableCount c)) ⌝ }
+    requires { ⌜ (length (now t) ≡ tableWords) × Counts (state (now t)) c × (state (now t) (StableCount c) + q ≤ state (now t) (LiveCount c)) ⌝ }
     ensures { λ _. ⌜ now (t .exit) ≡ words (logged (state (now (t .entry))) c (state (now (t .entry)) (StableCount c) + q)) ⌝ }
 {
     let stable = table::stable_count(t, c);

@@ -3,11 +3,12 @@ ghost use mathlib.Core.Path.{_≡_};
 ghost use Prim.Native.Nat.{_<_};
 ghost use lib.ListN.{length};
 ghost use Rattle.table.specs.Field.{LiveCount};
-ghost use Rattle.table.specs.Layout.{controllers, places, messages, tableWords};
+ghost use Rattle.table.specs.Layout.{controllers, messages, tableWords};
 ghost use Rattle.table.specs.Words.{state, words};
 ghost use Rattle.rules.specs.Limits.{house};
 ghost use Rattle.rules.specs.Steps.{intervalAdded, intervalBegins, deliver, stepDeliver};
 ghost use Rattle.rules.specs.Step.{out, written};
+ghost use Rattle.laws.specs.Allowed.{Room};
 ghost use Rattle.laws.specs.Answering.{Lent};
 ghost use Rattle.laws.specs.Chain.{Counts, Taken};
 ghost use Rattle.delivery.specs.Delivers.{Spared};
@@ -16,7 +17,7 @@ use rules::refusal;
 
 // The chain of c gets an interval with cause m, in record r, and the merged vector v.
 pub fn add_interval(t: &mut [u32], c: usize, m: u32, r: usize, v: vector::Vector)
-    requires { ⌜ (length (now t) ≡ tableWords) × (c < controllers) × (state (now t) (LiveCount c) < places) × (r < messages) ⌝ }
+    requires { ⌜ (length (now t) ≡ tableWords) × (c < controllers) × Room house (state (now t)) c (state (now t) (LiveCount c)) × (r < messages) ⌝ }
     ensures { λ _. ⌜ now (t .exit) ≡ words (intervalAdded (state (now (t .entry))) c m r v) ⌝ }
 {
     let i = table::incarnation(t, c);
@@ -32,7 +33,7 @@ pub fn add_interval(t: &mut [u32], c: usize, m: u32, r: usize, v: vector::Vector
 
 // This new interval begins, and is checkpointed if the gap asks for it.
 pub fn begin_interval(t: &mut [u32], c: usize, m: u32, r: usize, v: vector::Vector) -> Answer
-    requires { ⌜ (length (now t) ≡ tableWords) × Counts (state (now t)) c × (state (now t) (LiveCount c) < places) × (r < messages) ⌝ }
+    requires { ⌜ (length (now t) ≡ tableWords) × Counts (state (now t)) c × Room house (state (now t)) c (state (now t) (LiveCount c)) × (r < messages) ⌝ }
     ensures { λ a. ⌜ out a (now (t .exit)) ≡ written (intervalBegins (state (now (t .entry))) c m r v) ⌝ }
 {
     let i = table::incarnation(t, c);
@@ -52,7 +53,7 @@ pub fn deliver_spared(t: &mut [u32], m: u32, r: usize, c: usize, sent: vector::V
     if vector::conflict(c, ours, theirs) {
         return Answer::Waits(m);
     }
-    if table::PLACES as u32 <= table::live_count(t, c) {
+    if interval::no_place(t, c, table::live_count(t, c)) {
         return Answer::Refused(refusal::PLACES_USED_UP);
     }
     begin_interval(t, c, m, r, vector::merge_vector(ours, theirs))

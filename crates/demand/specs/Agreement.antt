@@ -8,10 +8,14 @@ use Prim.Native.Nat.{ℕ, _≤_, _<_}
 use native.Mathlib.Omega.{arith}
 use borrow.Author.Tests.{eqb-true, eq-eqb}
 use Rattle.base.specs.Choice.{_==_}
-use Rattle.table.specs.Field.{State, Gap, Degree, Incarnation, LiveCount, StableCount, Flag}
+use Rattle.table.specs.Field.{State, Gap, Degree, Incarnation, StableCount, Flag}
 use Rattle.table.specs.Words.{state}
-use Rattle.table.specs.Numbering.{numberOf, placeOf}
-use Rattle.rules.specs.Step.{Call}
+use Rattle.table.specs.Numbering.{numberOf, lastLive, placeOf}
+use Rattle.rules.specs.Limits.{house}
+use Rattle.rules.specs.Step.{step, Call}
+use Rattle.rules.specs.declared.Answer.the-variants.{Done}
+use Rattle.rules.specs.declared.Command.the-variants.{Open}
+use Rattle.laws.specs.Facts.{form, number-is}
 use Rattle.history.specs.History.{Interval, interval, newest, member}
 use Rattle.history.specs.Demand.{Run, FromOpening, upTo}
 use Rattle.model.specs.Chain.{OnChain, member-chain, chain-member}
@@ -20,10 +24,11 @@ use Rattle.model.specs.Runs.{part}
 use Rattle.image.specs.Reads.{gap-is, degree-is, incarnation-is, live-is, stable-is, flag-is}
 use Rattle.image.specs.Tables.{modelOf, opening-done}
 use Rattle.demand.specs.Demanded.{table-inv, follows}
+use Rattle.demand.specs.InForm.{sound-after}
 
--- the highest live number of c, and the highest stable one, by its counts
-abbrev pub lastLive : State → ℕ → ℕ
-lastLive σ c = numberOf σ c (σ (LiveCount c))
+-- the lowest number of c that isn't discarded, and the highest stable one, by its counts (`lastLive` is the highest live one)
+abbrev pub firstKept : State → ℕ → ℕ
+firstKept σ c = numberOf σ c 1
 
 abbrev pub lastStable : State → ℕ → ℕ
 lastStable σ c = numberOf σ c (σ (StableCount c))
@@ -38,8 +43,8 @@ pub record Agrees (r : Run) (c : ℕ) : Type 0 where
   pub newest-live : newest (r .history .chain c) .number ≡ lastLive (state (r .table)) c
   -- those up to the number that the stable count says are stable, and no others
   pub stable : (y : Interval) → member y (r .history .chain c) ≡ true → (r .history .stable y ≡ true) ↔ (y .number ≤ lastStable (state (r .table)) c)
-  -- W4: those are flagged whose place has the flag 1
-  pub flagged : (y : Interval) → member y (r .history .chain c) ≡ true →
+  -- W4: of those that aren't discarded, and so have a place, those are flagged whose place has the flag 1
+  pub flagged : (y : Interval) → member y (r .history .chain c) ≡ true → firstKept (state (r .table)) c ≤ y .number →
       (r .history .flagged y ≡ true) ↔ (state (r .table) (Flag c (placeOf (state (r .table)) c (y .number))) ≡ 1)
   -- and Q is that of the table
   pub gap : r .history .gap ≡ state (r .table) Gap
@@ -71,7 +76,7 @@ agrees t g n k l O before rest e c below =
         λ u. omega (arith, ok .body .stable-only (y .number) (o .pos) (o .top) (rw (o .is) at u)),
         λ u. rw (o .is) (ok .body .stable-upto (y .number) (o .pos) (omega arith)),
       );
-      flagged = λ y z.
+      flagged = λ y z _.
           let o = on y z in
           let same : h .flagged y ≡ (σ (Flag c (placeOf σ c (y .number))) == 1) =
           ap (h .flagged) (o .is) ∙ v .flags c below (y .number) (o .pos) (o .top)
@@ -79,3 +84,7 @@ agrees t g n k l O before rest e c below =
           (λ u. eqb-true _ 1 (sym same ∙ u), λ u. same ∙ eq-eqb _ 1 u);
       gap = v .gap-is ∙ gap-is σ;
     }
+
+-- Nothing is discarded yet, so that every live interval is one of them.
+pub none-discarded-yet : (t g : List ℕ) (n k : ℕ) → step t g (Open n k) .answer ≡ Done → (l : List Call) (c : ℕ) → firstKept (state (upTo t g n k l .table)) c ≡ 1
+none-discarded-yet t g n k done l c = number-is (form house _ (sound-after t g n k done l .table .good)) c 1

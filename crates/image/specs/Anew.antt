@@ -8,21 +8,22 @@ use Rattle.base.specs.Choice.{_==_, _<?_, cond-ind}
 use Rattle.table.specs.Field.{State, Known, End, OfPlace, Incarnation, LiveCount, StableCount, PlaceIncarnation, Flag, PairIncarnation, PairNumber, word, same}
 use Rattle.table.specs.Change.{put, put-same, clearPlaces, putPart, putStates}
 use Rattle.table.specs.Layout.{controllers, incarnations}
-use Rattle.table.specs.Numbering.{numberOf, placeOf, number-from, number-next, place-lt, place-next, Numbered, numbers-put, numbers-states, numbers-trans}
+use Rattle.table.specs.Numbering.{numberOf, placeOf, number-from, number-next, place-lt, place-next, numbers-put, numbers-states}
 use Rattle.rules.specs.Limits.{lastIncarnation}
 use Rattle.rules.specs.Vector.{pair as pairList, placeVector}
 use Rattle.rules.specs.Shared.{logged, loggedTo, capped, causesIn, causes, newVector, placed, entered, restarted, dropHeld, startAnew, removed}
 use Rattle.rules.specs.Steps.{crashed, noted, rolledBack}
 use Rattle.model.specs.Model.{pair, changedAt₂, Model, putController, capModel, loggedController, endController, noteController, newVec, anewController}
+use Rattle.laws.specs.Numbers.{numbers-loggedTo, numbers-restarted, numbers-noted}
 use Rattle.laws.specs.Facts.{Near}
 use Rattle.laws.specs.Records.{length-filtered, clear-kept, placeVector-of}
 use Rattle.laws.specs.Agree.{live-restarted}
 use Rattle.image.specs.Functions.{inRows, within, within-renewed}
-use Rattle.image.specs.Image.{noVec, vecOf, placeVec, controllerBy, modelController, image, Elsewhere, numbers-elsewhere, controller-path, one-controller, then-controller}
+use Rattle.image.specs.Image.{noVec, vecOf, placeVec, controllerBy, modelController, image, Elsewhere, controller-path, one-controller, then-controller}
 use Rattle.image.specs.Changes.{nothing-else, away-put, away-part, away-clear, known-put, image-states}
 use Rattle.image.specs.Vectors.{set-vec}
 use Rattle.image.specs.Begin.{written, written-incarnation, written-flag, written-vec, written-other, countVector, filtered-count}
-use Rattle.image.specs.Controllers.{image-loggedTo, numbers-loggedTo, image-end, image-noted}
+use Rattle.image.specs.Controllers.{image-loggedTo, image-end, image-noted}
 use Rattle.image.specs.Tests.{Fresh, fresh-kept}
 use Rattle.image.specs.Capped.{Counted, image-capped}
 
@@ -43,10 +44,6 @@ restarted-elsewhere σ c k =
     (away-put c σ _ (LiveCount c) (k + 1) (λ a. a refl)
     (away-put c σ _ (Incarnation c) _ (λ a. a refl)
     (away-part c σ _ (OfPlace c k 0) 0 _ (λ j a. a refl) (away-clear c σ σ k (σ (LiveCount c)) (nothing-else c σ))))))
-
--- so all numbers stay
-pub numbers-restarted : (σ : State) (c k : ℕ) → Numbered (restarted σ c k) σ
-numbers-restarted σ c k = numbers-elsewhere c σ _ (restarted-elsewhere σ c k)
 
 -- "the kept vector filtered for c with c's own pair set to the new interval"
 new-vec : (σ : State) (c k : ℕ) → Starting σ c k → vecOf (newVector σ c k) ≡ newVec c (modelController σ c) (numberOf σ c k)
@@ -161,10 +158,6 @@ image-removed σ c k s z =
     ∙ ap₂ (λ (μ : Model) x. capModel (putController μ c (anewController c (μ .controller c) x)) c) (image-states σ _) (numbers-states σ _ .number c k)
 
 -- a crash noted
-pub numbers-noted : (σ : State) (hearer owner i : ℕ) → Numbered (noted σ hearer owner i) σ
-unfolding noted
-numbers-noted σ hearer owner i = numbers-trans _ _ σ (numbers-put _ (Known hearer owner i) _ refl) (numbers-put σ (End hearer owner i) _ refl)
-
 starting-noted : (σ : State) (c k hearer owner i : ℕ) → Starting σ c k → Starting (noted σ hearer owner i) c k
 unfolding noted put same placeVector
 starting-noted σ c k hearer owner i s = record { named = s .named; kept = s .kept; below = s .below; left = s .left; near = s .near }

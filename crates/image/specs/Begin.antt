@@ -10,7 +10,7 @@ use Rattle.base.specs.Choice.{_==_}
 use Rattle.table.specs.Field.{State, OfPlace, Size, Incarnation, LiveCount, PlaceIncarnation, Flag, PairIncarnation, PairNumber, MessageState, word, placeHead, same}
 use Rattle.table.specs.Change.{put, put-same, putPart}
 use Rattle.table.specs.Layout.{controllers}
-use Rattle.table.specs.Numbering.{numberOf, placeOf, used, recordOf, number-from, number-next, place-lt, place-next, place-of-count, Numbered}
+use Rattle.table.specs.Numbering.{numberOf, placeOf, used, recordOf, number-from, number-next, place-lt, place-next, place-of-count}
 use Rattle.rules.specs.Limits.{Limits}
 use Rattle.rules.specs.Vector.{Vector, pair as pairList, placeVector, messageVector, filtered, merged}
 use Rattle.rules.specs.Form.{stateDelivered}
@@ -20,7 +20,7 @@ use Rattle.model.specs.Model.{pair, Vec, larger, mergedFor, putController, begi
 use Rattle.laws.specs.Facts.{Near, Form, controllerForm, placeForm, messageForm}
 use Rattle.laws.specs.Records.{part-at, part-other, length-filtered, length-merged, length-place-record, placeVector-of}
 use Rattle.image.specs.Functions.{within, within-more}
-use Rattle.image.specs.Image.{noVec, vecOf, placeVec, controllerBy, modelController, image, vec-at, Elsewhere, numbers-elsewhere, controller-path, one-controller}
+use Rattle.image.specs.Image.{noVec, vecOf, placeVec, controllerBy, modelController, image, vec-at, Elsewhere, controller-path, one-controller}
 use Rattle.image.specs.Changes.{nothing-else, away-put, away-part}
 use Rattle.image.specs.Vectors.{place-pairs, length-place, length-message, filter-vec, merge-vec, set-vec, whole-pair}
 use Rattle.image.specs.Reads.{message-vec-is}
@@ -65,10 +65,6 @@ unfolding intervalAdded
 added-elsewhere σ c m r v =
     away-put c σ _ (MessageState r) stateDelivered (λ a. a refl)
     (away-put c σ _ (LiveCount c) _ (λ a. a refl) (away-part c σ σ (OfPlace c (σ (LiveCount c)) 0) 0 _ (λ j a. a refl) (nothing-else c σ)))
-
--- so all numbers stay
-pub numbers-added : (σ : State) (c m r : ℕ) (v : Vector) → Numbered (intervalAdded σ c m r v) σ
-numbers-added σ c m r v = numbers-elsewhere c σ _ (added-elsewhere σ c m r v)
 
 module _ (σ : State) (c m r : ℕ) (v : Vector) (w : Vec) (cl : c < controllers) (l1 : 1 ≤ σ (LiveCount c)) (long : length v ≡ controllers) where
   abbrev live : ℕ

@@ -21,9 +21,8 @@ use Rattle.rules.specs.declared.Command.{Command}
 use Rattle.rules.specs.declared.Command.the-variants.{Open, SetDegree, Send, Release, Deliver, Log, Checkpoint, Tell, Crash, Hear, SetGap}
 use Rattle.history.specs.History.{interval}
 use Rattle.model.specs.Model.{absentController}
-use Rattle.laws.specs.Facts.{Form, form, controllerForm, no-controller}
+use Rattle.laws.specs.Facts.{Form, form, controllerForm, no-controller, house-fits}
 use Rattle.keeping.specs.Steps.{form-kept}
-use Rattle.keeping.specs.Kept.{house-fits}
 use Rattle.laws.specs.Agree.{placeVector-same, messageVector-same}
 use Rattle.image.specs.Functions.{rows-same, within, within-same}
 use Rattle.image.specs.Image.{noVec, vecOf, placeVec, controllerBy, modelController, modelMessage, image, message-kept, controller-path, model-path, renumbered}

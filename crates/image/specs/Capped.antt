@@ -14,12 +14,13 @@ use Rattle.rules.specs.Limits.{lastIncarnation}
 use Rattle.rules.specs.Vector.{placeVector}
 use Rattle.rules.specs.Shared.{newestPlace, logged, loggedTo, checkpointed, latestFlagged, replayed, forced, capped}
 use Rattle.model.specs.Model.{Controller, putController, loggedController, flagController, checkpointController, latest, aboveLatest, forcedModel, capModel}
+use Rattle.laws.specs.Numbers.{numbers-loggedTo}
 use Rattle.laws.specs.Records.{placeVector-of}
 use Rattle.image.specs.Functions.{within, within-last}
 use Rattle.image.specs.Image.{noVec, vecOf, controllerBy, image, controller-path, one-controller, then-controller}
 use Rattle.image.specs.Changes.{nothing-else, away-put}
 use Rattle.image.specs.Reads.{live-is, gap-is, flag-is}
-use Rattle.image.specs.Controllers.{image-loggedTo, numbers-loggedTo}
+use Rattle.image.specs.Controllers.{image-loggedTo}
 use Rattle.image.specs.Tests.{Fresh, fresh-kept}
 
 -- a controller of the house, its incarnation and its live count: what logging and a checkpoint count on, whatever the limits

@@ -3,12 +3,12 @@ use mathlib.Core.Path.{_≡_, refl, sym, ap, ap₂, _∙_, subst, fun-ext}
 use mathlib.Core.Bool.{Bool, true, false, cond}
 use Prim.Native.Nat.{ℕ, _+_, _≤_, _<_, max}
 use native.Mathlib.Omega.{arith}
-use Rattle.base.specs.Choice.{_<?_, cond-ind, le?}
+use Rattle.base.specs.Choice.{_<?_, le?}
 use Rattle.base.specs.Lists.{tab, length-tab, getD-tab}
 use Rattle.table.specs.Field.{State, Known, End, Gap, Degree, Incarnation, StableCount, same}
 use Rattle.table.specs.Change.{put, put-same, putPart}
 use Rattle.table.specs.Layout.{controllers, incarnations}
-use Rattle.table.specs.Numbering.{numberOf, number-ltb, Numbered, numbers-kept, numbers-put, numbers-trans}
+use Rattle.table.specs.Numbering.{numberOf, number-ltb, numbers-put}
 use Rattle.rules.specs.Vector.{placeVector, messageVector}
 use Rattle.rules.specs.Shared.{logged, loggedTo}
 use Rattle.rules.specs.Steps.{toldRow, told, noted}
@@ -62,13 +62,6 @@ image-loggedTo σ c k cl il =
     split : (b : Bool) → image (cond b (logged σ c k) σ) ≡ putController (image σ) c (cond b (logController c (image σ .controller c) x) (image σ .controller c))
     split true = image-logged σ c k cl il
     split false = sym (putController-id (image σ) c)
-
--- it leaves all numbers
-pub numbers-loggedTo : (σ : State) (c k : ℕ) → Numbered (loggedTo σ c k) σ
-unfolding loggedTo logged
-numbers-loggedTo σ c k =
-    cond-ind (λ τ. Numbered τ σ) (σ (StableCount c) <? k)
-    (λ e. numbers-trans _ _ σ (numbers-put _ (Known c c (σ (Incarnation c))) _ refl) (numbers-put σ (StableCount c) k refl)) (λ e. numbers-kept σ σ (λ f _. refl))
 
 -- X, first part: "c's own end word for its incarnation becomes k"
 abbrev pub ended : State → ℕ → State

@@ -8,7 +8,7 @@ use lib.ListN.{getD}
 use borrow.Author.Tests.{eqb-true, eq-eqb, ne-eqb, ltb-true, ltb-false, lt-ltb, le-ltb}
 use Rattle.base.specs.Choice.{_==_, _<?_, and-left, and-right, cond-ind}
 use Rattle.base.specs.Lists.{length-tab}
-use Rattle.table.specs.Field.{State, OfController, Known, OfPlace, Degree, Incarnation, LiveCount, StableCount, PlaceIncarnation, Flag, PairIncarnation, PairNumber, placeHead, word}
+use Rattle.table.specs.Field.{State, OfController, Known, OfPlace, Size, Discarded, Degree, Incarnation, LiveCount, StableCount, PlaceIncarnation, Flag, PairIncarnation, PairNumber, placeHead, word}
 use Rattle.table.specs.Layout.{controllers}
 use Rattle.table.specs.Numbering.{numberOf, placeOf, place-of-number, number-fresh, none-given, none-used}
 use Rattle.rules.specs.Vector.{pair as pairList, noPair}
@@ -32,7 +32,7 @@ words c = placeRecord 0 1 0 1 (firstVector c)
 opened-number : (n k c j : ℕ) → numberOf (openHouse n k) c j ≡ j
 unfolding openHouse
 opened-number n k c j =
-    number-fresh (openHouse n k) c j (λ w l _. cond-ind (λ x. x ≡ 0) (w == 0) (λ e. absurd (let z = eqb-true w 0 e in omega arith)) (λ e. refl))
+    number-fresh (openHouse n k) c j (λ _. rw (ne-eqb (word (Discarded c)) (word Size) (omega arith)))
 
 -- and number 1 stands in place 0
 first-place : (n k c : ℕ) → placeOf (openHouse n k) c 1 ≡ 0

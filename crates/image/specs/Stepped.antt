@@ -20,7 +20,7 @@ use Rattle.rules.specs.Vector.{Vector, pair as pairList, placeVector, messageVe
 use Rattle.rules.specs.Form.{inForm, stateReleased, stateDropped, statePublished, forDesk}
 use Rattle.rules.specs.Ledger.{countOf}
 use Rattle.rules.specs.Shared.{newestPlace, placeRecord, logged, loggedTo, checkpointed, forced, capped, causesIn, causes, placed, entered, restarted, dropHeld, startAnew, removed}
-use Rattle.rules.specs.Steps.{After, after, refusing, AfterBoth, refusingBoth, openHouse, openRefusals, stepOpen, degreeRefusals, stepDegree, sent, noReceiver, sendRefusals, stepSend, messageRefusals, letOut, mayGo, release, releaseRefusals, stepRelease, intervalAdded, intervalBegins, deliver, stepDeliver, logRefusals, stepLog, checkpointRefusals, stepCheckpoint, told, tellRefusals, stepTell, crashed, crashRefusals, stepCrash, noted, lowestCondemned, rolledBack, hear, hearRefusals, stepHear, gapRefusals, stepGap}
+use Rattle.rules.specs.Steps.{After, after, refusing, AfterBoth, refusingBoth, openHouse, openRefusals, stepOpen, degreeRefusals, stepDegree, sent, noReceiver, sendRefusals, stepSend, messageRefusals, letOut, mayGo, release, releaseRefusals, stepRelease, intervalAdded, intervalBegins, chainFull, deliver, stepDeliver, logRefusals, stepLog, checkpointRefusals, stepCheckpoint, told, tellRefusals, stepTell, crashed, crashRefusals, stepCrash, noted, lowestCondemned, rolledBack, hear, hearRefusals, stepHear, gapRefusals, stepGap}
 use Rattle.rules.specs.Step.{perform, looksAtForm, stepOn, Call, asks}
 use Rattle.rules.specs.declared.Answer.{Answer}
 use Rattle.rules.specs.declared.Answer.the-variants.{Sent, Delivered, Crashed, Rolled}
@@ -34,6 +34,7 @@ use Rattle.model.specs.Steps.{Delivers, LetsOut}
 use Rattle.model.specs.Recovery.{HearsOf, notedController, NoneCondemned, LowestCondemned}
 use Rattle.laws.specs.Facts.{Form, form, controllerForm, placeForm, messageForm, released-lt}
 use Rattle.laws.specs.Allowed.{openAllowed, degreeAllowed, sendAllowed, messageAllowed, releaseAllowed, logAllowed, checkpointAllowed, tellAllowed, crashAllowed, hearAllowed, gapAllowed}
+use Rattle.laws.specs.Numbers.{numbers-added, numbers-noted}
 use Rattle.laws.specs.Found.{lowest}
 use Rattle.laws.specs.Records.{length-filtered}
 use Rattle.image.specs.Image.{vecOf, image, putController-own}
@@ -41,12 +42,12 @@ use Rattle.image.specs.Changes.{image-state}
 use Rattle.image.specs.Controllers.{image-degree, image-gap, image-logged, image-told, image-noted}
 use Rattle.image.specs.Open.{image-opened}
 use Rattle.image.specs.Messages.{image-sent, image-letOut}
-use Rattle.image.specs.Begin.{numbers-added, image-begun}
+use Rattle.image.specs.Begin.{image-begun}
 use Rattle.image.specs.Capped.{Counted, replayed-is, image-checkpointed, image-capped}
-use Rattle.image.specs.Anew.{Starting, numbers-noted, image-crashed, image-heard-rolled}
+use Rattle.image.specs.Anew.{Starting, image-crashed, image-heard-rolled}
 use Rattle.image.specs.Vectors.{length-message}
 use Rattle.image.specs.Mask.{named-is}
-use Rattle.image.specs.Tests.{spared, condemned-for, compatible, filtered-is, released-is, sound, sound-noted, filtered-number, Fresh, fresh, fresh-kept, none-condemned, lowest-condemned}
+use Rattle.image.specs.Tests.{spared, condemned-for, compatible, filtered-is, released-is, sound, sound-noted, filtered-number, Fresh, fresh-kept, none-condemned, lowest-condemned}
 use Rattle.image.specs.Reads.{sent-is, degree-is, incarnation-is, live-is, stable-is, ends-is, to-is, from-is, message-vec-is}
 use Rattle.image.specs.Outcome as O
 use Rattle.image.specs.Outcome.{Outcome, Receives}
@@ -261,7 +262,7 @@ module _ (L : Limits) (σ : State) (f : Form L σ) where
       (λ q. outcome-as _ _ (asks (Deliver m)) refl refl (image-state σ r stateDropped)
       (O.dropped m (present-pos σ m l) (was-sent σ f m l) (subst (λ c. c < σ Size) (receiver-is σ f m l) h) (drop-found σ f m l h q)))
       (λ q. cond-ind (Stepped σ (Deliver m)) (conflict c ours theirs) (λ q′. O.waits m)
-      (λ q′. cond-ind (Stepped σ (Deliver m)) (L .places ≤? σ (LiveCount c)) (λ _. O.refused (asks (Deliver m)) PLACES-USED-UP)
+      (λ q′. cond-ind (Stepped σ (Deliver m)) (chainFull L σ c) (λ _. O.refused (asks (Deliver m)) PLACES-USED-UP)
       (λ w. let v = merged ours theirs in
       outcome-as _ _ (asks (Deliver m)) (ap₂ (Delivered m) (sym (incarnation-is σ c cl)) x) (capped-size (intervalAdded σ c m r v) c)
       (image-capped (intervalAdded σ c m r v) c (counted-added σ f c h m r v) (fresh-kept σ _ (numbers-added σ c m r v) z)
@@ -366,24 +367,25 @@ module _ (L : Limits) (σ : State) (f : Form L σ) where
   unfolding stepGap put same
   stepped-gap q = stepped-refusing σ (SetGap q) (gapRefusals q) _ (λ e. outcome-as _ _ (asks (SetGap q)) refl refl (image-gap σ q) (O.gap-set q (gapAllowed q e)))
 
--- after the host's look at the form
-looked : (L : Limits) (σ : State) (g : List ℕ) (x : Command) → looksAtForm x ≡ true → (Form L σ → Fresh σ → SteppedBoth σ x (perform L σ g x)) → SteppedBoth σ x (stepOn L σ g x)
-unfolding stepOn
-looked L σ g x q h =
-    cond-ind (SteppedBoth σ x) (looksAtForm x && not (inForm L σ)) (λ e. O.refused (asks x) FORM)
-    (λ e. let good = not-false (inForm L σ) (subst (λ b. (b && not (inForm L σ)) ≡ false) q e) in h (form L σ good) (fresh L σ good))
+-- after the host's look at the form, in a house of which nothing is discarded
+module _ (L : Limits) (σ : State) (g : List ℕ) (z : inForm L σ ≡ true → Fresh σ) where
+  looked : (x : Command) → looksAtForm x ≡ true → (Form L σ → Fresh σ → SteppedBoth σ x (perform L σ g x)) → SteppedBoth σ x (stepOn L σ g x)
+  unfolding stepOn
+  looked x q h =
+      cond-ind (SteppedBoth σ x) (looksAtForm x && not (inForm L σ)) (λ e. O.refused (asks x) FORM)
+      (λ e. let good = not-false (inForm L σ) (subst (λ b. (b && not (inForm L σ)) ≡ false) q e) in h (form L σ good) (z good))
 
--- every step on a state and a ledger
-pub stepped-state : (L : Limits) (σ : State) (g : List ℕ) (x : Command) → SteppedBoth σ x (stepOn L σ g x)
-unfolding stepOn perform
-stepped-state L σ g (Open n k) = stepped-open L σ g n k
-stepped-state L σ g (SetDegree c k) = looked L σ g (SetDegree c k) refl (λ f z. stepped-degree L σ f c k)
-stepped-state L σ g (Send sender receiver payload) = looked L σ g (Send sender receiver payload) refl (λ f z. stepped-send L σ f sender receiver payload)
-stepped-state L σ g (Release m) = looked L σ g (Release m) refl (λ f z. stepped-release L σ f g m)
-stepped-state L σ g (Deliver m) = looked L σ g (Deliver m) refl (λ f z. stepped-deliver L σ f z m)
-stepped-state L σ g (Log c q) = looked L σ g (Log c q) refl (λ f z. stepped-log L σ f c q)
-stepped-state L σ g (Checkpoint c) = looked L σ g (Checkpoint c) refl (λ f z. stepped-checkpoint L σ f z c)
-stepped-state L σ g (Tell owner holder) = looked L σ g (Tell owner holder) refl (λ f z. stepped-tell L σ f owner holder)
-stepped-state L σ g (Crash c) = looked L σ g (Crash c) refl (λ f z. stepped-crash L σ f z c)
-stepped-state L σ g (Hear hearer owner i) = looked L σ g (Hear hearer owner i) refl (λ f z. stepped-hear L σ f z hearer owner i)
-stepped-state L σ g (SetGap q) = looked L σ g (SetGap q) refl (λ f z. stepped-gap L σ f q)
+  -- every step on a state and a ledger
+  pub stepped-state : (x : Command) → SteppedBoth σ x (stepOn L σ g x)
+  unfolding stepOn perform
+  stepped-state (Open n k) = stepped-open L σ g n k
+  stepped-state (SetDegree c k) = looked (SetDegree c k) refl (λ f z. stepped-degree L σ f c k)
+  stepped-state (Send sender receiver payload) = looked (Send sender receiver payload) refl (λ f z. stepped-send L σ f sender receiver payload)
+  stepped-state (Release m) = looked (Release m) refl (λ f z. stepped-release L σ f g m)
+  stepped-state (Deliver m) = looked (Deliver m) refl (λ f z. stepped-deliver L σ f z m)
+  stepped-state (Log c q) = looked (Log c q) refl (λ f z. stepped-log L σ f c q)
+  stepped-state (Checkpoint c) = looked (Checkpoint c) refl (λ f z. stepped-checkpoint L σ f z c)
+  stepped-state (Tell owner holder) = looked (Tell owner holder) refl (λ f z. stepped-tell L σ f owner holder)
+  stepped-state (Crash c) = looked (Crash c) refl (λ f z. stepped-crash L σ f z c)
+  stepped-state (Hear hearer owner i) = looked (Hear hearer owner i) refl (λ f z. stepped-hear L σ f z hearer owner i)
+  stepped-state (SetGap q) = looked (SetGap q) refl (λ f z. stepped-gap L σ f q)

@@ -20,12 +20,14 @@ use Rattle.rules.specs.declared.Answer.the-variants.{Done}
 use Rattle.rules.specs.declared.Command.{Command}
 use Rattle.rules.specs.declared.Command.the-variants.{Open}
 use Rattle.model.specs.Model.{Model, openModel}
+use Rattle.laws.specs.Facts.{form}
 use Rattle.laws.specs.Allowed.{openAllowed}
 use Rattle.laws.specs.Answering.{not-done}
 use Rattle.image.specs.Image.{image}
 use Rattle.image.specs.Open.{image-opened}
 use Rattle.image.specs.Outcome as O
 use Rattle.image.specs.Outcome.{Outcome}
+use Rattle.image.specs.Tests.{fresh}
 use Rattle.image.specs.Stepped.{outcome-as, stepped-state}
 use Rattle.image.specs.Bounds.{Bounded, bounded-opened, image-same, step-bounded}
 
@@ -54,7 +56,7 @@ unfolding stepCall step lent
 stepped t g (asks x) =
     cond-ind (λ (o : OutBoth). Outcome (sizeOf t) (modelOf t) (asks x) (o .answer) (sizeOf (o .table)) (modelOf (o .table))) (length t == tableWords)
     (λ e. let o = stepOn house (state t) g x in
-    outcome-as _ _ (asks x) refl (word-at (o .left) Size (omega arith)) (image-left t g x (eqb-true (length t) tableWords e)) (stepped-state house (state t) g x))
+    outcome-as _ _ (asks x) refl (word-at (o .left) Size (omega arith)) (image-left t g x (eqb-true (length t) tableWords e)) (stepped-state house (state t) g (λ q. fresh (form house (state t) q)) x))
     (λ e. O.refused (asks x) LENGTH)
 
 -- a house just opened, whatever stood in the table and in the ledger before

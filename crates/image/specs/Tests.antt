@@ -8,9 +8,8 @@ use Rattle.base.specs.Choice.{le?}
 use Rattle.table.specs.Field.{State, End, Size, LiveCount, Sender, same}
 use Rattle.table.specs.Change.{put}
 use Rattle.table.specs.Layout.{controllers}
-use Rattle.table.specs.Numbering.{numberOf, placeOf, used, recordOf, number-from, place-lt, place-next, place-ge, Numbered, number-fresh}
+use Rattle.table.specs.Numbering.{numberOf, placeOf, used, recordOf, number-from, place-lt, place-next, place-ge, Numbered}
 use Rattle.rules.specs.Limits.{Limits}
-use Rattle.rules.specs.Form.{inForm}
 use Rattle.rules.specs.Vector.{Vector, incarnation, number, pairOf, placeVector, messageVector, filtered, condemned, conflict}
 use Rattle.rules.specs.Steps.{noted, lowestCondemned}
 use Rattle.history.specs.History.{Interval}
@@ -18,7 +17,7 @@ use Rattle.model.specs.Model.{Pair, Controller, releasedVec, filtered as filter
 use Rattle.model.specs.Vectors.{Condemned, full-pos}
 use Rattle.model.specs.Beginning.{Compatible}
 use Rattle.model.specs.Recovery.{NoneCondemned, LowestCondemned}
-use Rattle.laws.specs.Facts.{VectorForm, Form, controllerForm, placeForm, messageForm, spare-words}
+use Rattle.laws.specs.Facts.{VectorForm, Form, controllerForm, placeForm, messageForm, number-is}
 use Rattle.laws.specs.Found.{condemned-some, condemned-none, conflict-none, Lowest, lowest}
 use Rattle.image.specs.Image.{vecOf, image, controller-is}
 use Rattle.image.specs.Vectors.{past, length-place, length-message, filter-vec}
@@ -121,9 +120,9 @@ module _ {L : Limits} (σ : State) (c : ℕ) (s : Sound L σ c) (x : ℕ) (x1 : 
 pub record Fresh (σ : State) : Type 0 where
   pub count : (c k : ℕ) → c < controllers → numberOf σ c k ≡ k
 
--- a house in form is one: its spare words are 0
-pub fresh : (L : Limits) (σ : State) → inForm L σ ≡ true → Fresh σ
-fresh L σ e = record { count = λ c k cl. number-fresh σ c k (spare-words L σ e) }
+-- a table in form has one: no word says that anything was
+pub fresh : {L : Limits} {σ : State} → Form L σ → Fresh σ
+fresh f = record { count = λ c k _. number-is f c k }
 
 -- and so is what a change leaves that numbers alike
 pub fresh-kept : (σ τ : State) → Numbered τ σ → Fresh σ → Fresh τ

@@ -6,8 +6,10 @@ ghost use Rattle.table.specs.Field.{OfPlace};
 ghost use Rattle.table.specs.Change.{putPart, clearPlaces};
 ghost use Rattle.table.specs.Layout.{controllers, places, placeWords, tableWords};
 ghost use Rattle.table.specs.Words.{state, words};
+ghost use Rattle.table.specs.Numbering.{lastLive};
+ghost use Rattle.rules.specs.Limits.{house, lastNumber};
 ghost use Rattle.rules.specs.Shared.{placeRecord, latestFlagged};
-ghost use Rattle.rules.specs.Steps.{lowestCondemned};
+ghost use Rattle.rules.specs.Steps.{noPlace, lowestCondemned};
 ghost use Rattle.laws.specs.Chain.{Chain};
 ghost use Rattle.interval.specs.LentPlaces.{zeroWords};
 
@@ -66,9 +68,16 @@ pub fn clear_places(t: &mut [u32], c: usize, p: usize, q: usize)
     clear(&mut t[from..to]);
 }
 
+// Whether no place is left for an interval after the k-th of c.
+pub fn no_place(t: &[u32], c: usize, k: u32) -> bool
+    ensures { λ b. ⌜ b ≡ noPlace house (state (now (t .entry))) c k ⌝ }
+{
+    table::PLACES as u32 <= k
+}
+
 // The number of the latest checkpoint among the first k places of c, or 0.
 pub fn latest_flagged(t: &[u32], c: usize, k: usize) -> u32
-    requires { ⌜ (length (now t) ≡ tableWords) × (c < controllers) × (k ≤ places) ⌝ }
+    requires { ⌜ (length (now t) ≡ tableWords) × (c < controllers) × (k ≤ places) × (lastLive (state (now t)) c ≤ lastNumber) ⌝ }
     ensures { λ x. ⌜ x ≡ latestFlagged (state (now (t .entry))) c k ⌝ }
 {
     let mut p = k;
@@ -84,7 +93,7 @@ pub fn latest_flagged(t: &[u32], c: usize, k: usize) -> u32
 
 // The number of the latest checkpoint among the places up to and with p, from `flagged`, that of the places below p.
 pub fn raise_flagged(t: &[u32], c: usize, p: usize, flagged: u32) -> u32
-    requires { ⌜ (length (now t) ≡ tableWords) × (c < controllers) × (p < places) × (flagged ≡ latestFlagged (state (now t)) c p) ⌝ }
+    requires { ⌜ (length (now t) ≡ tableWords) × (c < controllers) × (p < places) × (flagged ≡ latestFlagged (state (now t)) c p) × (lastLive (state (now t)) c ≤ lastNumber) ⌝ }
     ensures { λ x. ⌜ x ≡ latestFlagged (state (now (t .entry))) c (p + 1) ⌝ }
 {
     if table::flag(t, c, p) == 1 {

@@ -10,17 +10,18 @@ use Rattle.base.specs.Choice.{_==_, le?}
 use Rattle.table.specs.Field.{Field, State, OfHead, OfController, Known, End, OfPlace, OfMessage, Size, Incarnation, LiveCount, StableCount, Receiver, desk, same}
 use Rattle.table.specs.Change.{put, put-same, put-other, putPart, clearPlaces, clear-ind, differs}
 use Rattle.table.specs.Layout.{controllers, placeWords}
-use Rattle.table.specs.Numbering.{numberOf, used, lastGiven, Numbered, numbers-kept, numbering}
+use Rattle.table.specs.Numbering.{numberOf, used, lastGiven, Numbered, numbers-kept, numbering, number-from}
 use Rattle.rules.specs.Limits.{Limits, lastIncarnation}
 use Rattle.rules.specs.Vector.{Vector, pair, placeVector, filtered}
 use Rattle.rules.specs.Form.{stateDelivered, stateOk, vectorOk, controllerOk, placeOk, inForm}
 use Rattle.rules.specs.Shared.{placeRecord, newVector, placed, entered, restarted}
 use Rattle.rules.specs.Steps.{intervalAdded}
 use Rattle.laws.specs.Facts.{Form, form, ControllerForm, below-8, controllerForm, placeForm, no-place}
+use Rattle.laws.specs.Allowed.{Room}
 use Rattle.laws.specs.Records.{part-at, part-other, clear-kept, length-place-record, length-filtered}
 use Rattle.keeping.specs.Untouched.{okAt, Tested, home, form-changed}
 use Rattle.keeping.specs.InRange.{pair-ok, filtered-ok, set-ok, controller-ok, free-ok, place-again, place-new}
-use Rattle.keeping.specs.Changes.{Fitting, number-is, number-le, kept-word}
+use Rattle.keeping.specs.Changes.{kept-word}
 use Rattle.keeping.specs.Messages.{kept-state}
 
 -- the words of controller c and of its places
@@ -109,12 +110,12 @@ anew σ c k =
     let i = σ (Incarnation c) + 1 in
     put (put (put (placed σ c k i (numberOf σ c (k + 1)) (newVector σ c k)) (Incarnation c) i) (LiveCount c) (k + 1)) (StableCount c) (k + 1)
 
-module _ (L : Limits) (fit : Fitting L) (σ : State) (e : inForm L σ ≡ true) where
+module _ (L : Limits) (σ : State) (e : inForm L σ ≡ true) where
   abbrev facts : Form L σ
   facts = form L σ e
 
   -- D: "a new interval begins with cause m and flag 0", in the first free place
-  renewed-added : (c m : ℕ) (v : Vector) → c < σ Size → σ (LiveCount c) < L .places → m ≤ lastGiven σ → length v ≡ controllers → vectorOk L (σ Size) v ≡ true →
+  renewed-added : (c m : ℕ) (v : Vector) → c < σ Size → Room L σ c (σ (LiveCount c)) → m ≤ lastGiven σ → length v ≡ controllers → vectorOk L (σ Size) v ≡ true →
       Renewed L σ (added σ c m v) c (σ (LiveCount c))
   unfolding put same putPart
   renewed-added c m v h room given long ok =
@@ -126,13 +127,13 @@ module _ (L : Limits) (fit : Fitting L) (σ : State) (e : inForm L σ ≡ true) 
         below = omega arith;
         live = count;
         controller =
-            controller-ok L (σ Size) τ c h (k .degree-le) (k .incarnation-le) (omega (arith, count)) (omega (arith, count)) (k .stable-pos) (omega (arith, count, k .stable-le));
+            controller-ok L (σ Size) τ c h (k .degree-le) (k .incarnation-le) (omega (arith, count)) (omega (arith, count, room .place-lt)) (k .stable-pos) (omega (arith, count, k .stable-le));
         place =
             place-new L (σ Size) τ c live i x m 0 (set v c (pair i x))
             (λ j l. part-at σ (OfPlace c live 0) 0 words j j (subst (λ n. j < n) (sym (length-place-record i x m 0 (set v c (pair i x)))) l) (omega arith))
             (omega (arith, count)) (k .incarnation-le) (sym (numbers .number c (live + 1))) (omega (arith, numbers .last)) (omega arith) (λ z. absurd (omega (arith, k .live-pos)))
             (set-ok L (σ Size) v c (pair i x) ok (omega (arith, below-8 facts c h))
-            (pair-ok L (σ Size) c i x h (k .incarnation-le) (omega (arith, number-is L σ e c (live + 1))) (number-le L fit σ e c (live + 1) (omega arith))));
+            (pair-ok L (σ Size) c i x h (k .incarnation-le) (omega (arith, number-from σ c (live + 1))) (room .number-le)));
       }
     where
       live : ℕ
@@ -170,7 +171,7 @@ module _ (L : Limits) (fit : Fitting L) (σ : State) (e : inForm L σ ≡ true) 
       numbers = numbers-kept τ σ (chain-numbers σ τ c others)
 
   -- its message is then delivered
-  pub kept-added : (c m r : ℕ) (v : Vector) → c < σ Size → σ (LiveCount c) < L .places → m ≤ lastGiven σ → r < used σ → σ (Receiver r) ≡ c → length v ≡ controllers →
+  pub kept-added : (c m r : ℕ) (v : Vector) → c < σ Size → Room L σ c (σ (LiveCount c)) → m ≤ lastGiven σ → r < used σ → σ (Receiver r) ≡ c → length v ≡ controllers →
       vectorOk L (σ Size) v ≡ true → inForm L (intervalAdded σ c m r v) ≡ true
   unfolding intervalAdded put same putPart stateOk
   kept-added c m r v h room given l to long ok =
@@ -180,7 +181,7 @@ module _ (L : Limits) (fit : Fitting L) (σ : State) (e : inForm L σ ≡ true) 
       (ap (λ b. stateOk b stateDelivered) (ne-eqb (σ (Receiver r)) desk (λ z. omega (arith, facts .size-le)))) (kept-chain L σ τ c (σ (LiveCount c)) h w e)
 
   -- "Starting anew at c after kept number k"
-  renewed-anew : (c k : ℕ) → c < σ Size → 1 ≤ k → k ≤ σ (LiveCount c) → k < L .places → σ (Incarnation c) < lastIncarnation → Renewed L σ (anew σ c k) c k
+  renewed-anew : (c k : ℕ) → c < σ Size → 1 ≤ k → k ≤ σ (LiveCount c) → Room L σ c k → σ (Incarnation c) < lastIncarnation → Renewed L σ (anew σ c k) c k
   unfolding placed put same putPart newVector clearPlaces
   renewed-anew c k h k1 kl room il =
       record {
@@ -190,7 +191,7 @@ module _ (L : Limits) (fit : Fitting L) (σ : State) (e : inForm L σ ≡ true) 
         below = kl;
         live = count;
         controller =
-            controller-ok L (σ Size) τ c h (q .degree-le) (omega (arith, put-same ρ (Incarnation c) i)) (omega (arith, count)) (omega (arith, count)) (omega (arith, stable))
+            controller-ok L (σ Size) τ c h (q .degree-le) (omega (arith, put-same ρ (Incarnation c) i)) (omega (arith, count)) (omega (arith, count, room .place-lt)) (omega (arith, stable))
             (omega (arith, count, stable));
         place =
             place-new L (σ Size) τ c k i x 0 0 (newVector σ c k)
@@ -198,7 +199,7 @@ module _ (L : Limits) (fit : Fitting L) (σ : State) (e : inForm L σ ≡ true) 
             (omega (arith, count)) (omega arith) (sym (numbers .number c (k + 1))) (omega arith) (omega arith) (λ z. absurd (omega arith))
             (set-ok L (σ Size) (filtered σ c (placeVector σ c (k - 1))) c (pair i x) (filtered-ok L (σ Size) σ c _ (placeForm facts c (k - 1) h (omega arith) .vector-ok))
             (omega (arith, below-8 facts c h, length-filtered σ c (placeVector σ c (k - 1))))
-            (pair-ok L (σ Size) c i x h (omega arith) (omega (arith, number-is L σ e c (k + 1))) (number-le L fit σ e c (k + 1) (omega arith))));
+            (pair-ok L (σ Size) c i x h (omega arith) (omega (arith, number-from σ c (k + 1))) (room .number-le)));
       }
     where
       i : ℕ
@@ -251,9 +252,9 @@ module _ (L : Limits) (fit : Fitting L) (σ : State) (e : inForm L σ ≡ true) 
           (λ g n z. le? (p + 1) (σ (LiveCount c)) (λ u. absurd (n p w (omega arith) (omega arith) z)) (λ u. ap σ z ∙ no-place facts c p w (below-8 facts c h) pl (omega arith) wl))
           (OfPlace c p w) refl
 
-  pub kept-restarted : (c k : ℕ) → c < σ Size → 1 ≤ k → k ≤ σ (LiveCount c) → k < L .places → σ (Incarnation c) < lastIncarnation → inForm L (restarted σ c k) ≡ true
+  pub kept-restarted : (c k : ℕ) → c < σ Size → 1 ≤ k → k ≤ σ (LiveCount c) → Room L σ c k → σ (Incarnation c) < lastIncarnation → inForm L (restarted σ c k) ≡ true
   unfolding restarted entered
   kept-restarted c k h k1 kl room il =
       let w = renewed-anew c k h k1 kl room il in
       let there = subst (λ n. c < n) (sym (w .others Size refl)) h in
-      kept-word L (anew σ c k) c c there there (Known c c _) _ refl refl (number-le L fit σ e c (k + 1) (omega arith)) (kept-chain L σ (anew σ c k) c k h w e)
+      kept-word L (anew σ c k) c c there there (Known c c _) _ refl refl (room .number-le) (kept-chain L σ (anew σ c k) c k h w e)

@@ -10,19 +10,14 @@ use Rattle.base.specs.Choice.{_==_, _<?_, cond-ind}
 use Rattle.base.specs.Ranges.{allb}
 use Rattle.table.specs.Field.{Field, State, OfController, Known, End, Size, Gap, Degree, LiveCount, StableCount, Flag, PairIncarnation, PairNumber, placeHead, word, same}
 use Rattle.table.specs.Change.{put, put-ind, put-same, put-other, putPart, part-ind}
-use Rattle.table.specs.Numbering.{numberOf, number-fresh, numbers-put}
+use Rattle.table.specs.Numbering.{numbers-put}
 use Rattle.rules.specs.Limits.{Limits, lastGap}
 use Rattle.rules.specs.Form.{zeros, vectorOk, highest, rowOk, headZeros, inForm}
 use Rattle.rules.specs.Shared.{newestPlace, logged, loggedTo, checkpointed, forced, capped}
-use Rattle.laws.specs.Facts.{Form, form, below-8, controllerForm, placeForm, known-top, end-top, spare-words}
+use Rattle.laws.specs.Facts.{Fitting, Form, form, below-8, controllerForm, placeForm, known-top, end-top, live-number}
 use Rattle.laws.specs.Records.{placeVector-of}
 use Rattle.keeping.specs.Untouched.{okAt, home, at-one-home, looked, form-put, form-part}
 use Rattle.keeping.specs.InRange.{head-ok, controller-ok, highest-is, row-ok, place-ok}
-
--- Limits that let an interval stand in every place: without them an opening, or a delivery, would leave a number out of its range.
-pub record Fitting (L : Limits) : Type 0 where
-  pub first : 1 ≤ L .places
-  pub numbers : L .places ≤ L .numbers
 
 -- logging writes neither the number of controllers nor a word of a controller but the stable count
 pub logged-size : (σ : State) (c k : ℕ) → loggedTo σ c k Size ≡ σ Size
@@ -34,14 +29,6 @@ unfolding loggedTo logged put same
 logged-word σ c k w ne = cond-ind (λ (τ : State). τ (OfController c w) ≡ σ (OfController c w)) (σ (StableCount c) <? k) (λ _. rw ne) (λ _. refl)
 
 module _ (L : Limits) where
-  -- NUMBERS
-  -- the number of a count, which a pair, a known or an end word may have
-  pub number-is : (σ : State) → inForm L σ ≡ true → (c k : ℕ) → numberOf σ c k ≡ k
-  number-is σ e c k = number-fresh σ c k (spare-words L σ e)
-
-  pub number-le : Fitting L → (σ : State) → inForm L σ ≡ true → (c k : ℕ) → k ≤ L .places → numberOf σ c k ≤ L .numbers
-  number-le fit σ e c k l = omega (arith, number-is σ e c k, fit .numbers)
-
   -- THE HEAD
   -- the gap
   pub kept-gap : (σ : State) (q : ℕ) → q ≤ lastGap → inForm L σ ≡ true → inForm L (put σ Gap q) ≡ true
@@ -131,7 +118,7 @@ module _ (L : Limits) where
     unfolding logged put same
     kept-logged k p l e =
         let w = controllerForm (form L σ e) c h in
-        kept-word (put σ (StableCount c) k) c c h h (Known c c _) _ refl refl (number-le fit σ e c k (omega (arith, w .live-le))) (kept-stable σ c h k p l e)
+        kept-word (put σ (StableCount c) k) c c h h (Known c c _) _ refl refl (live-number (form L σ e) fit c h k l) (kept-stable σ c h k p l e)
 
     -- if any of them are not stable
     pub kept-loggedTo : (k : ℕ) → k ≤ σ (LiveCount c) → inForm L σ ≡ true → inForm L (loggedTo σ c k) ≡ true

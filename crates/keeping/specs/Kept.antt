@@ -18,9 +18,9 @@ use Rattle.rules.specs.Step.{stepOn, lent, step}
 use Rattle.rules.specs.declared.Answer.the-variants.{Done}
 use Rattle.rules.specs.declared.Command.{Command}
 use Rattle.rules.specs.declared.Command.the-variants.{Open}
+use Rattle.laws.specs.Facts.{house-fits}
 use Rattle.laws.specs.Answering.{Lent}
 use Rattle.keeping.specs.Untouched.{headOk-of, controllerOk-of, rowOk-of, placeOk-of, messageOk-of}
-use Rattle.keeping.specs.Changes.{Fitting}
 use Rattle.keeping.specs.Steps.{form-kept, form-opened}
 
 -- The form looks only at words of the table: states with the same words are both in form, or neither is.
@@ -43,10 +43,6 @@ inForm-same σ τ e =
     ∙ allb-ext _ _ messages (λ r rl. messageOk-of house σ τ n r count (λ k l. e (OfMessage r k) (rl, l))) in
     λ d. allOf
     (head d ∷ each d ∷ rows d ∷ chains d ∷ records d ∷ [])
-
--- the limits of a table fit
-pub house-fits : Fitting house
-house-fits = record { first = omega arith; numbers = omega arith }
 
 -- the table of a state in form
 pub lent-words : (σ : State) → inForm house σ ≡ true → Lent (words σ)

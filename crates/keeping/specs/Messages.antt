@@ -23,7 +23,6 @@ use Rattle.laws.specs.Facts.{Form, form, live-named, placeForm, no-place, messa
 use Rattle.laws.specs.Records.{part-at, part-other, length-flat, length-message-record, messageVector-of, record-word}
 use Rattle.keeping.specs.Untouched.{okAt, Tested, form-each, each-form, form-changed, form-put, form-part, home}
 use Rattle.keeping.specs.InRange.{dropped-ok, vector-like, head-ok, free-ok, message-ok, unused-ok, place-again, message-again, message-new}
-use Rattle.keeping.specs.Changes.{number-le}
 
 module _ (L : Limits) where
   -- one state

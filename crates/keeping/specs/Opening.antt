@@ -9,17 +9,17 @@ use borrow.Author.Tests.{eqb-true, ltb-true, lt-ltb, le-ltb, ne-eqb}
 use Rattle.base.specs.Choice.{_==_, _<?_, and-left, and-right, cond-ind, le?}
 use Rattle.base.specs.Ranges.{allb}
 use Rattle.base.specs.Lists.{getD-tab}
-use Rattle.table.specs.Field.{Field, State, OfHead, OfController, Known, End, OfPlace, OfMessage, Size, Degree, Incarnation, LiveCount, StableCount, word}
+use Rattle.table.specs.Field.{Field, State, OfHead, OfController, Known, End, OfPlace, OfMessage, Size, Discarded, Degree, Incarnation, LiveCount, StableCount, word}
 use Rattle.table.specs.Layout.{controllers}
 use Rattle.table.specs.Numbering.{number-fresh, none-used}
 use Rattle.rules.specs.Limits.{Limits}
 use Rattle.rules.specs.Vector.{pair, noPair}
 use Rattle.rules.specs.Form.{zeros, pairOk, vectorOk, controllerOk, highest, rowOk, placeOk, headZeros, inForm}
 use Rattle.rules.specs.Steps.{firstController, firstVector, openHouse}
+use Rattle.laws.specs.Facts.{Fitting}
 use Rattle.laws.specs.Allowed.{OpenAllowed}
 use Rattle.keeping.specs.Untouched.{okAt, Tested, each-form}
 use Rattle.keeping.specs.InRange.{none-ok, pair-ok, vector-of, head-ok, controller-ok, no-controller-ok, highest-is, row-ok, free-ok, place-new, unused-ok}
-use Rattle.keeping.specs.Changes.{Fitting}
 
 module _ (L : Limits) (fit : Fitting L) (n k : ℕ) (w : OpenAllowed n k) where
   abbrev σ : State
@@ -62,7 +62,7 @@ module _ (L : Limits) (fit : Fitting L) (n k : ℕ) (w : OpenAllowed n k) where
   first c h =
       let live : σ (LiveCount c) ≡ 1 = rw (lt-ltb c n h) in
       place-new L n σ c 0 0 1 0 1 (firstVector c) (λ j _. rw (lt-ltb c n h)) (omega arith) (omega arith)
-      (sym (number-fresh σ c 1 (λ j l u. rw (ne-eqb j (word Size) (omega arith))))) (omega arith) (omega arith) (λ _. refl) (vector c h)
+      (sym (number-fresh σ c 1 (λ _. rw (ne-eqb (word (Discarded c)) (word Size) (omega arith))))) (omega arith) (omega arith) (λ _. refl) (vector c h)
 
   -- all others are free
   place : (c p : ℕ) → placeOk L n σ c p ≡ true

@@ -12,23 +12,24 @@ use Rattle.base.specs.Cases.{Case, firstOf}
 use Rattle.table.specs.Field.{State, Known, End, Size, Incarnation, LiveCount, StableCount, Receiver, desk, word, same}
 use Rattle.table.specs.Change.{put, putPart, clearPlaces, putStates}
 use Rattle.table.specs.Layout.{incarnations}
-use Rattle.table.specs.Numbering.{recordOf, present-given}
+use Rattle.table.specs.Numbering.{recordOf, present-given, number-from, numbers-put}
 use Rattle.rules.specs.Limits.{Limits, lastIncarnation}
 use Rattle.rules.specs.Vector.{condemned, conflict}
 use Rattle.rules.specs.Form.{stateHeld, stateReleased, stateDropped, statePublished, forDesk, stateOk, inForm}
 use Rattle.rules.specs.Ledger.{countOf}
 use Rattle.rules.specs.Shared.{newestPlace, loggedTo, causesIn, causes, placed, entered, restarted, startAnew, removed}
-use Rattle.rules.specs.Steps.{After, AfterBoth, refusing, refusingBoth, openRefusals, stepOpen, stepDegree, sent, stepSend, mayGo, release, stepRelease, intervalAdded, intervalBegins, deliver, stepDeliver, stepLog, stepCheckpoint, toldRow, told, stepTell, crashed, stepCrash, noted, lowestCondemned, rolledBack, hear, stepHear, stepGap}
+use Rattle.rules.specs.Steps.{After, AfterBoth, refusing, refusingBoth, openRefusals, stepOpen, stepDegree, sent, stepSend, mayGo, release, stepRelease, intervalAdded, intervalBegins, chainFull, deliver, stepDeliver, stepLog, stepCheckpoint, toldRow, told, stepTell, crashed, stepCrash, noted, lowestCondemned, rolledBack, hear, stepHear, stepGap}
 use Rattle.rules.specs.Step.{perform, looksAtForm, stepOn}
 use Rattle.rules.specs.declared.Answer.the-variants.{Done}
 use Rattle.rules.specs.declared.Command.{Command}
 use Rattle.rules.specs.declared.Command.the-variants.{Open, SetDegree, Send, Release, Deliver, Log, Checkpoint, Tell, Crash, Hear, SetGap}
-use Rattle.laws.specs.Facts.{Form, form, below-8, controllerForm, placeForm, messageForm, released-lt, known-le, end-le}
-use Rattle.laws.specs.Allowed.{openAllowed, degreeAllowed, sendAllowed, messageAllowed, releaseAllowed, logAllowed, checkpointAllowed, tellAllowed, crashAllowed, hearAllowed, gapAllowed}
+use Rattle.laws.specs.Facts.{Fitting, Form, form, below-8, controllerForm, placeForm, messageForm, released-lt, known-le, end-le, live-number}
+use Rattle.laws.specs.Allowed.{openAllowed, degreeAllowed, sendAllowed, messageAllowed, releaseAllowed, logAllowed, checkpointAllowed, tellAllowed, crashAllowed, hearAllowed, gapAllowed, Room, room}
+use Rattle.laws.specs.Numbers.{numbers-loggedTo, numbers-causes, numbers-noted, room-same}
 use Rattle.laws.specs.Records.{length-merged}
 use Rattle.laws.specs.Answering.{not-done}
 use Rattle.keeping.specs.InRange.{held-ok, dropped-ok, filtered-ok, merged-ok}
-use Rattle.keeping.specs.Changes.{Fitting, number-is, number-le, logged-size, logged-word, kept-gap, kept-degree, kept-word, kept-row, kept-logged, kept-loggedTo, kept-checkpointed, kept-capped}
+use Rattle.keeping.specs.Changes.{logged-size, logged-word, kept-gap, kept-degree, kept-word, kept-row, kept-logged, kept-loggedTo, kept-checkpointed, kept-capped}
 use Rattle.keeping.specs.Messages.{kept-state, kept-causes, kept-dropHeld, kept-letOut, kept-posted}
 use Rattle.keeping.specs.Chains.{kept-added, kept-restarted}
 use Rattle.keeping.specs.Opening.{form-open}
@@ -55,10 +56,10 @@ module _ (L : Limits) where
 
   module _ (fit : Fitting L) where
     -- intervals removed from place k on: causes, a start, held messages
-    kept-removed : (σ : State) (c k : ℕ) → c < σ Size → 1 ≤ k → k ≤ σ (LiveCount c) → k < L .places → σ (Incarnation c) < lastIncarnation → In σ → In (removed σ c k)
+    kept-removed : (σ : State) (c k : ℕ) → c < σ Size → 1 ≤ k → k ≤ σ (LiveCount c) → Room L σ c k → σ (Incarnation c) < lastIncarnation → In σ → In (removed σ c k)
     unfolding removed startAnew causes causesIn putStates restarted entered placed put same putPart clearPlaces
     kept-removed σ c k h k1 kl room il e =
-        kept-dropHeld L _ c k (kept-capped L fit (restarted (causes σ c k) c k) c h (kept-restarted L fit (causes σ c k) (kept-causes L σ c k e) c k h k1 kl room il))
+        kept-dropHeld L _ c k (kept-capped L fit (restarted (causes σ c k) c k) c h (kept-restarted L (causes σ c k) (kept-causes L σ c k e) c k h k1 kl (room-same (numbers-causes σ c k .number c (k + 1)) room) il))
 
     module _ (σ : State) (e : In σ) where
       abbrev facts : Form L σ
@@ -77,8 +78,8 @@ module _ (L : Limits) where
           let k = controllerForm facts sender (a .sender-lt) in
           let p = placeForm facts sender (newestPlace σ sender) (a .sender-lt) (omega (arith, k .live-pos)) in
           kept-posted L σ stateHeld sender receiver _ _ payload _ (a .room) (held-ok (receiver == desk)) (a .sender-lt) (named-or-desk (σ Size) receiver (a .receiver-ok)) (p .incarnation-le)
-          (omega (arith, p .number-is, number-is L σ e sender (newestPlace σ sender + 1)))
-          (subst (λ x. x ≤ L .numbers) (sym (p .number-is)) (number-le L fit σ e sender (newestPlace σ sender + 1) (omega (arith, k .live-pos, k .live-le))))
+          (omega (arith, p .number-is, number-from σ sender (newestPlace σ sender + 1)))
+          (subst (λ x. x ≤ L .numbers) (sym (p .number-is)) (live-number facts fit sender (a .sender-lt) (newestPlace σ sender + 1) (omega (arith, k .live-pos))))
           (filtered-ok L (σ Size) σ sender _ (p .vector-ok)) e)
 
       -- R
@@ -105,9 +106,9 @@ module _ (L : Limits) where
           let theirs = filtered-ok L (σ Size) σ c _ (messageForm facts r (a .record-used) .vector-ok) in
           cond-ind (λ (o : After). In (o .left)) (condemned σ c _) (λ _. kept-state L σ r stateDropped (a .record-used) (dropped-ok (forDesk σ r)) e)
           (λ _. cond-ind (λ (o : After). In (o .left)) (conflict c _ _) (λ _. e)
-          (λ _. cond-ind (λ (o : After). In (o .left)) (L .places ≤? σ (LiveCount c)) (λ _. e)
+          (λ _. cond-ind (λ (o : After). In (o .left)) (chainFull L σ c) (λ _. e)
           (λ u. kept-capped L fit _ c h
-          (kept-added L fit σ e c m r _ h (leb-false (L .places) (σ (LiveCount c)) u) (present-given σ m (a .record-used)) (a .record-used) refl (length-merged _ _) (merged-ok L (σ Size) _ _ ours theirs))))))
+          (kept-added L σ e c m r _ h (room L σ facts fit c (σ (LiveCount c)) u) (present-given σ m (a .record-used)) (a .record-used) refl (length-merged _ _) (merged-ok L (σ Size) _ _ ours theirs))))))
 
       -- L
       kept-stepLog : (c q : ℕ) → In (stepLog σ c q .left)
@@ -143,8 +144,9 @@ module _ (L : Limits) where
           kept-refusing _ σ _ e (λ q. let a = crashAllowed L σ c q in
           let h = a .controller-lt in
           let k = controllerForm facts c h in
-          kept-removed _ c (σ (StableCount c)) h (k .stable-pos) (k .stable-le) (a .room) (a .incarnation-lt)
-          (kept-word L σ c c h h (End c c _) _ refl refl (number-le L fit σ e c (σ (StableCount c)) (omega (arith, a .room))) e))
+          let j = σ (StableCount c) in
+          kept-removed _ c j h (k .stable-pos) (k .stable-le) (room-same (numbers-put σ (End c c _) _ refl .number c (j + 1)) (room L σ facts fit c j (a .room))) (a .incarnation-lt)
+          (kept-word L σ c c h h (End c c _) _ refl refl (live-number facts fit c h j (k .stable-le)) e))
 
       -- H
       kept-stepHear : (hearer owner i : ℕ) → In (stepHear σ hearer owner i .left)
@@ -164,8 +166,12 @@ module _ (L : Limits) where
           (λ w. let below = leb-false (σ (LiveCount hearer)) k u in
           let live = logged-word heard hearer k (word (LiveCount hearer)) refl in
           let own = logged-word heard hearer k (word (Incarnation hearer)) refl in
+          let same-number = numbers-loggedTo heard hearer k .number hearer (k + 1) ∙ numbers-noted σ hearer owner i .number hearer (k + 1) in
           kept-removed (loggedTo heard hearer k) hearer k (subst (λ n. hearer < n) (sym (logged-size heard hearer k)) h) (omega arith) (omega arith)
-          (omega (arith, controllerForm facts hearer h .live-le)) (omega (arith, leb-false lastIncarnation (σ (Incarnation hearer)) w))
+          (record {
+            place-lt = omega (arith, controllerForm facts hearer h .live-le);
+            number-le = omega (arith, same-number, live-number facts fit hearer h (k + 1) (omega arith));
+          }) (omega (arith, leb-false lastIncarnation (σ (Incarnation hearer)) w))
           (kept-loggedTo L fit heard hearer h k (omega arith) good))))
 
       -- the gap

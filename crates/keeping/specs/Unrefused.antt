@@ -18,7 +18,7 @@ use Rattle.rules.specs.Refusal.{LENGTH, FORM, LEDGER}
 use Rattle.rules.specs.Vector.{condemned, conflict}
 use Rattle.rules.specs.Form.{forDesk, inForm}
 use Rattle.rules.specs.Ledger.{ledgerWords, countOf, ledgerOk}
-use Rattle.rules.specs.Steps.{After, refuse, AfterBoth, beside, refusing, refusingBoth, openRefusals, stepOpen, stepDegree, stepSend, mayGo, releaseRefusals, release, stepRelease, intervalBegins, deliver, stepDeliver, stepLog, stepCheckpoint, stepTell, stepCrash, hear, stepHear, stepGap}
+use Rattle.rules.specs.Steps.{After, refuse, AfterBoth, beside, refusing, refusingBoth, openRefusals, stepOpen, stepDegree, stepSend, mayGo, releaseRefusals, release, stepRelease, intervalBegins, chainFull, deliver, stepDeliver, stepLog, stepCheckpoint, stepTell, stepCrash, hear, stepHear, stepGap}
 use Rattle.rules.specs.Step.{perform, looksAtForm, stepOn, OutBoth, lent, step}
 use Rattle.rules.specs.declared.Answer.{Answer}
 use Rattle.rules.specs.declared.Answer.the-variants.{Done, Sent, Released, Held, Delivered, Dropped, Waits, Crashed, Heard, Rolled, Refused}
@@ -128,7 +128,7 @@ module _ (L : Limits) (σ : State) (g : List ℕ) where
       let-refusing _ _ refl
       (cond-ind (λ (o : After). Let (o .answer)) (condemned σ _ _) (λ _. refl)
       (λ _. cond-ind (λ (o : After). Let (o .answer)) (conflict _ _ _) (λ _. refl)
-      (λ _. cond-ind (λ (o : After). Let (o .answer)) (L .places ≤? σ (LiveCount _)) (λ _. refl) (λ _. refl))))
+      (λ _. cond-ind (λ (o : After). Let (o .answer)) (chainFull L σ _) (λ _. refl) (λ _. refl))))
 
   let-hear : (hearer owner i : ℕ) → Let (stepHear σ hearer owner i .answer)
   unfolding stepHear hear

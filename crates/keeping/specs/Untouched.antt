@@ -15,6 +15,7 @@ use Rattle.table.specs.Layout.{controllers, incarnations, headWords, controller
 use Rattle.table.specs.Numbering.{numberOf, used, lastGiven, numbering, Numbered, numbers-kept}
 use Rattle.rules.specs.Limits.{Limits, lastIncarnation, lastGap}
 use Rattle.rules.specs.Form.{stateOk, zeros, vectorOk, controllerOk, highest, rowOk, placeOk, messageOk, headZeros, headOk, inForm}
+use Rattle.laws.specs.Facts.{form}
 use Rattle.laws.specs.Records.{part-other, placeVector-of, messageVector-of}
 
 pub zeros-same : (n : ℕ) (f g : ℕ → ℕ) → ((k : ℕ) → k < n → f k ≡ g k) → zeros n f ≡ zeros n g
@@ -124,12 +125,12 @@ Tested L (OfMessage r k) = r < L .messages
 -- the form is that of all records
 pub form-each : (L : Limits) (σ : State) → inForm L σ ≡ true → (f : Field) → Tested L f → okAt L (σ Size) σ f ≡ true
 unfolding inForm okAt
-form-each L σ e (OfHead k) v = passed _ 0 e
-form-each L σ e (OfController c k) v = allb-get _ controllers c (passed _ 1 e) v
-form-each L σ e (Known holder owner i) v = allb-get _ controllers owner (allb-get _ controllers holder (passed _ 2 e) (v .0)) (v .1)
-form-each L σ e (End holder owner i) v = allb-get _ controllers owner (allb-get _ controllers holder (passed _ 2 e) (v .0)) (v .1)
-form-each L σ e (OfPlace c p k) v = allb-get _ (L .places) p (allb-get _ controllers c (passed _ 3 e) (v .0)) (v .1)
-form-each L σ e (OfMessage r k) v = allb-get _ (L .messages) r (passed _ 4 e) v
+form-each L σ e (OfHead k) v = let w = passed _ e in search w
+form-each L σ e (OfController c k) v = allb-get _ controllers c (form L σ e .controllers-ok) v
+form-each L σ e (Known holder owner i) v = allb-get _ controllers owner (allb-get _ controllers holder (form L σ e .rows-ok) (v .0)) (v .1)
+form-each L σ e (End holder owner i) v = allb-get _ controllers owner (allb-get _ controllers holder (form L σ e .rows-ok) (v .0)) (v .1)
+form-each L σ e (OfPlace c p k) v = allb-get _ (L .places) p (allb-get _ controllers c (form L σ e .places-ok) (v .0)) (v .1)
+form-each L σ e (OfMessage r k) v = allb-get _ (L .messages) r (form L σ e .messages-ok) v
 
 pub each-form : (L : Limits) (σ : State) → ((f : Field) → Tested L f → okAt L (σ Size) σ f ≡ true) → inForm L σ ≡ true
 unfolding inForm okAt allOf

@@ -12,10 +12,11 @@ use Rattle.table.specs.Change.{put, put-same}
 use Rattle.table.specs.Layout.{controllers, incarnations, places, messages, valid-pair, valid-message-pair}
 use Rattle.table.specs.Words.{Agree, agree-put, agree-put-to, agree-value, agree-part-to, agree-values, agree-clear-to, agree-cond, agree-states}
 use Rattle.table.specs.Numbering.{numberOf, messageOf, number-same, used-agree, message-agree, posted-agree}
+use Rattle.rules.specs.Limits.{Limits}
 use Rattle.rules.specs.Vector.{Pair, Vector, pair, noPair, incarnation, number, empty, pairOf, placeVector, messageVector, knownStable, filterPair, filtered, condemnedPair, condemned}
 use Rattle.rules.specs.Form.{stateHeld, stateReleased, stateDelivered, stateDropped}
 use Rattle.rules.specs.Shared.{newestPlace, placeRecord, logged, loggedTo, checkpointed, forced, capped, causing, causedIn, causesIn, causes, offeredAgain, newVector, placed, entered, restarted, heldOrDropped, dropHeld, startAnew, latestFlagged, replayed}
-use Rattle.rules.specs.Steps.{messageRecord, sent, intervalAdded, toldRow, told, noted, lowestCondemned}
+use Rattle.rules.specs.Steps.{messageRecord, sent, recordsFull, intervalAdded, noPlace, toldRow, told, noted, lowestCondemned}
 use Rattle.laws.specs.Facts.{Near}
 use Rattle.laws.specs.Records.{placeVector-of, messageVector-of}
 
@@ -29,6 +30,15 @@ module _ (σ τ : State) (e : Agree σ τ) where
 
   pub stable-same : (c : ℕ) → c < controllers → σ (StableCount c) ≡ τ (StableCount c)
   stable-same c cl = e (StableCount c) (cl, omega arith)
+
+  -- whether a record and a place are left
+  pub recordsFull-same : (L : Limits) → recordsFull L σ ≡ recordsFull L τ
+  unfolding recordsFull
+  recordsFull-same L = ap (λ n. L .messages ≤? n) (used-agree σ τ e)
+
+  pub noPlace-same : (L : Limits) (c : ℕ) {j k : ℕ} → c < controllers → j ≡ k → noPlace L σ c j ≡ noPlace L τ c k
+  unfolding noPlace
+  noPlace-same L c cl q = ap (λ k. L .places ≤? k) q
 
   -- the state of a message
   pub state-same : (r : ℕ) → r < messages → σ (MessageState r) ≡ τ (MessageState r)

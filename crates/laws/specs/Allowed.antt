@@ -1,20 +1,21 @@
 -- What a step may count on where none of its refusals applies, in a house of any limits.
 use mathlib.Core.Path.{_≡_, refl}
-use mathlib.Core.Bool.{true, false, _||_}
+use mathlib.Core.Bool.{true, false}
 use mathlib.Core.List.{List}
 use mathlib.Core.Logic.{_≢_}
-use Prim.Native.Nat.{ℕ, _-_, _≤_, _<_}
+use Prim.Native.Nat.{ℕ, _+_, _-_, _≤_, _<_}
 use native.Mathlib.Omega.{arith}
-use borrow.Author.Tests.{leb-false, ltb-false, eqb-true, eqb-false, not-false}
-use Rattle.base.specs.Choice.{_==_, _<?_, or-left, or-right}
+use borrow.Author.Tests.{leb-true, leb-false, ltb-false, eqb-true, eqb-false, not-false}
+use Rattle.base.specs.Choice.{_==_, or-left, or-right}
 use Rattle.base.specs.Cases.{firstOf, cleared}
 use Rattle.table.specs.Field.{State, End, Size, Incarnation, LiveCount, StableCount, MessageState}
 use Rattle.table.specs.Layout.{controllers}
-use Rattle.table.specs.Numbering.{used}
+use Rattle.table.specs.Numbering.{numberOf, used, number-from}
 use Rattle.rules.specs.Limits.{Limits, lastIncarnation, lastGap}
 use Rattle.rules.specs.Form.{stateHeld}
 use Rattle.rules.specs.Ledger.{ledgerOk}
-use Rattle.rules.specs.Steps.{noController, noReceiver, openRefusals, degreeRefusals, sendRefusals, messageRefusals, releaseRefusals, logRefusals, checkpointRefusals, tellRefusals, crashRefusals, hearRefusals, gapRefusals}
+use Rattle.rules.specs.Steps.{noReceiver, openRefusals, degreeRefusals, recordsFull, sendRefusals, messageRefusals, releaseRefusals, noPlace, logRefusals, checkpointRefusals, tellRefusals, crashFull, crashRefusals, hearRefusals, gapRefusals}
+use Rattle.laws.specs.Facts.{Form, Fitting, number-is}
 
 -- O
 pub record OpenAllowed (n k : ℕ) : Type 0 where
@@ -29,13 +30,8 @@ pos x e = let ne : x ≢ 0 = eqb-false x 0 e in omega arith
 -- no refusal of O applies
 pub openAllowed : (L : Limits) (g : List ℕ) (n k : ℕ) → 0 ≡ firstOf (openRefusals L g n k) → OpenAllowed n k
 openAllowed L g n k e =
-    let q = cleared _ 1 refl e in
-    let r = or-left ((n == 0) || (controllers <? n)) _ q in
-    record {
-      size-pos = pos n (or-left (n == 0) _ r);
-      size-le = ltb-false _ _ (or-right (n == 0) _ r);
-      degree-le = ltb-false _ _ (or-right ((n == 0) || (controllers <? n)) _ q);
-    }
+    let w = cleared _ refl e in
+    record { size-pos = pos n (search (w, or-left)); size-le = ltb-false _ _ (search (w, or-left, or-right)); degree-le = ltb-false _ _ (search (w, or-right)) }
 
 module _ (σ : State) where
   -- K
@@ -45,7 +41,7 @@ module _ (σ : State) where
 
   -- no refusal of K applies
   pub degreeAllowed : (c k : ℕ) → 0 ≡ firstOf (degreeRefusals σ c k) → DegreeAllowed c k
-  degreeAllowed c k e = record { controller-lt = leb-false _ _ (cleared _ 0 refl e); degree-le = ltb-false _ _ (cleared _ 1 refl e) }
+  degreeAllowed c k e = let w = cleared _ refl e in record { controller-lt = leb-false _ _ (search w); degree-le = ltb-false _ _ (search w) }
 
   -- R and D: record r is in use, and its message in the state that is wanted
   pub record MessageAllowed (r wanted : ℕ) : Type 0 where
@@ -55,7 +51,8 @@ module _ (σ : State) where
   -- no refusal of R or D by its message applies
   pub messageAllowed : (r wanted : ℕ) → 0 ≡ firstOf (messageRefusals σ r wanted) → MessageAllowed r wanted
   messageAllowed r wanted e =
-      record { record-used = leb-false _ _ (cleared _ 0 refl e); state-is = eqb-true _ _ (not-false _ (cleared _ 1 refl e)) }
+      let w = cleared _ refl e in
+      record { record-used = leb-false _ _ (search w); state-is = eqb-true _ _ (not-false _ (search w)) }
 
   -- L
   pub record LogAllowed (c q : ℕ) : Type 0 where
@@ -66,15 +63,16 @@ module _ (σ : State) where
   -- no refusal of L applies
   pub logAllowed : (c q : ℕ) → 0 ≡ firstOf (logRefusals σ c q) → LogAllowed c q
   logAllowed c q e =
+      let w = cleared _ refl e in
       record {
-        controller-lt = leb-false _ _ (cleared _ 0 refl e);
-        number-pos = pos q (or-left (q == 0) _ (cleared _ 1 refl e));
-        number-le = ltb-false _ _ (or-right (q == 0) _ (cleared _ 1 refl e));
+        controller-lt = leb-false _ _ (search w);
+        number-pos = pos q (search (w, or-left));
+        number-le = ltb-false _ _ (search (w, or-right));
       }
 
   -- no refusal of C applies
   pub checkpointAllowed : (c : ℕ) → 0 ≡ firstOf (checkpointRefusals σ c) → c < σ Size
-  checkpointAllowed c e = leb-false _ _ (cleared _ 0 refl e)
+  checkpointAllowed c e = let w = cleared _ refl e in leb-false _ _ (search w)
 
   -- T
   pub record TellAllowed (owner holder : ℕ) : Type 0 where
@@ -85,10 +83,11 @@ module _ (σ : State) where
   -- no refusal of T applies
   pub tellAllowed : (owner holder : ℕ) → 0 ≡ firstOf (tellRefusals σ owner holder) → TellAllowed owner holder
   tellAllowed owner holder e =
+      let w = cleared _ refl e in
       record {
-        owner-lt = leb-false _ _ (or-left (noController σ owner) _ (cleared _ 0 refl e));
-        holder-lt = leb-false _ _ (or-right (noController σ owner) _ (cleared _ 0 refl e));
-        differ = eqb-false owner holder (cleared _ 1 refl e);
+        owner-lt = leb-false _ _ (search (w, or-left));
+        holder-lt = leb-false _ _ (search (w, or-right));
+        differ = eqb-false owner holder (search w);
       }
 
   -- H
@@ -102,16 +101,36 @@ module _ (σ : State) where
   -- no refusal of H applies, but for the last
   pub hearAllowed : (hearer owner i : ℕ) → 0 ≡ firstOf (hearRefusals σ hearer owner i) → HearAllowed hearer owner i
   hearAllowed hearer owner i e =
+      let w = cleared _ refl e in
       record {
-        hearer-lt = leb-false _ _ (or-left (noController σ hearer) _ (cleared _ 0 refl e));
-        owner-lt = leb-false _ _ (or-right (noController σ hearer) _ (cleared _ 0 refl e));
-        incarnation-le = ltb-false _ _ (or-left (lastIncarnation <? i) _ (cleared _ 1 refl e));
-        own-end = eqb-false _ _ (or-right (lastIncarnation <? i) _ (cleared _ 1 refl e));
-        unheard = eqb-true _ _ (not-false _ (cleared _ 2 refl e));
+        hearer-lt = leb-false _ _ (search (w, or-left));
+        owner-lt = leb-false _ _ (search (w, or-right));
+        incarnation-le = ltb-false _ _ (search (w, or-left));
+        own-end = eqb-false _ _ (search (w, or-right));
+        unheard = eqb-true _ _ (not-false _ (search w));
       }
 
--- S, R and X are also refused by a limit of the house
+-- S, R, D and X are also refused by a limit of the house
 module _ (L : Limits) (σ : State) where
+  -- 11 does not apply: a record is left
+  pub records-left : recordsFull L σ ≡ false → used σ < L .messages
+  unfolding recordsFull
+  records-left e = leb-false _ _ e
+
+  -- 12 does not apply: an interval after the k-th of c has its place and its number
+  pub record Room (c k : ℕ) : Type 0 where
+    pub place-lt : k < L .places
+    pub number-le : numberOf σ c (k + 1) ≤ L .numbers
+
+  pub room : Form L σ → Fitting L → (c k : ℕ) → noPlace L σ c k ≡ false → Room c k
+  unfolding noPlace
+  room f fit c k e = let l = leb-false _ _ e in record { place-lt = l; number-le = omega (arith, number-is f c (k + 1), fit .numbers) }
+
+  -- it applies: the k-th has a number from the last place's on
+  pub no-place-number : (c k : ℕ) → noPlace L σ c k ≡ true → L .places ≤ numberOf σ c k
+  unfolding noPlace
+  no-place-number c k e = omega (arith, leb-true (L .places) k e, number-from σ c k)
+
   -- S
   pub record SendAllowed (s r : ℕ) : Type 0 where
     pub sender-lt : s < σ Size
@@ -122,33 +141,36 @@ module _ (L : Limits) (σ : State) where
   -- no refusal of S applies
   pub sendAllowed : (s r : ℕ) → 0 ≡ firstOf (sendRefusals L σ s r) → SendAllowed s r
   sendAllowed s r e =
+      let w = cleared _ refl e in
       record {
-        sender-lt = leb-false _ _ (or-left (noController σ s) _ (cleared _ 0 refl e));
-        receiver-ok = or-right (noController σ s) _ (cleared _ 0 refl e);
-        differ = eqb-false s r (cleared _ 1 refl e);
-        room = leb-false _ _ (cleared _ 2 refl e);
+        sender-lt = leb-false _ _ (search (w, or-left));
+        receiver-ok = search (w, or-right);
+        differ = eqb-false s r (search w);
+        room = records-left (search w);
       }
 
   -- no refusal of R applies: neither by its message nor by the ledger
   pub releaseAllowed : (g : List ℕ) (r : ℕ) → 0 ≡ firstOf (releaseRefusals L σ g r) → MessageAllowed σ r stateHeld × (ledgerOk L g ≡ true)
   releaseAllowed g r e =
-      (record { record-used = leb-false _ _ (cleared _ 1 refl e); state-is = eqb-true _ _ (not-false _ (cleared _ 2 refl e)) }, not-false _ (cleared _ 0 refl e))
+      let w = cleared _ refl e in
+      (record { record-used = leb-false _ _ (search w); state-is = eqb-true _ _ (not-false _ (search w)) }, not-false _ (search w))
 
   -- X
   pub record CrashAllowed (c : ℕ) : Type 0 where
     pub controller-lt : c < σ Size
-    pub room : σ (StableCount c) < L .places
+    pub room : crashFull L σ c ≡ false
     pub incarnation-lt : σ (Incarnation c) < lastIncarnation
 
   -- no refusal of X applies
   pub crashAllowed : (c : ℕ) → 0 ≡ firstOf (crashRefusals L σ c) → CrashAllowed c
   crashAllowed c e =
+      let w = cleared _ refl e in
       record {
-        controller-lt = leb-false _ _ (cleared _ 0 refl e);
-        room = leb-false _ _ (cleared _ 1 refl e);
-        incarnation-lt = leb-false _ _ (cleared _ 2 refl e);
+        controller-lt = leb-false _ _ (search w);
+        room = search w;
+        incarnation-lt = leb-false _ _ (search w);
       }
 
 -- no refusal of the step that sets the gap applies
 pub gapAllowed : (q : ℕ) → 0 ≡ firstOf (gapRefusals q) → q ≤ lastGap
-gapAllowed q e = ltb-false _ _ (cleared _ 0 refl e)
+gapAllowed q e = let w = cleared _ refl e in ltb-false _ _ (search w)

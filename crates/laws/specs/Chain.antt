@@ -13,15 +13,16 @@ use Rattle.table.specs.Field.{Field, State, OfHead, OfController, Known, End, O
 use Rattle.table.specs.Change.{put, put-ind, put-same, putPart, putStates, states-ind}
 use Rattle.table.specs.Layout.{controllers, places, messages}
 use Rattle.table.specs.Words.{state, words, agree-words}
-use Rattle.table.specs.Numbering.{numberOf, used, numbering, numbers-kept, used-agree}
-use Rattle.rules.specs.Limits.{house, lastIncarnation}
+use Rattle.table.specs.Numbering.{numberOf, lastLive, used, numbering, numbers-kept, number-from, number-same, used-agree}
+use Rattle.rules.specs.Limits.{house, lastIncarnation, lastNumber}
 use Rattle.rules.specs.Vector.{Vector, pair, placeVector, messageVector}
 use Rattle.rules.specs.Form.{stateReleased}
-use Rattle.rules.specs.Shared.{placeRecord, logged, loggedTo, causesIn, causes, newVector, placed, entered, restarted}
-use Rattle.rules.specs.Steps.{intervalAdded, noted, messageRefusals, releaseRefusals}
-use Rattle.laws.specs.Facts.{Near, Form, form, below-8, controllerForm, placeForm, messageForm, released-lt, no-message, message-near}
+use Rattle.rules.specs.Shared.{placeRecord, logged, loggedTo, checkpointed, forced, capped, causesIn, causes, newVector, placed, entered, restarted}
+use Rattle.rules.specs.Steps.{chainFull, intervalAdded, noted, messageRefusals, releaseRefusals}
+use Rattle.laws.specs.Facts.{Near, Form, form, below-8, controllerForm, placeForm, messageForm, released-lt, no-message, message-near, house-fits, numbers-le}
 use Rattle.laws.specs.Records.{placeVector-of, messageVector-of}
-use Rattle.laws.specs.Allowed.{messageAllowed, releaseAllowed}
+use Rattle.laws.specs.Allowed.{messageAllowed, releaseAllowed, Room, room}
+use Rattle.laws.specs.Numbers.{numbers-capped, numbers-added, numbers-restarted, room-same}
 use Rattle.laws.specs.Agree.{incarnation-same, live-same, placeVector-same, messageVector-same, live-restarted}
 use Rattle.laws.specs.Answering.{Lent}
 
@@ -29,12 +30,13 @@ use Rattle.laws.specs.Answering.{Lent}
 abbrev pub Unsent : State → Type 0
 Unsent σ = (r : ℕ) → r < messages → used σ ≤ r → σ (SendingNumber r) ≡ 0
 
--- a controller of the house, its incarnation and its live count: what logging and a checkpoint count on
+-- a controller of the house, its incarnation, its live count and its numbers: what logging and a checkpoint count on
 pub record Counts (σ : State) (c : ℕ) : Type 0 where
   pub named : c < controllers
   pub incarnation-le : σ (Incarnation c) ≤ lastIncarnation
   pub live-pos : 1 ≤ σ (LiveCount c)
   pub live-le : σ (LiveCount c) ≤ places
+  pub numbers-le : lastLive σ c ≤ lastNumber
 
 -- and its chain
 pub record Chain (σ : State) (c : ℕ) : Type 0 where
@@ -42,6 +44,7 @@ pub record Chain (σ : State) (c : ℕ) : Type 0 where
   pub incarnation-le : σ (Incarnation c) ≤ lastIncarnation
   pub live-pos : 1 ≤ σ (LiveCount c)
   pub live-le : σ (LiveCount c) ≤ places
+  pub numbers-le : lastLive σ c ≤ lastNumber
   pub first-flag : σ (Flag c 0) ≡ 1
   pub near : (p : ℕ) → p < σ (LiveCount c) → Near (placeVector σ c p)
   pub used-le : used σ ≤ messages
@@ -57,6 +60,7 @@ chain-form σ c f h =
       incarnation-le = k .incarnation-le;
       live-pos = k .live-pos;
       live-le = k .live-le;
+      numbers-le = numbers-le f house-fits c h;
       first-flag = placeForm f c 0 h (k .live-pos) .first-flag refl;
       near = λ p q. placeForm f c p h q .vector .near;
       used-le = f .used-le;
@@ -65,25 +69,54 @@ chain-form σ c f h =
     }
 
 pub chain-counts : {σ : State} {c : ℕ} → Chain σ c → Counts σ c
-chain-counts w = record { named = w .named; incarnation-le = w .incarnation-le; live-pos = w .live-pos; live-le = w .live-le }
+chain-counts w = record { named = w .named; incarnation-le = w .incarnation-le; live-pos = w .live-pos; live-le = w .live-le; numbers-le = w .numbers-le }
 
--- a table with the words of σ has the counts of σ
+-- so has a state with the same incarnation, live count and numbers
+counts-same : {σ τ : State} {c : ℕ} → τ (Incarnation c) ≡ σ (Incarnation c) → τ (LiveCount c) ≡ σ (LiveCount c) → ((k : ℕ) → numberOf τ c k ≡ numberOf σ c k) →
+    Counts σ c → Counts τ c
+counts-same {σ} {τ} {c} own live number w =
+    let last = number (τ (LiveCount c)) ∙ ap (numberOf σ c) live in
+    record {
+      named = w .named;
+      incarnation-le = omega (arith, w .incarnation-le);
+      live-pos = omega (arith, w .live-pos);
+      live-le = omega (arith, w .live-le);
+      numbers-le = omega (arith, last, w .numbers-le);
+    }
+
+-- a table with the words of σ
 pub counts-words : (σ : State) (c : ℕ) {t : List ℕ} → t ≡ words σ → Counts σ c → Counts (state t) c
 counts-words σ c {t} q w =
     let e = agree-words σ q in
-    let live = live-same (state t) σ e c (w .named) in
-    let own = incarnation-same (state t) σ e c (w .named) in
-    record { named = w .named; incarnation-le = omega (arith, w .incarnation-le); live-pos = omega (arith, w .live-pos); live-le = omega (arith, w .live-le) }
+    let cl = w .named in
+    counts-same (incarnation-same (state t) σ e c cl) (live-same (state t) σ e c cl) (λ k. number-same (state t) σ e c k cl) w
 
--- an interval more, where there is a place for it
-pub counts-added : (σ : State) (c m r : ℕ) (v : Vector) → Counts σ c → σ (LiveCount c) < places → Counts (intervalAdded σ c m r v) c
+-- one in which a checkpoint was made, if it was due
+pub counts-capped : (σ : State) (c : ℕ) → Counts σ c → Counts (capped σ c) c
+unfolding capped checkpointed loggedTo logged put same
+counts-capped σ c = counts-same (kept (word (Incarnation c)) refl) (kept (word (LiveCount c)) refl) (numbers-capped σ c .number c)
+  where
+    kept : (k : ℕ) → (k == word (StableCount c)) ≡ false → capped σ c (OfController c k) ≡ σ (OfController c k)
+    kept k n =
+        cond-ind (λ (τ : State). τ (OfController c k) ≡ σ (OfController c k)) (forced σ c)
+        (λ _. cond-ind (λ (τ : State). τ (OfController c k) ≡ σ (OfController c k)) (σ (StableCount c) <? σ (LiveCount c)) (λ _. rw n) (λ _. refl)) (λ _. refl)
+
+-- an interval more, where there is room for it
+pub counts-added : (σ : State) (c m r : ℕ) (v : Vector) → Counts σ c → Room house σ c (σ (LiveCount c)) → Counts (intervalAdded σ c m r v) c
 unfolding intervalAdded put same putPart
 counts-added σ c m r v w room =
     let i = σ (Incarnation c) in
     let live = σ (LiveCount c) in
     let x = numberOf σ c (live + 1) in
     let n : intervalAdded σ c m r v (LiveCount c) ≡ live + 1 = put-same (putPart σ (OfPlace c live 0) 0 (placeRecord i x m 0 (set v c (pair i x)))) (LiveCount c) (live + 1) in
-    record { named = w .named; incarnation-le = w .incarnation-le; live-pos = omega arith; live-le = omega arith }
+    let last = ap (numberOf (intervalAdded σ c m r v) c) n ∙ numbers-added σ c m r v .number c (live + 1) in
+    record {
+      named = w .named;
+      incarnation-le = w .incarnation-le;
+      live-pos = omega arith;
+      live-le = omega (arith, room .place-lt);
+      numbers-le = omega (arith, last, room .number-le);
+    }
 
 pub chain-of : (t : List ℕ) (c : ℕ) → Lent t → c < state t Size → Chain (state t) c
 chain-of t c l h = chain-form (state t) c (form house (state t) (l .good)) h
@@ -110,12 +143,15 @@ pub chain-kept : (σ τ : State) (c : ℕ) → ((f : Field) → onChain f ≡ tr
 chain-kept σ τ c h w =
     let live : τ (LiveCount c) ≡ σ (LiveCount c) = h (LiveCount c) refl in
     let own : τ (Incarnation c) ≡ σ (Incarnation c) = h (Incarnation c) refl in
-    let count : used τ ≡ used σ = numbers-kept τ σ (λ f e. h f (numbering-on f e)) .used-same in
+    let numbers = numbers-kept τ σ (λ f e. h f (numbering-on f e)) in
+    let count = numbers .used-same in
+    let k = counts-same own live (numbers .number c) (chain-counts w) in
     record {
-      named = w .named;
-      incarnation-le = omega (arith, w .incarnation-le);
-      live-pos = omega (arith, w .live-pos);
-      live-le = omega (arith, w .live-le);
+      named = k .named;
+      incarnation-le = k .incarnation-le;
+      live-pos = k .live-pos;
+      live-le = k .live-le;
+      numbers-le = k .numbers-le;
       first-flag = h (Flag c 0) refl ∙ w .first-flag;
       near = λ p l. subst Near (sym (vector-of p)) (w .near p (omega arith));
       used-le = omega (arith, w .used-le);
@@ -155,12 +191,13 @@ pub chain-words : (σ : State) (c : ℕ) {t : List ℕ} → t ≡ words σ → C
 chain-words σ c {t} q w =
     let e = agree-words σ q in
     let live = live-same (state t) σ e c (w .named) in
-    let own = incarnation-same (state t) σ e c (w .named) in
+    let k = counts-words σ c q (chain-counts w) in
     record {
-      named = w .named;
-      incarnation-le = omega (arith, w .incarnation-le);
-      live-pos = omega (arith, w .live-pos);
-      live-le = omega (arith, w .live-le);
+      named = k .named;
+      incarnation-le = k .incarnation-le;
+      live-pos = k .live-pos;
+      live-le = k .live-le;
+      numbers-le = k .numbers-le;
       first-flag = e (Flag c 0) (w .named, omega arith, omega arith) ∙ w .first-flag;
       near = λ p l. subst Near (sym (placeVector-same (state t) σ e c p (w .named) (omega (arith, w .live-le)))) (w .near p (omega arith));
       used-le = omega (arith, used-agree (state t) σ e, w .used-le);
@@ -168,11 +205,16 @@ chain-words σ c {t} q w =
       unsent = λ r l u. e (SendingNumber r) (l, omega arith) ∙ w .unsent r l (omega (arith, used-agree (state t) σ e));
     }
 
+-- a live place has room for an interval
+pub room-live : {σ : State} {c k : ℕ} → Chain σ c → k < σ (LiveCount c) → Room house σ c k
+room-live {σ} {c} {k} w l =
+    record { place-lt = omega (arith, w .live-le); number-le = omega (arith, number-from σ c (k + 1), number-from σ c (σ (LiveCount c)), w .numbers-le) }
+
 -- what starting anew at c after its k-th interval counts on
 pub record Starts (σ : State) (c k : ℕ) : Type 0 where
   pub chain : Chain σ c
   pub kept : 1 ≤ k
-  pub room : k < places
+  pub room : Room house σ c k
   pub below : k ≤ σ (LiveCount c)
   pub left : σ (Incarnation c) < lastIncarnation
 
@@ -183,7 +225,14 @@ counts-restarted σ c k s =
     let i = σ (Incarnation c) + 1 in
     let own : restarted σ c k (Incarnation c) ≡ i = put-same (placed σ c k i (numberOf σ c (k + 1)) (newVector σ c k)) (Incarnation c) i in
     let live = live-restarted σ c k in
-    record { named = s .chain .named; incarnation-le = omega (arith, s .left); live-pos = omega arith; live-le = omega (arith, s .room) }
+    let last = ap (numberOf (restarted σ c k) c) live ∙ numbers-restarted σ c k .number c (k + 1) in
+    record {
+      named = s .chain .named;
+      incarnation-le = omega (arith, s .left);
+      live-pos = omega arith;
+      live-le = omega (arith, s .room .place-lt);
+      numbers-le = omega (arith, last, s .room .number-le);
+    }
 
 -- a change of words that it does not look at keeps what starting anew counts on
 pub starts-kept : (σ τ : State) (c k : ℕ) → ((f : Field) → onChain f ≡ true → τ f ≡ σ f) → Starts σ c k → Starts τ c k
@@ -193,7 +242,7 @@ starts-kept σ τ c k h s =
     record {
       chain = chain-kept σ τ c h (s .chain);
       kept = s .kept;
-      room = s .room;
+      room = room-same (numbers-kept τ σ (λ f e. h f (numbering-on f e)) .number c (k + 1)) (s .room);
       below = omega (arith, s .below);
       left = omega (arith, s .left);
     }
@@ -213,7 +262,13 @@ starts-words σ c k {t} q s =
     let e = agree-words σ q in
     let live = live-same (state t) σ e c (s .chain .named) in
     let own = incarnation-same (state t) σ e c (s .chain .named) in
-    record { chain = chain-words σ c q (s .chain); kept = s .kept; room = s .room; below = omega (arith, s .below); left = omega (arith, s .left) }
+    record {
+      chain = chain-words σ c q (s .chain);
+      kept = s .kept;
+      room = room-same (number-same (state t) σ e c (k + 1) (s .chain .named)) (s .room);
+      below = omega (arith, s .below);
+      left = omega (arith, s .left);
+    }
 
 -- causes got their states; intervals were logged, if any
 pub starts-causes : (σ : State) (c k j : ℕ) → Starts σ c k → Starts (causes σ c j) c k
@@ -230,12 +285,13 @@ starts-loggedTo σ c k j s =
 pub record Taken (σ : State) (r : ℕ) : Type 0 where
   pub record-lt : r < messages
   pub receiver : Chain σ (σ (Receiver r))
+  pub room : chainFull house σ (σ (Receiver r)) ≡ false → Room house σ (σ (Receiver r)) (σ (LiveCount (σ (Receiver r))))
 
 pub taken : (t : List ℕ) (r : ℕ) → Lent t → 0 ≡ firstOf (messageRefusals (state t) r stateReleased) → Taken (state t) r
 taken t r l e =
     let f = form house (state t) (l .good) in
     let a = messageAllowed (state t) r stateReleased e in
-    record { record-lt = omega (arith, f .used-le, a .record-used); receiver = chain-of t _ l (released-lt f r (a .record-used) (a .state-is)) }
+    record { record-lt = omega (arith, f .used-le, a .record-used); receiver = chain-of t _ l (released-lt f r (a .record-used) (a .state-is)); room = room house (state t) f house-fits _ _ }
 
 -- R: the same; its receiver may be the desk
 pub record Releasable (σ : State) (r : ℕ) : Type 0 where

@@ -8,17 +8,25 @@ use borrow.Author.Tests.{leb-true, ltb-true, eqb-true, lt-ltb, le-ltb}
 use Rattle.base.specs.Choice.{_==_, _≤?_, _<?_, and-left, and-right, cond-ind, le?}
 use Rattle.base.specs.Ranges.{allb, allb-get}
 use Rattle.base.specs.Lists.{getD-tab}
-use Rattle.base.specs.Cases.{passed}
-use Rattle.table.specs.Field.{State, OfHead, OfController, OfPlace, Known, End, OfMessage, Size, Degree, Incarnation, LiveCount, StableCount, PlaceIncarnation, PlaceNumber, Cause, Flag, MessageState, Sender, Receiver, SendingIncarnation, SendingNumber, MessagePairIncarnation, Gap, word, spareFrom, spareAgain}
+use Rattle.base.specs.Cases.{passed, failed}
+use Rattle.table.specs.Field.{State, OfHead, OfController, OfPlace, Known, End, OfMessage, Size, Degree, Incarnation, LiveCount, StableCount, PlaceIncarnation, PlaceNumber, Cause, Flag, MessageState, Sender, Receiver, SendingIncarnation, SendingNumber, MessagePairIncarnation, Discarded, Gap, word, spareFrom, spareAgain}
 use Rattle.table.specs.Layout.{controllers, incarnations, headWords, controllerWords, placeWords, messageWords}
-use Rattle.table.specs.Numbering.{numberOf, used, lastGiven}
-use Rattle.rules.specs.Limits.{Limits, lastIncarnation, lastGap}
+use Rattle.table.specs.Numbering.{numberOf, lastLive, used, lastGiven, number-from, number-fresh}
+use Rattle.rules.specs.Limits.{Limits, house, lastIncarnation, lastGap}
 use Rattle.rules.specs.Vector.{Pair, Vector, incarnation, number, pairOf, placeVector, messageVector}
 use Rattle.rules.specs.Form.{stateReleased, forDesk, stateOk, zeros, pairOk, vectorOk, controllerOk, highest, rowOk, placeOk, messageOk, headZeros, headOk, inForm}
 
 -- every incarnation of a vector has a word in the rows of known and end words
 abbrev pub Near : Vector → Type 0
 Near v = (a : ℕ) → a < controllers → incarnation (pairOf v a) < incarnations
+
+-- Limits that let an interval stand in every place: without them an opening, or a delivery, would leave a number out of its range.
+pub record Fitting (L : Limits) : Type 0 where
+  pub first : 1 ≤ L .places
+  pub numbers : L .places ≤ L .numbers
+
+pub house-fits : Fitting house
+house-fits = record { first = omega arith; numbers = omega arith }
 
 -- a table in form: the words of its head, and the tests of the rest
 pub record Form (L : Limits) (σ : State) : Type 0 where
@@ -37,19 +45,26 @@ pub record Form (L : Limits) (σ : State) : Type 0 where
 pub form : (L : Limits) (σ : State) → inForm L σ ≡ true → Form L σ
 unfolding inForm headOk
 form L σ e =
-    let head = passed _ 0 e in
+    let w = passed _ e in
+    let head : headOk L σ ≡ true = search w in
+    let h = passed _ head in
     record {
-      size-pos = leb-true _ _ (passed _ 0 head);
-      size-le = leb-true _ _ (passed _ 1 head);
-      used-le = leb-true _ _ (passed _ 2 head);
-      spare-ok = passed _ 3 head;
-      gap-le = leb-true _ _ (passed _ 4 head);
-      again-ok = passed _ 5 head;
-      controllers-ok = passed _ 1 e;
-      rows-ok = passed _ 2 e;
-      places-ok = passed _ 3 e;
-      messages-ok = passed _ 4 e;
+      size-pos = leb-true _ _ (search h);
+      size-le = leb-true _ _ (search h);
+      used-le = leb-true _ _ (search h);
+      spare-ok = search h;
+      gap-le = leb-true _ _ (search h);
+      again-ok = search h;
+      controllers-ok = search w;
+      rows-ok = search w;
+      places-ok = search w;
+      messages-ok = search w;
     }
+
+-- a head that isn't in form settles it
+pub no-head : (L : Limits) (σ : State) → headOk L σ ≡ false → inForm L σ ≡ false
+unfolding inForm
+no-head L σ e = failed _ e (λ w. search w)
 
 -- words in a row that are 0
 zeros-get : (k : ℕ) (word : ℕ → ℕ) (i : ℕ) → zeros k word ≡ true → i < k → word i ≡ 0
@@ -81,17 +96,17 @@ pair-form : (L : Limits) (n a : ℕ) (p : Pair) → pairOk L n a p ≡ true → 
 unfolding pairOk
 pair-form L n a p e =
     le? (a + 1) n
-    (λ l. let q = rw (lt-ltb a n (omega arith)) at e in
+    (λ l. let w = passed _ (rw (lt-ltb a n (omega arith)) at e) in
     record {
-      incarnation-le = leb-true _ _ (passed _ 1 q);
-      number-le = leb-true _ _ (passed _ 0 q);
-      empty-incarnation = λ z. eqb-true _ _ (or-else (number p) _ (passed _ 2 q) z);
+      incarnation-le = leb-true _ _ (search w);
+      number-le = leb-true _ _ (search w);
+      empty-incarnation = λ z. eqb-true _ _ (or-else (number p) _ (search w) z);
       beyond-number = λ g. absurd (omega arith);
       beyond-incarnation = λ g. absurd (omega arith);
     })
-    (λ l. let q = rw (le-ltb a n (omega arith)) at e in
-    let x = eqb-true (number p) 0 (passed _ 0 q) in
-    let t = eqb-true (incarnation p) 0 (passed _ 1 q) in
+    (λ l. let w = passed _ (rw (le-ltb a n (omega arith)) at e) in
+    let x = eqb-true (number p) 0 (search w) in
+    let t = eqb-true (incarnation p) 0 (search w) in
     record { incarnation-le = omega arith; number-le = omega arith; empty-incarnation = λ z. t; beyond-number = λ g. x; beyond-incarnation = λ g. t })
 
 -- a vector whose pairs all passed
@@ -148,14 +163,14 @@ module _ {L : Limits} {σ : State} (f : Form L σ) where
   pub controllerForm : (c : ℕ) → c < σ Size → ControllerForm L σ c
   unfolding controllerOk
   controllerForm c h =
-      let e = rw (lt-ltb c (σ Size) h) at (allb-get (controllerOk L (σ Size) σ) controllers c (f .controllers-ok) (omega arith)) in
+      let w = passed _ (rw (lt-ltb c (σ Size) h) at (allb-get (controllerOk L (σ Size) σ) controllers c (f .controllers-ok) (omega arith))) in
       record {
-        degree-le = leb-true _ _ (passed _ 0 e);
-        incarnation-le = leb-true _ _ (passed _ 1 e);
-        live-pos = leb-true _ _ (passed _ 2 e);
-        live-le = leb-true _ _ (passed _ 3 e);
-        stable-pos = leb-true _ _ (passed _ 4 e);
-        stable-le = leb-true _ _ (passed _ 5 e);
+        degree-le = leb-true _ _ (search w);
+        incarnation-le = leb-true _ _ (search w);
+        live-pos = leb-true _ _ (search w);
+        live-le = leb-true _ _ (search w);
+        stable-pos = leb-true _ _ (search w);
+        stable-le = leb-true _ _ (search w);
       }
 
   -- a controller that is not of the house has none but zero words, so that one with a live interval is
@@ -176,15 +191,15 @@ module _ {L : Limits} {σ : State} (f : Form L σ) where
   pub placeForm : (c p : ℕ) → c < σ Size → p < σ (LiveCount c) → PlaceForm L σ c p
   unfolding placeOk
   placeForm c p h l =
-      let e = rw (lt-ltb _ _ l) at (place-ok c p (omega arith) (omega (arith, controllerForm c h .live-le))) in
+      let w = passed _ (rw (lt-ltb _ _ l) at (place-ok c p (omega arith) (omega (arith, controllerForm c h .live-le)))) in
       record {
-        incarnation-le = leb-true _ _ (passed _ 0 e);
-        number-is = eqb-true _ _ (passed _ 1 e);
-        cause-le = leb-true _ _ (passed _ 2 e);
-        flag-le = leb-true _ _ (passed _ 3 e);
-        first-flag = λ z. eqb-true _ _ (or-else p _ (passed _ 4 e) z);
-        vector-ok = passed _ 5 e;
-        vector = vectorForm _ _ _ (passed _ 5 e);
+        incarnation-le = leb-true _ _ (search w);
+        number-is = eqb-true _ _ (search w);
+        cause-le = leb-true _ _ (search w);
+        flag-le = leb-true _ _ (search w);
+        first-flag = λ z. eqb-true _ _ (or-else p _ (search w) z);
+        vector-ok = search w;
+        vector = vectorForm _ _ _ (search w);
       }
 
   -- the words of a free place
@@ -196,16 +211,16 @@ module _ {L : Limits} {σ : State} (f : Form L σ) where
   pub messageForm : (r : ℕ) → r < used σ → MessageForm L σ r
   unfolding messageOk
   messageForm r l =
-      let e = rw (lt-ltb _ _ l) at (allb-get (messageOk L (σ Size) σ) (L .messages) r (f .messages-ok) (omega arith)) in
+      let w = passed _ (rw (lt-ltb _ _ l) at (allb-get (messageOk L (σ Size) σ) (L .messages) r (f .messages-ok) (omega arith))) in
       record {
-        state-ok = passed _ 0 e;
-        sender-lt = ltb-true _ _ (passed _ 1 e);
-        receiver-ok = passed _ 2 e;
-        incarnation-le = leb-true _ _ (passed _ 3 e);
-        number-pos = leb-true _ _ (passed _ 4 e);
-        number-le = leb-true _ _ (passed _ 5 e);
-        vector-ok = passed _ 6 e;
-        vector = vectorForm _ _ _ (passed _ 6 e);
+        state-ok = search w;
+        sender-lt = ltb-true _ _ (search w);
+        receiver-ok = search w;
+        incarnation-le = leb-true _ _ (search w);
+        number-pos = leb-true _ _ (search w);
+        number-le = leb-true _ _ (search w);
+        vector-ok = search w;
+        vector = vectorForm _ _ _ (search w);
       }
 
   -- W2: "A message for receiver 8 has state 1, 5 or 6": a released one goes to a controller
@@ -274,9 +289,21 @@ module _ {L : Limits} {σ : State} (f : Form L σ) where
   pub no-end : (holder owner i : ℕ) → holder < controllers → owner < controllers → i < incarnations → (holder < σ Size → owner < σ Size → ⊥) → σ (End holder owner i) ≡ 0
   no-end holder owner i hl ol il out = omega (arith, top-none holder owner out, end-top holder owner i hl ol il)
 
--- the words of the head before the gap that have no meaning yet
-pub spare-words : (L : Limits) (σ : State) → inForm L σ ≡ true → (k : ℕ) → spareFrom ≤ k → k < word Gap → σ (OfHead k) ≡ 0
-unfolding headZeros
-spare-words L σ e k l u =
-    let q : spareFrom + (k - spareFrom) ≡ k = omega arith in
-    rw q at (zeros-get (word Gap - spareFrom) (λ (k : ℕ). σ (OfHead (spareFrom + k))) (k - spareFrom) (form L σ e .spare-ok) (omega arith))
+  -- NUMBERS
+  -- no interval is discarded, so that numbers are counts
+  pub none-discarded : (c : ℕ) → c < controllers → σ (Discarded c) ≡ 0
+  unfolding headZeros
+  none-discarded c l =
+      let q : spareFrom + (word (Discarded c) - spareFrom) ≡ word (Discarded c) = omega arith in
+      rw q at (zeros-get (word Gap - spareFrom) (λ (k : ℕ). σ (OfHead (spareFrom + k))) (word (Discarded c) - spareFrom) (f .spare-ok) (omega arith))
+
+  pub number-is : (c k : ℕ) → numberOf σ c k ≡ k
+  number-is c k = number-fresh σ c k (none-discarded c)
+
+  -- the bound of a controller's numbers: that of its newest live interval is at most the last number
+  pub numbers-le : Fitting L → (c : ℕ) → c < σ Size → lastLive σ c ≤ L .numbers
+  numbers-le fit c h = omega (arith, number-is c (σ (LiveCount c)), controllerForm c h .live-le, fit .numbers)
+
+  -- so are those of the others
+  pub live-number : Fitting L → (c : ℕ) → c < σ Size → (k : ℕ) → k ≤ σ (LiveCount c) → numberOf σ c k ≤ L .numbers
+  live-number fit c h k l = omega (arith, number-from σ c k, number-from σ c (σ (LiveCount c)), numbers-le fit c h)

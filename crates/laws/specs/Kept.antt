@@ -18,7 +18,7 @@ then-capped σ c w e q =
 -- a start
 agree-start : (σ τ : State) (c k : ℕ) → Starts σ c k → Agree σ τ → Agree (startAnew σ c k) (startAnew τ c k)
 agree-start σ τ c k s e =
-    agree-startAnew σ τ e c k (s .chain .named) (s .room) (s .kept) (s .chain .near (k - 1) (omega (arith, s .kept, s .below)))
+    agree-startAnew σ τ e c k (s .chain .named) (s .room .place-lt) (s .kept) (s .chain .near (k - 1) (omega (arith, s .kept, s .below)))
 
 -- a start was made on a table with the words of σ
 pub then-start : (σ : State) (c k : ℕ) {t u : List ℕ} → Starts σ c k → t ≡ words σ → u ≡ words (startAnew (state t) c k) → u ≡ words (startAnew σ c k)

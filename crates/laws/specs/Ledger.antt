@@ -25,12 +25,13 @@ module _ (L : Limits) where
   pub ledgerForm : (g : List ℕ) → ledgerOk L g ≡ true → LedgerForm g
   unfolding ledgerOk zeros
   ledgerForm g e =
+      let w = passed _ e in
       record {
-        long = eqb-true _ _ (passed _ 0 e);
-        count-le = leb-true _ _ (passed _ 1 e);
+        long = eqb-true _ _ (search w);
+        count-le = leb-true _ _ (search w);
         unused = λ i l u. let next = entryAt (countOf g) in
             let q : next + (i - next) ≡ i = omega arith in
-            ap (λ j. getD g j 0) (sym q) ∙ eqb-true _ _ (allb-get (λ (k : ℕ). getD g (next + k) 0 == 0) (ledgerWords L - next) (i - next) (passed _ 2 e) (omega arith));
+            ap (λ j. getD g j 0) (sym q) ∙ eqb-true _ _ (allb-get (λ (k : ℕ). getD g (next + k) 0 == 0) (ledgerWords L - next) (i - next) (search w) (omega arith));
       }
 
   -- and back

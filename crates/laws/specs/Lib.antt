@@ -1,6 +1,7 @@
 pub mod Facts
 pub mod Records
 pub mod Allowed
+pub mod Numbers
 pub mod Agree
 pub mod Chain
 pub mod Found

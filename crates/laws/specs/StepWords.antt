@@ -16,7 +16,7 @@ use Rattle.rules.specs.Vector.{Vector, messageVector, flat, condemned, conflict
 use Rattle.rules.specs.Form.{inForm, forDesk, stateReleased, stateDelivered, stateDropped, statePublished}
 use Rattle.rules.specs.Ledger.{countOf}
 use Rattle.rules.specs.Shared.{logged, loggedTo, checkpointed, forced, capped, causedIn, offeredAgain, causesIn, causes, placed, entered, restarted, orphaned, heldOrDropped, dropHeld, startAnew, removed}
-use Rattle.rules.specs.Steps.{After, AfterBoth, refusing, refusingBoth, openHouse, stepOpen, stepDegree, sent, stepSend, letOut, mayGo, release, stepRelease, intervalAdded, intervalBegins, deliver, stepDeliver, stepLog, stepCheckpoint, told, stepTell, crashed, stepCrash, noted, rolledBack, hear, stepHear, stepGap}
+use Rattle.rules.specs.Steps.{After, AfterBoth, refusing, refusingBoth, openHouse, stepOpen, stepDegree, sent, stepSend, letOut, mayGo, release, stepRelease, intervalAdded, intervalBegins, chainFull, deliver, stepDeliver, stepLog, stepCheckpoint, told, stepTell, crashed, stepCrash, noted, rolledBack, hear, stepHear, stepGap}
 use Rattle.rules.specs.Step.{perform, looksAtForm, stepOn}
 use Rattle.rules.specs.declared.Command.{Command}
 use Rattle.rules.specs.declared.Command.the-variants.{Open, SetDegree, Send, Release, Deliver, Log, Checkpoint, Tell, Crash, Hear, SetGap}
@@ -138,7 +138,7 @@ module _ (P : Field → ℕ → Type 0) (w : Writable P) where
         (let kept : After → Type 0 = λ o. Every (o .left) in
         cond-ind kept (condemned σ _ _) (λ _. every-put (MessageState _) stateDropped (w .dropped _) h)
         (λ _. cond-ind kept (conflict _ _ _) (λ _. h)
-        (λ _. cond-ind kept (L .places ≤? σ (LiveCount _)) (λ _. h)
+        (λ _. cond-ind kept (chainFull L σ _) (λ _. h)
         (λ _. every-capped _ (every-put (MessageState _) stateDelivered (w .delivered _)
         (every-put (LiveCount _) _ (w .controller _ _ _) (every-part (OfPlace _ _ 0) 0 _ (λ i. w .place _ _ _ _) h)))))))
 

@@ -23,7 +23,7 @@ use Rattle.rules.specs.Vector.{placeVector, messageVector, flat, knownStable, f
 use Rattle.rules.specs.Form.{stateHeld, stateOk, zeros, pairOk, vectorOk, controllerOk, highest, rowOk, placeOk, messageOk, headZeros, headOk, inForm}
 use Rattle.rules.specs.Ledger.{ledgerWords, ledgerOk, blankLedger}
 use Rattle.rules.specs.Shared.{newestPlace, placeRecord, logged, loggedTo, checkpointed, forced, capped, causing, causedIn, causesIn, causes, offeredAgain, newVector, placed, entered, restarted, heldOrDropped, dropHeld, startAnew, removed, latestFlagged, replayed}
-use Rattle.rules.specs.Steps.{AfterBoth, afterBoth, refusing, refusingBoth, openHouse, stepOpen, messageRecord, sent, stepSend, messageRefusals, letOut, mayGo, release, stepRelease, intervalAdded, intervalBegins, deliver, stepDeliver, stepLog, crashed, stepCrash, noted, lowestCondemned, rolledBack, hear, stepHear, stepGap}
+use Rattle.rules.specs.Steps.{AfterBoth, afterBoth, refusing, refusingBoth, openHouse, stepOpen, messageRecord, sent, recordsFull, stepSend, messageRefusals, letOut, mayGo, release, stepRelease, intervalAdded, intervalBegins, noPlace, deliver, stepDeliver, stepLog, crashed, stepCrash, noted, lowestCondemned, rolledBack, hear, stepHear, stepGap}
 use Rattle.rules.specs.Step.{perform, stepOn}
 use Rattle.laws.specs.Ledger.{blank-sound}
 use Rattle.rules.specs.declared.Answer.{Answer}
@@ -135,15 +135,19 @@ unused false i m z l = le-ltb i m (omega (arith, leb-true m 0 l))
 pub in-form : (σ : State) → Quiet σ → allOf (tests σ) ≡ true → inForm house σ ≡ true
 unfolding inForm allOf rowOk placeOk messageOk zeros
 in-form σ q e =
-    let size = eqb-true (σ Size) 3 (passed (tests σ) 0 e) in
-    let few = passed (tests σ) 1 e in
-    let rows = grid 3 controllers controllers (rowOk house 3 σ) (passed (tests σ) 5 e) (λ b a h z.
+    let w = passed (tests σ) e in
+    let size = eqb-true (σ Size) 3 (search w) in
+    let few : (used σ ≤? reach) ≡ true = search w in
+    let head : headOk house σ ≡ true = search w in
+    let each-ok : allb controllers (controllerOk house 3 σ) ≡ true = search w in
+    let counts : allb controllers (λ (c : ℕ). σ (LiveCount c) ≤? cond (c <? 3) reach 0) ≡ true = search w in
+    let rows = grid 3 controllers controllers (rowOk house 3 σ) (search w) (λ b a h z.
     allb-all _ incarnations (λ i _. rw (q .rest (Known b a i) z, q .rest (End b a i) z, leb·zero))) in
-    let chains = grid reach controllers (house .places) (placeOk house 3 σ) (passed (tests σ) 6 e) (λ c p h z.
-    rw (unused (c <? 3) p _ z (allb-get _ controllers c (passed (tests σ) 4 e) h)) (allb-all _ _ (λ k _. rw (q .rest (OfPlace c p k) z)))) in
-    let records = every reach (house .messages) (messageOk house 3 σ) (passed (tests σ) 7 e) (λ r z.
+    let chains = grid reach controllers (house .places) (placeOk house 3 σ) (search w) (λ c p h z.
+    rw (unused (c <? 3) p _ z (allb-get _ controllers c counts h)) (allb-all _ _ (λ k _. rw (q .rest (OfPlace c p k) z)))) in
+    let records = every reach (house .messages) (messageOk house 3 σ) (search w) (λ r z.
     rw (unused true r _ z few) (allb-all _ _ (λ k _. rw (q .rest (OfMessage r k) z)))) in
-    rw (size, passed (tests σ) 2 e, passed (tests σ) 3 e, rows, chains, records)
+    rw (size, head, each-ok, rows, chains, records)
 
 -- An opening looks at the ledger's length, and a release at all of its words. That the ledger of a house just opened passes is shown
 -- here once, and not computed at each release.
@@ -190,5 +194,5 @@ further n h inHouse caused r z = rw (le-ltb r n (omega (arith, leb-true n reach 
 
 -- The rules on the way of these lists: `unfolding steps` opens them all.
 unfoldable pub steps : Unit {0}
-unfolding onesIn ones allb anyb first tab allOf firstOf same put putPart clearPlaces putStates numberOf used lastGiven recordOf messageOf posted placeVector messageVector flat knownStable filterPair filtered condemnedPair condemned maskTo mask conflictPair conflict mergePair merged zeros pairOk vectorOk controllerOk highest rowOk placeOk stateOk messageOk headZeros headOk placeRecord logged loggedTo checkpointed forced capped causing causedIn causesIn causes offeredAgain newVector placed entered restarted heldOrDropped dropHeld startAnew removed latestFlagged replayed refusing refusingBoth openHouse stepOpen messageRecord sent stepSend letOut mayGo release stepRelease intervalAdded intervalBegins deliver stepDeliver stepLog crashed stepCrash noted lowestCondemned rolledBack hear stepHear stepGap perform releaseOf
+unfolding onesIn ones allb anyb first tab allOf firstOf same put putPart clearPlaces putStates numberOf used lastGiven recordOf messageOf posted placeVector messageVector flat knownStable filterPair filtered condemnedPair condemned maskTo mask conflictPair conflict mergePair merged zeros pairOk vectorOk controllerOk highest rowOk placeOk stateOk messageOk headZeros headOk placeRecord logged loggedTo checkpointed forced capped causing causedIn causesIn causes offeredAgain newVector placed entered restarted heldOrDropped dropHeld startAnew removed latestFlagged replayed refusing refusingBoth openHouse stepOpen messageRecord sent recordsFull stepSend letOut mayGo release stepRelease intervalAdded intervalBegins noPlace deliver stepDeliver stepLog crashed stepCrash noted lowestCondemned rolledBack hear stepHear stepGap perform releaseOf
 steps = tt

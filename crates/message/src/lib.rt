@@ -12,7 +12,7 @@ ghost use Rattle.rules.specs.Limits.{house};
 ghost use Rattle.rules.specs.Vector.{placeVector, filtered};
 ghost use Rattle.rules.specs.Form.{stateHeld};
 ghost use Rattle.rules.specs.Shared.{newestPlace};
-ghost use Rattle.rules.specs.Steps.{after, messageRecord, sent, sendRefusals, messageRefusals, stepSend};
+ghost use Rattle.rules.specs.Steps.{after, messageRecord, sent, recordsFull, sendRefusals, messageRefusals, stepSend};
 ghost use Rattle.rules.specs.Step.{out, written};
 ghost use Rattle.rules.specs.declared.Answer.the-variants.{Sent};
 ghost use Rattle.laws.specs.Answering.{Lent};
@@ -73,6 +73,14 @@ pub fn write_held(
     );
 }
 
+// Whether no record is left for a message.
+pub fn records_full(t: &[u32]) -> bool
+    requires { ⌜ length (now t) ≡ tableWords ⌝ }
+    ensures { λ b. ⌜ b ≡ recordsFull house (state (now (t .entry))) ⌝ }
+{
+    table::MESSAGES as u32 <= table::records_used(t)
+}
+
 pub fn send_refusal(t: &[u32], sender: u32, receiver: u32) -> u32
     requires { ⌜ length (now t) ≡ tableWords ⌝ }
     ensures { λ no. ⌜ no ≡ firstOf (sendRefusals house (state (now (t .entry))) sender receiver) ⌝ }
@@ -84,7 +92,7 @@ pub fn send_refusal(t: &[u32], sender: u32, receiver: u32) -> u32
     if sender == receiver {
         return refusal::SAME_CONTROLLER;
     }
-    if table::MESSAGES as u32 <= table::records_used(t) {
+    if records_full(t) {
         return refusal::MESSAGES_USED_UP;
     }
     0

@@ -6,10 +6,10 @@ use mathlib.Core.List.{List, _∷_, _++_}
 use mathlib.Core.Logic.{_≢_, _⊎_, inl, inr, ⊎-elim, _↔_}
 use Prim.Native.Nat.{ℕ, _+_, _≤_, _<_}
 use native.Mathlib.Omega.{arith}
-use Rattle.table.specs.Field.{State, Receiver, Incarnation, LiveCount, desk}
+use Rattle.table.specs.Field.{State, Receiver, Incarnation, desk}
 use Rattle.table.specs.Layout.{controllers}
 use Rattle.table.specs.Words.{state}
-use Rattle.table.specs.Numbering.{numberOf, number-from, used, recordOf, present-pos, given-present}
+use Rattle.table.specs.Numbering.{lastLive, used, recordOf, present-pos, given-present}
 use Rattle.rules.specs.Limits.{house}
 use Rattle.rules.specs.Form.{stateHeld, stateReleased}
 use Rattle.rules.specs.Step.{Call, asks}
@@ -263,19 +263,17 @@ module _ (t g : List ℕ) (n k : ℕ) (l : List Call) (O : FromOpening t g n k l
     incarnation-now : σ (Incarnation c) ≡ h .incarnation c
     incarnation-now = sym (incarnation-is σ c near) ∙ sym (v .controller-ok c receiver-in .shape .incarnation-is)
 
-    number-now : numberOf σ c (σ (LiveCount c)) ≡ newest (h .chain c) .number
+    number-now : lastLive σ c ≡ newest (h .chain c) .number
     number-now = sym (live-is σ c near) ∙ sym (ap (λ (y : Interval). y .number) (newest-is (v .controller-ok c receiver-in .shape)))
 
     begins : let b = receiverIn u m in
-        Delivered m (σ (Incarnation b)) (numberOf σ b (σ (LiveCount b)) + 1) ≡ Delivered m (h .incarnation c) (newest (h .chain c) .number + 1)
+        Delivered m (σ (Incarnation b)) (lastLive σ b + 1) ≡ Delivered m (h .incarnation c) (newest (h .chain c) .number + 1)
     begins =
-        (λ d. let b = receiver-is d in Delivered m (σ (Incarnation b)) (numberOf σ b (σ (LiveCount b)) + 1))
+        (λ d. let b = receiver-is d in Delivered m (σ (Incarnation b)) (lastLive σ b + 1))
         ∙ (λ d. Delivered m (incarnation-now d) (number-now d + 1))
 
-    no-place : house .places ≤ σ (LiveCount (receiverIn u m)) → house .places ≤ newest (h .chain c) .number
-    no-place q =
-        let full = subst (λ b. house .places ≤ σ (LiveCount b)) receiver-is q in
-        omega (arith, number-now, number-from σ c (σ (LiveCount c)))
+    no-place : house .places ≤ lastLive σ (receiverIn u m) → house .places ≤ newest (h .chain c) .number
+    no-place q = subst (λ x. house .places ≤ x) (ap (lastLive σ) receiver-is ∙ number-now) q
 
     -- Where its controllers are cleared for its receiver and its sending interval rests on nothing lost, it doesn't wait, whatever that has heard.
     pub useful-arrives : AllCleared t g n k l m c → (Orphan h (h .sending m) → ⊥) → Begins t g n k l m

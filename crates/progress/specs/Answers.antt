@@ -6,27 +6,28 @@ use mathlib.Core.Logic.{_≢_, _⊎_, inl, inr}
 use Prim.Native.Nat.{ℕ, zero, suc, _+_, _≤_, _<_}
 use native.Mathlib.Omega.{arith}
 use lib.Count.{ones, onesIn}
-use borrow.Author.Tests.{eq-eqb, ne-eqb, leb-true, le-leb, lt-leb, not-false}
+use borrow.Author.Tests.{eq-eqb, ne-eqb, le-leb, lt-leb, not-false}
 use Rattle.base.specs.Choice.{_==_, _≤?_, cond-ind, le?}
 use Rattle.base.specs.Ranges.{anyb-none}
 use Rattle.base.specs.Cases.{Case, firstOf, none, hit, skip}
 use Rattle.table.specs.Field.{State, Size, Degree, Incarnation, LiveCount, MessageState, Sender, Receiver}
 use Rattle.table.specs.Layout.{controllers}
 use Rattle.table.specs.Words.{state}
-use Rattle.table.specs.Numbering.{numberOf, used, recordOf, number-next}
+use Rattle.table.specs.Numbering.{lastLive, used, recordOf, number-next}
 use Rattle.rules.specs.Limits.{Limits, house}
 use Rattle.rules.specs.Refusal.{LEDGER, CONTROLLER, MESSAGE, SAME-CONTROLLER, STATE, PLACES-USED-UP, LEDGER-USED-UP}
 use Rattle.rules.specs.Vector.{Vector, empty, pairOf, placeVector, messageVector, filtered, condemned, maskTo, mask, conflictPair, conflict}
 use Rattle.rules.specs.Form.{stateHeld, stateReleased, forDesk, inForm}
 use Rattle.rules.specs.Ledger.{countOf, ledgerOk}
 use Rattle.rules.specs.Shared.{newestPlace}
-use Rattle.rules.specs.Steps.{After, AfterBoth, beside, refuse, refusing, refusingBoth, mayGo, messageRefusals, release, releaseRefusals, stepRelease, intervalBegins, deliver, stepDeliver, checkpointRefusals, stepCheckpoint, tellRefusals, stepTell}
+use Rattle.rules.specs.Steps.{After, AfterBoth, beside, refuse, refusing, refusingBoth, mayGo, messageRefusals, release, releaseRefusals, stepRelease, intervalBegins, chainFull, deliver, stepDeliver, checkpointRefusals, stepCheckpoint, tellRefusals, stepTell}
 use Rattle.rules.specs.Step.{perform, stepOn, step}
 use Rattle.rules.specs.declared.Answer.{Answer}
 use Rattle.rules.specs.declared.Answer.the-variants.{Done, Released, Delivered, Dropped, Refused}
 use Rattle.rules.specs.declared.Command.{Command}
 use Rattle.rules.specs.declared.Command.the-variants.{Release, Deliver, Checkpoint, Tell}
 use Rattle.laws.specs.Facts.{Form, form, messageForm, released-lt}
+use Rattle.laws.specs.Allowed.{no-place-number}
 use Rattle.keeping.specs.Unrefused.{Sound}
 use Rattle.model.specs.Model.{Vec, full, releasedVec, filtered as filteredFor}
 use Rattle.model.specs.Tests.{fails, passes, eq?}
@@ -197,7 +198,7 @@ module _ (L : Limits) (σ : State) (g : List ℕ) (good : inForm L σ ≡ true) 
               let P : After → Type 0 = λ o. o .answer ≡ Dropped m → condemned σ c (messageVector σ r) ≡ true in
               cond-ind P (condemned σ c (messageVector σ r)) (λ q _. q)
               (λ _. cond-ind P (conflict c _ _) (λ _ q. absurd (let z : _≡_ {A = ℕ} 0 1 = cc in omega arith))
-              (λ _. cond-ind P (L .places ≤? σ (LiveCount c)) (λ _ q. absurd (let z : _≡_ {A = ℕ} 0 1 = cc in omega arith))
+              (λ _. cond-ind P (chainFull L σ c) (λ _ q. absurd (let z : _≡_ {A = ℕ} 0 1 = cc in omega arith))
               (λ _ q. absurd (let z : _≡_ {A = ℕ} 0 1 = cc in omega arith))))
 
       -- a released message is refused neither as unknown nor for its state
@@ -211,13 +212,13 @@ module _ (L : Limits) (σ : State) (g : List ℕ) (good : inForm L σ ≡ true) 
               subst (λ a. a ≢ Refused n) (sym delivered)
               (cond-ind P (condemned σ c (messageVector σ r)) (λ _ q. absurd (let z : _≡_ {A = ℕ} 0 1 = cc in omega arith))
               (λ _. cond-ind P (conflict c _ _) (λ _ q. absurd (let z : _≡_ {A = ℕ} 0 1 = cc in omega arith))
-              (λ _. cond-ind P (L .places ≤? σ (LiveCount c)) (λ _ q. ne (let z : n ≡ PLACES-USED-UP = cc in z))
+              (λ _. cond-ind P (chainFull L σ c) (λ _ q. ne (let z : n ≡ PLACES-USED-UP = cc in z))
               (λ _ q. absurd (let z : _≡_ {A = ℕ} 0 1 = cc in omega arith)))))
 
       -- the answer of a delivery, or the refusal where the receiver's places are used up
       abbrev Goes : Answer → Type 0
       Goes a =
-          (a ≡ Delivered m (σ (Incarnation c)) (numberOf σ c (σ (LiveCount c)) + 1)) ⊎ ((a ≡ Refused PLACES-USED-UP) × (L .places ≤ σ (LiveCount c)))
+          (a ≡ Delivered m (σ (Incarnation c)) (lastLive σ c + 1)) ⊎ ((a ≡ Refused PLACES-USED-UP) × (L .places ≤ lastLive σ c))
 
       -- so answers D to a message that is not condemned and whose filtered vector is empty
       deliver-goes : (IsCondemned → ⊥) → ((a : ℕ) → full (filteredFor (image σ .controller c) (image σ .message m .vec) a) ≡ false) →
@@ -233,8 +234,8 @@ module _ (L : Limits) (σ : State) (g : List ℕ) (good : inForm L σ ≡ true) 
           let agrees : conflict c ours (filtered σ c v) ≡ false =
           conflict-empty c ours (filtered σ c v) (subst (λ (w : Vec). (a : ℕ) → full (w a) ≡ false) (sym theirs) h) in
           subst Goes (sym delivered)
-          (rw (spares, agrees) (cond-ind (λ (o : After). Goes (o .answer)) (L .places ≤? σ (LiveCount c))
-          (λ q. inr (refl, leb-true (L .places) (σ (LiveCount c)) q))
+          (rw (spares, agrees) (cond-ind (λ (o : After). Goes (o .answer)) (chainFull L σ c)
+          (λ q. inr (refl, no-place-number L σ c (σ (LiveCount c)) q))
           (λ _. inl (ap (Delivered m (σ (Incarnation c))) (number-next σ c (σ (LiveCount c)))))))
 
 -- TABLES AND LEDGERS OF WORDS
@@ -303,7 +304,7 @@ module _ (t g : List ℕ) (s : Sound t g) where
       pub delivery-goes : (Condemned (sizeOf t) (modelOf t .controller (receiverIn t m)) (modelOf t .message m .vec) → ⊥) →
           ((a : ℕ) → full (filteredFor (modelOf t .controller (receiverIn t m)) (modelOf t .message m .vec) a) ≡ false) →
           (step t g (Deliver m) .answer
-          ≡ Delivered m (state t (Incarnation (receiverIn t m))) (numberOf (state t) (receiverIn t m) (state t (LiveCount (receiverIn t m))) + 1))
-          ⊎ ((step t g (Deliver m) .answer ≡ Refused PLACES-USED-UP) × (house .places ≤ state t (LiveCount (receiverIn t m))))
+          ≡ Delivered m (state t (Incarnation (receiverIn t m))) (lastLive (state t) (receiverIn t m) + 1))
+          ⊎ ((step t g (Deliver m) .answer ≡ Refused PLACES-USED-UP) × (house .places ≤ lastLive (state t) (receiverIn t m)))
       delivery-goes kept h =
           subst (Goes house (state t) g good m l e) (sym (same-answer (Deliver m))) (deliver-goes house (state t) g good m l e kept h)

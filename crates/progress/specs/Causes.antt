@@ -18,16 +18,16 @@ use Rattle.rules.specs.Vector.{Vector, pair, messageVector, flat, condemned, co
 use Rattle.rules.specs.Form.{stateHeld, stateReleased, stateDelivered, stateDropped, statePublished, forDesk, inForm}
 use Rattle.rules.specs.Ledger.{countOf}
 use Rattle.rules.specs.Shared.{placeRecord, loggedTo, causedIn, offeredAgain, causesIn, causes, newVector, placed, entered, restarted, orphaned, heldOrDropped, dropHeld, startAnew, removed}
-use Rattle.rules.specs.Steps.{After, AfterBoth, refusing, refusingBoth, openHouse, stepOpen, sent, stepSend, letOut, mayGo, release, stepRelease, intervalAdded, intervalBegins, deliver, stepDeliver, crashed, stepCrash, noted, lowestCondemned, rolledBack, hear, stepHear}
+use Rattle.rules.specs.Steps.{After, AfterBoth, refusing, refusingBoth, openHouse, stepOpen, sent, stepSend, letOut, mayGo, release, stepRelease, intervalAdded, intervalBegins, chainFull, deliver, stepDeliver, crashed, stepCrash, noted, lowestCondemned, rolledBack, hear, stepHear}
 use Rattle.rules.specs.Step.{perform, looksAtForm, stepOn}
 use Rattle.rules.specs.declared.Command.{Command}
 use Rattle.rules.specs.declared.Command.the-variants.{Open, SetDegree, Send, Release, Deliver, Log, Checkpoint, Tell, Crash, Hear, SetGap}
+use Rattle.laws.specs.Numbers.{numbers-added, numbers-restarted}
 use Rattle.laws.specs.Facts.{form, controllerForm, placeForm}
 use Rattle.laws.specs.Records.{part-at, part-other, clear-kept, length-place-record}
 use Rattle.laws.specs.Agree.{live-restarted}
 use Rattle.laws.specs.Allowed.{crashAllowed}
-use Rattle.image.specs.Begin.{written, written-other, numbers-added}
-use Rattle.image.specs.Anew.{numbers-restarted}
+use Rattle.image.specs.Begin.{written, written-other}
 use Rattle.progress.specs.Unmoved.{Unmoved, numbers-unmoved, unmoved-put, unmoved-part, unmoved-loggedTo, unmoved-capped, unmoved-noted, unmoved-degree, unmoved-log, unmoved-checkpoint, unmoved-tell, unmoved-gap}
 
 -- no held message is the cause of a live interval
@@ -295,7 +295,7 @@ module _ (L : Limits) (σ : State) (f : inForm L σ ≡ true) (n : NoneCauses σ
       let r = recordOf σ m in
       cond-ind kept (condemned σ _ _) (λ _. none-state σ r stateDropped (omega arith) n)
       (λ _. cond-ind kept (conflict _ _ _) (λ _. n)
-      (λ _. cond-ind kept (L .places ≤? σ (LiveCount _)) (λ _. n) (λ _. none-unmoved _ _ (unmoved-capped _ _) (none-added σ _ m r _ refl n)))))
+      (λ _. cond-ind kept (chainFull L σ _) (λ _. n) (λ _. none-unmoved _ _ (unmoved-capped _ _) (none-added σ _ m r _ refl n)))))
 
   -- X
   none-stepCrash : (c : ℕ) → NoneCauses (stepCrash L σ c .left)

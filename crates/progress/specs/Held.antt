@@ -18,17 +18,17 @@ use Rattle.rules.specs.Vector.{Vector, messageVector, flat, filtered, condemned
 use Rattle.rules.specs.Form.{stateHeld, stateReleased, stateDelivered, stateDropped, statePublished, forDesk, inForm}
 use Rattle.rules.specs.Ledger.{countOf}
 use Rattle.rules.specs.Shared.{capped, loggedTo, causing, causedIn, causesIn, causes, newVector, placed, entered, restarted, orphaned, heldOrDropped, dropHeld, startAnew, removed}
-use Rattle.rules.specs.Steps.{After, AfterBoth, afterBoth, beside, refusing, refusingBoth, stepOpen, openRefusals, sent, stepSend, letOut, mayGo, release, stepRelease, intervalAdded, intervalBegins, deliver, stepDeliver, crashed, stepCrash, noted, lowestCondemned, rolledBack, hear, stepHear}
+use Rattle.rules.specs.Steps.{After, AfterBoth, afterBoth, beside, refusing, refusingBoth, stepOpen, openRefusals, sent, stepSend, letOut, mayGo, release, stepRelease, intervalAdded, intervalBegins, chainFull, deliver, stepDeliver, crashed, stepCrash, noted, lowestCondemned, rolledBack, hear, stepHear}
 use Rattle.rules.specs.Step.{perform, looksAtForm, stepOn}
 use Rattle.rules.specs.declared.Answer.{Answer}
 use Rattle.rules.specs.declared.Answer.the-variants.{Done, Released, Dropped}
 use Rattle.rules.specs.declared.Command.{Command}
 use Rattle.rules.specs.declared.Command.the-variants.{Open, SetDegree, Send, Release, Deliver, Log, Checkpoint, Tell, Crash, Hear, SetGap}
 use Rattle.model.specs.Tests.{eq?}
+use Rattle.laws.specs.Numbers.{numbers-restarted}
 use Rattle.laws.specs.Records.{part-other}
 use Rattle.laws.specs.Agree.{live-restarted}
 use Rattle.laws.specs.Allowed.{messageAllowed, crashAllowed, hearAllowed}
-use Rattle.image.specs.Anew.{numbers-restarted}
 use Rattle.progress.specs.Unmoved.{Unmoved, numbers-unmoved, unmoved-put, unmoved-loggedTo, unmoved-capped, unmoved-noted, unmoved-degree, unmoved-log, unmoved-checkpoint, unmoved-tell, unmoved-gap}
 use Rattle.progress.specs.Causes.{NoneCauses, none-unmoved, causes-held, undropped}
 
@@ -255,7 +255,7 @@ module _ (L : Limits) (σ : State) (r : ℕ) (u : r < used σ) where
       let goes : After → Type 0 = λ o. Goes (Deliver m) (beside o g) in
       cond-ind goes (condemned σ _ _) (λ _. goes-dropped g m released)
       (λ _. cond-ind goes (conflict _ _ _) (λ _. goes-same _ _ g)
-      (λ _. cond-ind goes (L .places ≤? σ (LiveCount _)) (λ _. goes-same _ _ g) (λ _. goes-begins g m released _ _))))
+      (λ _. cond-ind goes (chainFull L σ _) (λ _. goes-same _ _ g) (λ _. goes-begins g m released _ _))))
 
   -- X and H remove intervals, after other words have changed
   goes-removed : (x : Command) (a : Answer) (g : List ℕ) (ρ : State) (c k : ℕ) → Unmoved σ ρ → c < σ Size → Goes x (afterBoth a (removed ρ c k) g)

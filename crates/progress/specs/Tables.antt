@@ -25,11 +25,10 @@ use Rattle.rules.specs.declared.Answer.{Answer}
 use Rattle.rules.specs.declared.Answer.the-variants.{Done, Sent, Refused}
 use Rattle.rules.specs.declared.Command.{Command}
 use Rattle.rules.specs.declared.Command.the-variants.{Open, Send, Checkpoint, Tell}
-use Rattle.laws.specs.Facts.{Form, form, below-8, controllerForm, messageForm}
+use Rattle.laws.specs.Facts.{Form, form, below-8, controllerForm, messageForm, house-fits}
 use Rattle.laws.specs.Records.{length-message-record}
 use Rattle.laws.specs.Answering.{Lent}
 use Rattle.keeping.specs.Steps.{form-kept}
-use Rattle.keeping.specs.Kept.{house-fits}
 use Rattle.image.specs.Tables.{opening-done}
 use Rattle.progress.specs.Causes.{NoneCauses, none-unsent, none-causes-kept}
 use Rattle.progress.specs.Held.{Leaves, let-out, undone, KeptHeld, was-held, stays-held}

@@ -66,7 +66,7 @@ pub fn place_ok(t: &[u32], n: u32, c: usize, p: usize) -> bool
     if q < table::live_count(t, c) {
         let flag = table::flag(t, c, p);
         (table::place_incarnation(t, c, p) <= table::LAST_INCARNATION)
-            & (table::place_number(t, c, p) == table::number_of(t, c, q + 1))
+            & table::is_number_of(t, c, q + 1, table::place_number(t, c, p))
             & (table::cause(t, c, p) <= table::last_given(t))
             & (flag <= 1)
             & ((0 < q) | (flag == 1))

@@ -13,7 +13,7 @@ use Rattle.table.specs.Field.{Field, State, Known, End, Size, Incarnation, Live
 use Rattle.table.specs.Change.{put, put-ind, put-other}
 use Rattle.table.specs.Layout.{controllers, incarnations, tableWords}
 use Rattle.table.specs.Words.{state, words, words-same, Agree, agree-words, agree-put, put-again, then-put}
-use Rattle.table.specs.Numbering.{Numbered, numberOf, numbers-put, numbers-trans, number-same}
+use Rattle.table.specs.Numbering.{numberOf, number-same}
 use Rattle.rules.specs.Limits.{house, lastIncarnation}
 use Rattle.rules.specs.Refusal.{CONTROLLER, NO-SUCH-CRASH, ALREADY-HEARD, INCARNATIONS-USED-UP}
 use Rattle.rules.specs.Shared.{latestFlagged, replayed}
@@ -23,10 +23,11 @@ use Rattle.rules.specs.declared.Answer.{Answer}
 use Rattle.rules.specs.declared.Answer.the-variants.{Heard, Rolled, Refused}
 use Rattle.laws.specs.Facts.{form, below-8}
 use Rattle.laws.specs.Allowed.{hearAllowed}
+use Rattle.laws.specs.Numbers.{numbers-noted}
 use Rattle.laws.specs.Agree.{lowestCondemned-same, replayed-same}
 use Rattle.laws.specs.Found.{lowest}
 use Rattle.laws.specs.Answering.{Lent, granted-by}
-use Rattle.laws.specs.Chain.{Chain, chain-of, chain-words, Starts, chain-noted}
+use Rattle.laws.specs.Chain.{Chain, chain-of, chain-words, room-live, Starts, chain-noted}
 use Rattle.laws.specs.Kept.{agree-rolled}
 use Rattle.recovery.specs.Rolling.{undoing}
 
@@ -56,20 +57,16 @@ put-back σ f g x y h v =
     put-ind (λ h z. z ≡ σ h) (put (put (put σ f x) g y) f (σ f)) g (σ g) refl
     (λ h ng. put-ind (λ h z. h ≢ g → z ≡ σ h) (put (put σ f x) g y) f (σ f) (λ _. refl) (λ h nf ng. put-other (put σ f x) g h y ng ∙ put-other σ f h x nf) h ng) h
 
--- what is noted changes no number, and not what is replayed
-noted-numbers : (σ : State) (hearer owner i : ℕ) → Numbered (noted σ hearer owner i) σ
-unfolding noted
-noted-numbers σ hearer owner i = numbers-trans _ _ _ (numbers-put _ (Known hearer owner i) _ refl) (numbers-put σ (End hearer owner i) _ refl)
-
+-- what is noted changes not what is replayed
 noted-flagged : (σ : State) (hearer owner i c k : ℕ) → latestFlagged (noted σ hearer owner i) c k ≡ latestFlagged σ c k
 unfolding latestFlagged noted put same
 noted-flagged σ hearer owner i c zero = refl
 noted-flagged σ hearer owner i c (suc p) =
-    λ d. cond (σ (Flag c p) == 1) (noted-numbers σ hearer owner i .number c (p + 1) d) (noted-flagged σ hearer owner i c p d)
+    λ d. cond (σ (Flag c p) == 1) (numbers-noted σ hearer owner i .number c (p + 1) d) (noted-flagged σ hearer owner i c p d)
 
 noted-replayed : (σ : State) (hearer owner i c k : ℕ) → replayed (noted σ hearer owner i) c k ≡ replayed σ c k
 unfolding replayed
-noted-replayed σ hearer owner i c k d = noted-numbers σ hearer owner i .number c k d - noted-flagged σ hearer owner i c k d
+noted-replayed σ hearer owner i c k d = numbers-noted σ hearer owner i .number c k d - noted-flagged σ hearer owner i c k d
 
 -- HEARING
 -- The code has read n, how many controllers there are, and the end words of both: which of the first refusals applies.
@@ -190,12 +187,12 @@ module _ {t t₁ : List ℕ} {hearer owner i known k : ℕ} (w : Walked t t₁ h
       pub hear-starts : own < lastIncarnation → Starts (state t₁) hearer k
       hear-starts m =
           let f = lowest (state t₁) hearer (chain .live-pos) in
-          record { chain = chain; kept = omega (arith, f .pos, w .place-is); room = omega (arith, chain .live-le); below = omega arith; left = omega arith }
+          record { chain = chain; kept = omega (arith, f .pos, w .place-is); room = room-live chain (omega arith); below = omega arith; left = omega arith }
 
       pub hear-undone : own < lastIncarnation → {t₂ : List ℕ} {a : Answer} → out a t₂ ≡ written (undoing (state t₁) hearer k) → out a t₂ ≡ written (hear (state t) hearer owner i)
       unfolding hear
       hear-undone m e₂ =
-          let x = number-same (state t₁) heard agrees hearer k (chain .named) ∙ noted-numbers (state t) hearer owner i .number hearer k in
+          let x = number-same (state t₁) heard agrees hearer k (chain .named) ∙ numbers-noted (state t) hearer owner i .number hearer k in
           let again = replayed-same (state t₁) heard agrees hearer k (chain .named) (omega (arith, chain .live-le)) ∙ noted-replayed (state t) hearer owner i hearer k in
           let left = words-same _ _ (agree-rolled (state t₁) heard hearer k (hear-starts m) agrees) in
           rw (some, lt-leb lastIncarnation (state t (Incarnation hearer)) (omega (arith, own-kept)))

@@ -27,7 +27,7 @@ pub fn crash_refusal(t: &[u32], c: u32) -> u32
     if table::size(t) <= c {
         return refusal::CONTROLLER;
     }
-    if table::PLACES as u32 <= table::stable_count(t, c as usize) {
+    if interval::no_place(t, c as usize, table::stable_count(t, c as usize)) {
         return refusal::PLACES_USED_UP;
     }
     if table::LAST_INCARNATION <= table::incarnation(t, c as usize) {

@@ -6,8 +6,8 @@ use Prim.Native.Nat.{ℕ, _+_, _-_, _≤_, _<_}
 use native.Mathlib.Omega.{arith}
 use lib.Count.{ones}
 use lib.ListN.{length, take, drop}
-use borrow.Author.Tests.{eqb-true, le-leb, lt-leb, eq-eqb, ne-eqb}
-use Rattle.base.specs.Cases.{passed, firstOf}
+use borrow.Author.Tests.{le-leb, lt-leb, eq-eqb, ne-eqb}
+use Rattle.base.specs.Cases.{firstOf}
 use Rattle.base.specs.Choice.{_==_, _≤?_}
 use Rattle.table.specs.Field.{State, OfMessage, Degree, MessageState, Sender, Receiver, messageHead, desk}
 use Rattle.table.specs.Change.{put, putPart}
@@ -18,7 +18,7 @@ use Rattle.rules.specs.Limits.{house, lastEntry}
 use Rattle.rules.specs.Refusal.{LEDGER-USED-UP}
 use Rattle.rules.specs.Vector.{Vector, messageVector, flat, filtered, mask}
 use Rattle.rules.specs.Form.{stateReleased, statePublished}
-use Rattle.rules.specs.Ledger.{ledgerWords, countOf, entryOf, ledgerOk, appended}
+use Rattle.rules.specs.Ledger.{ledgerWords, countOf, entryOf, appended}
 use Rattle.rules.specs.Steps.{letOut, mayGo, release, releaseRefusals, stepRelease}
 use Rattle.rules.specs.Step.{outBoth, writtenBoth}
 use Rattle.rules.specs.declared.Answer.{Answer}
@@ -26,6 +26,7 @@ use Rattle.rules.specs.declared.Answer.the-variants.{Released, Held, Refused}
 use Rattle.laws.specs.Records.{length-flat}
 use Rattle.laws.specs.Facts.{Near}
 use Rattle.laws.specs.Allowed.{releaseAllowed}
+use Rattle.laws.specs.Ledger.{ledgerForm}
 use Rattle.laws.specs.Answering.{Lent, refused-both, granted-both}
 use Rattle.laws.specs.Chain.{Releasable, releasable}
 
@@ -103,8 +104,7 @@ module _ (t g : List ℕ) (m r n : ℕ) (q : r ≡ recordOf (state t) m) (e : n 
   passed-releasable l z = releasable t g r l (sym z ∙ e)
 
   pub passed-long : n ≡ 0 → length g ≡ ledgerWords house
-  unfolding ledgerOk
-  passed-long z = eqb-true _ _ (passed _ 0 (releaseAllowed house (state t) g r (sym z ∙ e) .1))
+  passed-long z = ledgerForm house g (releaseAllowed house (state t) g r (sym z ∙ e) .1) .long
 
 -- the vector of a message that may be released is near
 pub releasable-near : (σ : State) (r : ℕ) (v : Vector) → Releasable σ r → v ≡ messageVector σ r → Near v

@@ -4,9 +4,10 @@ ghost use Prim.Native.Nat.{_-_, _≤_, _<_};
 ghost use lib.ListN.{length};
 ghost use Rattle.table.specs.Field.{LiveCount, MessageState};
 ghost use Rattle.table.specs.Change.{put};
-ghost use Rattle.table.specs.Layout.{controllers, messages, tableWords};
+ghost use Rattle.table.specs.Layout.{controllers, places, messages, tableWords};
 ghost use Rattle.table.specs.Words.{state, words};
-ghost use Rattle.table.specs.Numbering.{used};
+ghost use Rattle.table.specs.Numbering.{lastLive, used};
+ghost use Rattle.rules.specs.Limits.{lastNumber};
 ghost use Rattle.rules.specs.Shared.{offeredAgain, causing, causesIn, causes, orphaned, heldOrDropped, dropHeld};
 ghost use Rattle.laws.specs.Chain.{Chain};
 ghost use Rattle.removal.specs.Dropping.{Sent};
@@ -82,7 +83,7 @@ pub fn drop_one(t: &mut [u32], c: usize, x: u32, r: usize)
 
 // Held messages from c with a sending number above that of the k-th interval are dropped.
 pub fn drop_held(t: &mut [u32], c: usize, k: u32)
-    requires { ⌜ (length (now t) ≡ tableWords) × (c < controllers) × Sent (state (now t)) ⌝ }
+    requires { ⌜ (length (now t) ≡ tableWords) × (c < controllers) × Sent (state (now t)) × (lastLive (state (now t)) c ≤ lastNumber) × (k ≤ places) ⌝ }
     ensures { λ _. ⌜ now (t .exit) ≡ words (dropHeld (state (now (t .entry))) c k) ⌝ }
 {
     let x = table::number_of(t, c, k);

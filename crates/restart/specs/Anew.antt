@@ -1,18 +1,19 @@
 -- What starting anew and removing intervals write, one call after the other.
 use mathlib.Core.Path.{_≡_, refl, sym, ap, _∙_, subst}
 use mathlib.Core.List.{List}
-use Prim.Native.Nat.{ℕ, _+_, _-_}
+use Prim.Native.Nat.{ℕ, _+_, _-_, _≤_}
 use native.Mathlib.Omega.{arith}
 use lib.ListN.{set}
 use Rattle.table.specs.Field.{State, Known, OfPlace, Incarnation, LiveCount, StableCount}
 use Rattle.table.specs.Change.{put, putPart, clearPlaces}
 use Rattle.table.specs.Words.{state, words, agree-words, called, then-put, then-part}
-use Rattle.table.specs.Numbering.{numberOf}
+use Rattle.table.specs.Numbering.{numberOf, lastLive}
+use Rattle.rules.specs.Limits.{lastNumber}
 use Rattle.rules.specs.Vector.{Vector, pair, placeVector, filtered}
 use Rattle.rules.specs.Shared.{placeRecord, newVector, placed, entered, restarted, capped, dropHeld, startAnew, causes, removed}
 use Rattle.laws.specs.Facts.{Near}
 use Rattle.laws.specs.Agree.{agree-dropHeld, agree-entered}
-use Rattle.laws.specs.Chain.{Counts, counts-words, counts-restarted, Starts, starts-words, starts-causes}
+use Rattle.laws.specs.Chain.{Counts, counts-words, counts-capped, counts-restarted, Starts, starts-words, starts-causes}
 use Rattle.laws.specs.Kept.{then-capped, then-start}
 use Rattle.removal.specs.Dropping.{Sent}
 use Rattle.restart.specs.Sent.{begun-sent}
@@ -53,6 +54,9 @@ module _ (t t₁ : List ℕ) (c k : ℕ) (s : Starts (state t) c k) (e₁ : t₁
 
   pub begun-drops : (t₂ : List ℕ) → t₂ ≡ words (capped (state t₁) c) → Sent (state t₂)
   begun-drops t₂ e₂ = begun-sent (state t) c k s (then-capped _ c (counts-restarted (state t) c k s) e₁ e₂)
+
+  pub begun-numbers : (t₂ : List ℕ) → t₂ ≡ words (capped (state t₁) c) → lastLive (state t₂) c ≤ lastNumber
+  begun-numbers t₂ e₂ = counts-words _ c e₂ (counts-capped (state t₁) c begun-counts) .numbers-le
 
   pub starts : (t₂ t₃ : List ℕ) → t₂ ≡ words (capped (state t₁) c) → t₃ ≡ words (dropHeld (state t₂) c k) → t₃ ≡ words (startAnew (state t) c k)
   unfolding startAnew

@@ -125,12 +125,16 @@ sent σ sender receiver payload =
 abbrev pub noReceiver : State → ℕ → Bool
 noReceiver σ r = noController σ r && not (r == desk)
 
--- "6 the two controllers of S or T are equal"; "11 128 messages were sent since opening"
+-- "11 128 messages were sent since opening"
+unfoldable pub recordsFull : Limits → State → Bool
+recordsFull L σ = L .messages ≤? used σ
+
+-- "6 the two controllers of S or T are equal"
 abbrev pub sendRefusals : Limits → State → ℕ → ℕ → List Case
 sendRefusals L σ sender receiver =
     ((noController σ sender || noReceiver σ receiver) ⇒ CONTROLLER)
     ∷ ((sender == receiver) ⇒ SAME-CONTROLLER)
-    ∷ ((L .messages ≤? used σ) ⇒ MESSAGES-USED-UP)
+    ∷ (recordsFull L σ ⇒ MESSAGES-USED-UP)
     ∷ []
 
 unfoldable pub stepSend : Limits → State → ℕ → ℕ → ℕ → After
@@ -188,9 +192,17 @@ unfoldable pub intervalBegins : State → ℕ → ℕ → ℕ → Vector → Aft
 intervalBegins σ c m r v =
     after (Delivered m (σ (Incarnation c)) (numberOf σ c (σ (LiveCount c) + 1))) (capped (intervalAdded σ c m r v) c)
 
+-- "12 delivery with 64 live, unless it drops or waits; crash with 64 stable": no place is left after the k-th interval of c ..
+unfoldable pub noPlace : Limits → State → ℕ → ℕ → Bool
+noPlace L σ c k = L .places ≤? k
+
+-- .. at D after the newest
+abbrev pub chainFull : Limits → State → ℕ → Bool
+chainFull L σ c = noPlace L σ c (σ (LiveCount c))
+
 -- D m, in record r: "deliver at its receiver c. Condemned to c: dropped. Else filter both c's newest vector and the message's
 -- for c; if an owner other than c has non-empty pairs of different incarnations in the two, it waits and no word changes. Else
--- a new interval begins .."; "12 delivery with 64 live, unless it drops or waits"
+-- a new interval begins .."
 unfoldable pub deliver : Limits → State → ℕ → ℕ → After
 deliver L σ m r =
     let c = σ (Receiver r) in
@@ -201,7 +213,7 @@ deliver L σ m r =
     let full = refuse PLACES-USED-UP σ in
     cond (condemned σ c (messageVector σ r)) dropping
     (cond (conflict c ours theirs) waiting
-    (cond (L .places ≤? σ (LiveCount c)) full (intervalBegins σ c m r (merged ours theirs))))
+    (cond (chainFull L σ c) full (intervalBegins σ c m r (merged ours theirs))))
 
 unfoldable pub stepDeliver : Limits → State → ℕ → After
 stepDeliver L σ m = let r = recordOf σ m in refusing (messageRefusals σ r stateReleased) σ (deliver L σ m r)
@@ -242,11 +254,15 @@ crashed σ c =
     let ended = put σ (End c c (σ (Incarnation c))) (numberOf σ c k) in
     removed ended c k
 
--- "12 crash with 64 stable"; "13 crash in incarnation 15"
+-- 12: no place is left after those that a crash keeps
+abbrev pub crashFull : Limits → State → ℕ → Bool
+crashFull L σ c = noPlace L σ c (σ (StableCount c))
+
+-- "13 crash in incarnation 15"
 abbrev pub crashRefusals : Limits → State → ℕ → List Case
 crashRefusals L σ c =
     (noController σ c ⇒ CONTROLLER)
-    ∷ ((L .places ≤? σ (StableCount c)) ⇒ PLACES-USED-UP)
+    ∷ (crashFull L σ c ⇒ PLACES-USED-UP)
     ∷ ((lastIncarnation ≤? σ (Incarnation c)) ⇒ INCARNATIONS-USED-UP)
     ∷ []
 

@@ -1,7 +1,7 @@
 -- Laws of a session in its buffers, for the code that takes bytes. `o` is the buffer of answers before a line is written, `u`
 -- after it.
 use mathlib.Core.Path.{_≡_, refl, sym, ap, ap₂, _∙_}
-use mathlib.Core.Bool.{Bool, true, false}
+use mathlib.Core.Bool.{false}
 use mathlib.Core.List.{List, [], _∷_, _++_, foldl, foldl-append}
 use mathlib.Core.Logic.{_≢_}
 use Prim.Native.Nat.{ℕ, _+_, _-_, _≤_, _<_}
@@ -10,8 +10,8 @@ use native.Mathlib.Nat.{suc-ne-zero}
 use native.Mathlib.Numerals.{add-one}
 use lib.ListN.{length, getD, set, take, drop, length-append, length-replicate, getD-replicate}
 use lib.Seq.{take-all, take-suc, take-suc-set, take-append-le, set-out, drop-drop, length-take-le}
-use borrow.Author.Tests.{eq-eqb, ne-eqb, leb-true}
-use Rattle.base.specs.Cases.{passed}
+use borrow.Author.Tests.{eq-eqb, ne-eqb, lt-leb}
+use Rattle.base.specs.Cases.{failed}
 use Rattle.table.specs.Field.{Size}
 use Rattle.table.specs.Layout.{tableWords, position}
 use Rattle.table.specs.Words.{state}
@@ -145,11 +145,7 @@ reached-first = record { reads = []; here = refl }
 -- a table without controllers is not in form, and the first one has none
 sizeless : (t : List ℕ) → state t Size ≡ 0 → inForm house (state t) ≡ false
 unfolding inForm headOk
-sizeless t z = go _ refl
-  where
-    go : (b : Bool) → inForm house (state t) ≡ b → b ≡ false
-    go true e = let n = leb-true 1 (state t Size) (passed _ 0 (passed _ 0 e)) in absurd (omega arith)
-    go false e = refl
+sizeless t z = let head : headOk house (state t) ≡ false = failed _ (lt-leb 1 (state t Size) (omega arith)) (λ w. search w) in failed _ head (λ w. search w)
 
 pub first-unformed : FormKnown firstTable false
 first-unformed = (length-replicate {A = ℕ} tableWords 0, sym (sizeless firstTable (getD-replicate {A = ℕ} tableWords (position Size) 0 0 (omega arith))))

@@ -23,12 +23,16 @@ pub data Field : Type 0 where
 abbrev pub State : Type 0
 State = Field → ℕ
 
--- "From 0: n; word 1: messages sent; words 2 to 15 are 0", but for the gap, below
+-- "From 0: n; word 1: messages sent; words 2 to 15 are 0", but for the gap
 abbrev pub Size : Field
 Size = OfHead 0
 
 abbrev pub SentCount : Field
 SentCount = OfHead 1
+
+-- W11: "Words 3 to 10 hold the count discarded for each controller"; the form has them at 0 until then
+abbrev pub Discarded : ℕ → Field
+Discarded c = OfHead (3 + c)
 
 -- W4: the gap Q, "kept in word 11 of the table"
 abbrev pub Gap : Field

@@ -7,16 +7,25 @@ use mathlib.Core.Logic.{_≢_}
 use Prim.Native.Nat.{ℕ, _+_, _-_, _≤_, _<_}
 use native.Mathlib.Omega.{arith}
 use lib.ListN.{length, getD}
-use borrow.Author.Tests.{leb-true, le-leb, lt-ltb, le-ltb}
+use borrow.Author.Tests.{leb-true, ltb-true, le-leb, lt-ltb, le-ltb, ne-eqb}
 use Rattle.base.specs.Choice.{_==_, _≤?_, _<?_, and-left, and-right, cond-ind, le?}
-use Rattle.table.specs.Field.{Field, State, OfHead, OfController, Known, End, OfPlace, OfMessage, Size, SentCount, Gap, region, word, wordOf, alike, alike-word, same, messageHead, spareFrom}
-use Rattle.table.specs.Change.{put, put-ind, put-same, putPart, part-ind, putStates, states-ind}
+use Rattle.table.specs.Field.{Field, State, OfHead, OfController, Known, End, OfPlace, OfMessage, Size, SentCount, Discarded, Gap, LiveCount, region, word, wordOf, alike, alike-word, same, messageHead}
+use Rattle.table.specs.Change.{put, put-ind, put-same, put-other, putPart, part-ind, clearPlaces, clear-ind, putStates, states-ind}
 use Rattle.table.specs.Layout.{controllers, messages, headWords}
 use Rattle.table.specs.Words.{state, words, Agree, agree-value, agree-part-to, then-put}
 
--- "Place p has number p + 1": the number of the k-th live interval of c, counted from 1. Place p holds the (p + 1)-th.
+-- W11: "Words 3 to 10 hold the count discarded for each controller", which the form has at 0 until then. There are no others: the word
+-- after those of the eight controllers is the gap.
+abbrev pub discarded : State → ℕ → ℕ
+discarded σ c = cond (c <? controllers) (σ (Discarded c)) 0
+
+-- "so place p has that count plus p + 1": the number of the k-th live interval of c, counted from 1. Place p holds the (p + 1)-th.
 unfoldable pub numberOf : State → ℕ → ℕ → ℕ
-numberOf σ c k = k
+numberOf σ c k = discarded σ c + k
+
+-- the number of the newest live interval of c, the highest on its chain
+abbrev pub lastLive : State → ℕ → ℕ
+lastLive σ c = numberOf σ c (σ (LiveCount c))
 
 -- And back: the place of c with the number x. Numbers on a chain follow each other from that of place 0 on.
 unfoldable pub placeOf : State → ℕ → ℕ → ℕ
@@ -56,6 +65,14 @@ module _ (σ : State) (c : ℕ) where
   pub number-from : (k : ℕ) → numberOf σ c k ≡ numberOf σ c 0 + k
   unfolding numberOf
   number-from k = omega arith
+
+  -- as code reads it, and as it tests it: d is the word of c
+  pub number-read : (k d : ℕ) → c < controllers → d ≡ σ (Discarded c) → d + k ≡ numberOf σ c k
+  unfolding numberOf
+  number-read k d l e = rw (lt-ltb c controllers l, e)
+
+  pub number-tested : (k x d : ℕ) → c < controllers → d ≡ σ (Discarded c) → (x == d + k) ≡ (x == numberOf σ c k)
+  number-tested k x d l e = ap (λ n. x == n) (number-read k d l e)
 
   -- the next number
   pub number-next : (k : ℕ) → numberOf σ c (k + 1) ≡ numberOf σ c k + 1
@@ -107,10 +124,11 @@ pub place-from : (σ τ : State) (c x : ℕ) → numberOf σ c 1 ≡ numberOf τ
 unfolding placeOf
 place-from σ τ c x e = ap (λ n. x - n) e
 
--- in a house whose head has 0 in its spare words before the gap, numbers are counts
-pub number-fresh : (σ : State) (c k : ℕ) → ((k : ℕ) → spareFrom ≤ k → k < word Gap → σ (OfHead k) ≡ 0) → numberOf σ c k ≡ k
+-- where nothing of c is discarded, its numbers are counts
+pub number-fresh : (σ : State) (c k : ℕ) → (c < controllers → σ (Discarded c) ≡ 0) → numberOf σ c k ≡ k
 unfolding numberOf
-number-fresh σ c k h = refl
+number-fresh σ c k h =
+    cond-ind (λ d. d + k ≡ k) (c <? controllers) (λ e. let none = h (ltb-true c controllers e) in omega arith) (λ e. omega arith)
 
 -- LAWS OF MESSAGE NUMBERS
 module _ (σ : State) where
@@ -196,8 +214,10 @@ module _ (σ : State) (w : List ℕ) where
       rw (le-leb 1 m (p .0), le-leb m (σ SentCount) (p .1), le-leb m ((posted σ w) SentCount) (omega (arith, posted-count, p .1)))
 
   pub posted-number : (c k : ℕ) → numberOf (posted σ w) c k ≡ numberOf σ c k
-  unfolding numberOf
-  posted-number c k = refl
+  unfolding numberOf posted putPart
+  posted-number c k =
+      ap (λ d. cond (c <? controllers) d 0 + k)
+      (put-other (putPart σ (OfMessage (used σ) 0) 0 w) SentCount (Discarded c) (nextMessage σ) (λ e. let z : word (Discarded c) ≡ word SentCount = ap word e in absurd (omega arith)))
 
 -- as code writes it: the record r, and then the last number given
 pub posted-words : (t u y : List ℕ) (r m : ℕ) (w : List ℕ) → r ≡ used (state t) → m ≡ lastGiven (state t) →
@@ -273,9 +293,12 @@ pub numbers-kept : (σ τ : State) → ((f : Field) → numbering f ≡ true →
 unfolding numberOf placeOf used lastGiven recordOf messageOf
 numbers-kept σ τ h =
     let e : σ SentCount ≡ τ SentCount = h SentCount refl in
+    let gone : (c : ℕ) → discarded σ c ≡ discarded τ c = λ c. le? (c + 1) controllers
+    (λ l. rw (lt-ltb c controllers (omega arith)) (h (Discarded c) (ap not (ne-eqb (word (Discarded c)) (word Gap) (λ z. omega arith)))))
+    (λ l. rw (le-ltb c controllers (omega arith))) in
     record {
-      number = λ c k. refl;
-      place = λ c x. refl;
+      number = λ c k. ap (λ d. d + k) (gone c);
+      place = λ c x. ap (λ d. x - (d + 1)) (gone c);
       used-same = e;
       last = e;
       record-same = λ m. ap (λ n. cond ((1 ≤? m) && (m ≤? n)) (m - 1) n) e;
@@ -290,11 +313,18 @@ pub numbers-part : (σ : State) (f : Field) (k : ℕ) (w : List ℕ) → ((i : �
 numbers-part σ f k w n =
     numbers-kept _ σ (part-ind (λ g y. numbering g ≡ true → y ≡ σ g) σ f k w (λ i l e. absurd (true≢false (sym e ∙ n i l))) (λ g ne e. refl))
 
+pub numbers-clear : (σ : State) (c p q : ℕ) → Numbered (clearPlaces σ c p q) σ
+numbers-clear σ c p q =
+    numbers-kept _ σ (clear-ind (λ g y. numbering g ≡ true → y ≡ σ g) σ c p q (λ i k _ _ e. absurd (true≢false (sym e))) (λ g ne e. refl))
+
 pub numbers-states : (σ : State) (s : ℕ → ℕ) → Numbered (putStates σ s) σ
 numbers-states σ s =
     numbers-kept _ σ (states-ind (λ g y. numbering g ≡ true → y ≡ σ g) σ s (λ r e. absurd (true≢false (sym e))) (λ g ne e. refl))
 
--- one change after another
+-- none, and one change after another
+pub numbers-refl : (σ : State) → Numbered σ σ
+numbers-refl σ = numbers-kept σ σ (λ f _. refl)
+
 pub numbers-trans : (σ τ ρ : State) → Numbered σ τ → Numbered τ ρ → Numbered σ ρ
 numbers-trans σ τ ρ p q =
     record {
@@ -310,7 +340,7 @@ numbers-trans σ τ ρ p q =
 module _ (σ τ : State) (e : Agree σ τ) where
   pub number-same : (c k : ℕ) → c < controllers → numberOf σ c k ≡ numberOf τ c k
   unfolding numberOf
-  number-same c k cl = refl
+  number-same c k cl = rw (lt-ltb c controllers cl) (ap (λ d. d + k) (e (Discarded c) (omega arith)))
 
   pub used-agree : used σ ≡ used τ
   unfolding used

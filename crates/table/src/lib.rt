@@ -2,9 +2,10 @@
 // word by its position. The definitions have the same numbers in specs/Layout.antt; every contract over the table ties the
 // two. Names of words are those of specs/Field.antt.
 ghost use mathlib.Core.Path.{_≡_};
-ghost use Prim.Native.Nat.{_≤_, _<_};
+ghost use Prim.Native.Nat.{_≤_, _<_, _^_};
+ghost use Rattle.base.specs.Choice.{_==_};
 ghost use lib.ListN.{length};
-ghost use Rattle.table.specs.Field.{OfController, OfPlace, OfMessage, Known, End, Size, SentCount, Gap, Degree, Incarnation, LiveCount, StableCount, PlaceIncarnation, PlaceNumber, Cause, Flag, MessageState, Sender, Receiver, SendingIncarnation, SendingNumber, Payload, placeHead, messageHead};
+ghost use Rattle.table.specs.Field.{OfController, OfPlace, OfMessage, Known, End, Size, SentCount, Gap, Discarded, Degree, Incarnation, LiveCount, StableCount, PlaceIncarnation, PlaceNumber, Cause, Flag, MessageState, Sender, Receiver, SendingIncarnation, SendingNumber, Payload, placeHead, messageHead};
 ghost use Rattle.table.specs.Change.{put};
 ghost use Rattle.table.specs.Layout.{controllers, incarnations, places, messages, tableWords, position};
 ghost use Rattle.table.specs.Words.{state, words};
@@ -79,6 +80,8 @@ pub const SIZE: usize = 0;
 pub const SENT_COUNT: usize = 1;
 
 pub const SPARE: usize = 2;
+
+pub const DISCARDED: usize = 3;
 
 pub const GAP: usize = 11;
 
@@ -400,12 +403,28 @@ pub fn message_vector_at(r: usize) -> usize
     MESSAGE_VECTOR + r * MESSAGE_WORDS
 }
 
-// Numbers: of the k-th live interval of c, counted from 1; message records in use; the last message number given.
-pub fn number_of(t: &[u32], c: usize, k: u32) -> u32
+// How many intervals of c were discarded.
+pub fn discarded(t: &[u32], c: usize) -> u32
     requires { ⌜ (length (now t) ≡ tableWords) × (c < controllers) ⌝ }
+    ensures { λ x. ⌜ x ≡ state (now (t .entry)) (Discarded c) ⌝ }
+{
+    t[DISCARDED + c]
+}
+
+// Numbers: of the k-th live interval of c, counted from 1, where it fits a word; whether x is that number, whatever stands in the
+// table; message records in use; the last message number given.
+pub fn number_of(t: &[u32], c: usize, k: u32) -> u32
+    requires { ⌜ (length (now t) ≡ tableWords) × (c < controllers) × (numberOf (state (now t)) c k < 2 ^ 32) ⌝ }
     ensures { λ x. ⌜ x ≡ numberOf (state (now (t .entry))) c k ⌝ }
 {
-    k
+    discarded(t, c) + k
+}
+
+pub fn is_number_of(t: &[u32], c: usize, k: u32, x: u32) -> bool
+    requires { ⌜ (length (now t) ≡ tableWords) × (c < controllers) ⌝ }
+    ensures { λ b. ⌜ b ≡ (x == numberOf (state (now (t .entry))) c k) ⌝ }
+{
+    x as usize == discarded(t, c) as usize + k as usize
 }
 
 pub fn records_used(t: &[u32]) -> u32

@@ -16,9 +16,9 @@ use Rattle.rules.specs.Shared.{newestPlace, logged, loggedTo, checkpointed}
 use Rattle.rules.specs.Steps.{After, refusing, AfterBoth, beside, checkpointRefusals, stepCheckpoint}
 use Rattle.rules.specs.Step.{perform, stepOn}
 use Rattle.rules.specs.declared.Command.the-variants.{Checkpoint}
+use Rattle.laws.specs.Facts.{house-fits}
 use Rattle.laws.specs.Allowed.{checkpointAllowed}
 use Rattle.keeping.specs.Changes.{kept-checkpointed}
-use Rattle.keeping.specs.Kept.{house-fits}
 use Rattle.testers.specs.StepSame.{SameBoth, same-refl}
 
 module _ (σ : State) (c : ℕ) where

@@ -8,7 +8,6 @@ use borrow.Author.Tests.{eq-eqb}
 use Rattle.base.specs.Choice.{_==_, _≤?_, cond-ind}
 use Rattle.base.specs.Cases.{Case, firstOf}
 use Rattle.table.specs.Field.{State, Incarnation, LiveCount, Sender, Receiver}
-use Rattle.table.specs.Layout.{places}
 use Rattle.rules.specs.Limits.{house, lastIncarnation}
 use Rattle.rules.specs.Refusal.{FORM, PLACES-USED-UP, INCARNATIONS-USED-UP, LEDGER-USED-UP}
 use Rattle.rules.specs.Vector.{placeVector, messageVector, filtered, condemned, mask, conflict}
@@ -16,7 +15,7 @@ use Rattle.rules.specs.Form.{inForm, forDesk}
 use Rattle.rules.specs.Ledger.{countOf}
 use Rattle.rules.specs.Shared.{newestPlace}
 use Rattle.rules.specs.Report.{report}
-use Rattle.rules.specs.Steps.{After, after, refuse, refusing, AfterBoth, afterBoth, beside, refusingBoth, stepOpen, stepDegree, stepSend, mayGo, release, stepRelease, intervalBegins, deliver, stepDeliver, stepLog, stepCheckpoint, stepTell, stepCrash, stepGap, noted, lowestCondemned, hear, stepHear}
+use Rattle.rules.specs.Steps.{After, after, refuse, refusing, AfterBoth, afterBoth, beside, refusingBoth, stepOpen, stepDegree, stepSend, mayGo, release, stepRelease, intervalBegins, chainFull, deliver, stepDeliver, stepLog, stepCheckpoint, stepTell, stepCrash, stepGap, noted, lowestCondemned, hear, stepHear}
 use Rattle.rules.specs.Step.{perform, looksAtForm, stepOn}
 use Rattle.rules.specs.declared.Answer.{Answer}
 use Rattle.rules.specs.declared.Answer.the-variants.{Done, Sent, Released, Held, Delivered, Dropped, Waits, Crashed, Heard, Rolled, Refused}
@@ -81,7 +80,7 @@ module _ (σ : State) where
       let theirs = filtered σ c (messageVector σ r) in
       cond-ind (KeepsRefused σ) (condemned σ c (messageVector σ r)) (λ _. other σ (Dropped m) _ refl)
       (λ _. cond-ind (KeepsRefused σ) (conflict c ours theirs) (λ _. other σ (Waits m) σ refl)
-      (λ _. cond-ind (KeepsRefused σ) (places ≤? σ (LiveCount c)) (λ _. refused σ PLACES-USED-UP) (λ _. other σ (Delivered m _ _) _ refl)))
+      (λ _. cond-ind (KeepsRefused σ) (chainFull house σ c) (λ _. refused σ PLACES-USED-UP) (λ _. other σ (Delivered m _ _) _ refl)))
 
   -- H
   keeps-hear : (hearer owner i : ℕ) → KeepsRefused σ (hear σ hearer owner i)

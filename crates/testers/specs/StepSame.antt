@@ -12,7 +12,7 @@ use Rattle.base.specs.Choice.{_==_, _≤?_, _<?_, or-left, or-right, le?}
 use Rattle.base.specs.Cases.{Case, _⇒_, firstOf, hit}
 use Rattle.table.specs.Field.{State, OfMessage, End, Size, Gap, Degree, Incarnation, LiveCount, StableCount, MessageState, Sender, Receiver, Payload, desk, messageHead, same}
 use Rattle.table.specs.Change.{put}
-use Rattle.table.specs.Layout.{controllers, places, messages, tableWords}
+use Rattle.table.specs.Layout.{controllers, messages, tableWords}
 use Rattle.table.specs.Words.{state, words, length-words, word-at, words-same, Agree, agree-put, agree-put-to, agree-values}
 use Rattle.table.specs.Numbering.{numberOf, used, recordOf, number-same, used-agree, last-agree, record-agree}
 use Rattle.rules.specs.Limits.{house, lastIncarnation}
@@ -26,10 +26,10 @@ use Rattle.rules.specs.Step.{perform, stepOn, outBoth, writtenBoth, lent, step}
 use Rattle.rules.specs.declared.Answer.the-variants.{Sent, Released, Held, Delivered, Crashed, Rolled, Refused}
 use Rattle.rules.specs.declared.Command.{Command}
 use Rattle.rules.specs.declared.Command.the-variants.{Open, SetDegree, Send, Release, Deliver, Log, Checkpoint, Tell, Crash, Hear, SetGap}
-use Rattle.laws.specs.Facts.{Form, form, below-8, controllerForm, messageForm, released-lt, message-near}
-use Rattle.laws.specs.Allowed.{sendAllowed, messageAllowed, releaseAllowed, logAllowed, checkpointAllowed, tellAllowed, crashAllowed, hearAllowed}
-use Rattle.laws.specs.Agree.{incarnation-same, live-same, stable-same, state-same, placeVector-same, messageVector-same, filtered-same, condemned-same, replayed-same, lowestCondemned-same, agree-logged, agree-checkpointed, agree-capped, agree-sent, agree-begun, agree-noted, agree-told}
-use Rattle.laws.specs.Chain.{chain-counts, counts-added, Chain, chain-form, chain-noted, Starts, starts-put}
+use Rattle.laws.specs.Facts.{Form, form, below-8, controllerForm, messageForm, released-lt, message-near, house-fits}
+use Rattle.laws.specs.Allowed.{sendAllowed, messageAllowed, releaseAllowed, logAllowed, checkpointAllowed, tellAllowed, crashAllowed, hearAllowed, Room, room}
+use Rattle.laws.specs.Agree.{incarnation-same, live-same, stable-same, recordsFull-same, noPlace-same, state-same, placeVector-same, messageVector-same, filtered-same, condemned-same, replayed-same, lowestCondemned-same, agree-logged, agree-checkpointed, agree-capped, agree-sent, agree-begun, agree-noted, agree-told}
+use Rattle.laws.specs.Chain.{chain-counts, counts-added, Chain, chain-form, chain-noted, room-live, Starts, starts-put}
 use Rattle.laws.specs.Found.{lowest}
 use Rattle.laws.specs.Kept.{agree-removed, agree-rolled}
 use Rattle.keeping.specs.Kept.{inForm-same}
@@ -95,7 +95,7 @@ module _ (σ τ : State) (e : Agree σ τ) where
       same-cond SameBoth (ap (λ i. i == 0) q) (λ z. h (sym (eqb-true (firstOf cases) 0 z))) (λ _. same-beside g (same-refuse q))
 
   -- an interval begins, with vectors that are the same
-  pub same-begins : (c m r : ℕ) {v w : Vector} → Chain σ c → σ (LiveCount c) < places → v ≡ w → Same (intervalBegins σ c m r v) (intervalBegins τ c m r w)
+  pub same-begins : (c m r : ℕ) {v w : Vector} → Chain σ c → Room house σ c (σ (LiveCount c)) → v ≡ w → Same (intervalBegins σ c m r v) (intervalBegins τ c m r w)
   unfolding intervalBegins
   same-begins c m r {v} {w} chain room q =
       let cl = chain .named in
@@ -143,7 +143,7 @@ module _ (σ τ : State) (e : Agree σ τ) where
     same-send sender receiver payload =
         same-refusing _ _
         (same-first CONTROLLER _ _ (ap (λ n. (n ≤? sender) || ((n ≤? receiver) && not (receiver == desk))) size)
-        (λ _. same-first SAME-CONTROLLER _ _ refl (λ _. same-first MESSAGES-USED-UP _ _ (ap (λ u. messages ≤? u) (used-agree σ τ e)) (λ _. refl))))
+        (λ _. same-first SAME-CONTROLLER _ _ refl (λ _. same-first MESSAGES-USED-UP _ _ (recordsFull-same σ τ e house) (λ _. refl))))
         (λ z. let w = chain-form σ sender f (sendAllowed house σ sender receiver z .sender-lt) in
         let p : newestPlace σ sender < σ (LiveCount sender) = omega (arith, w .live-pos) in
         record {
@@ -197,8 +197,8 @@ module _ (σ τ : State) (e : Agree σ τ) where
         (same-cond Same (condemned-same σ τ e c _ (w .named) (message-near f r rl) ∙ ap (condemned τ c) (messageVector-same σ τ e r rl))
         (λ _. record { answer-is = refl; left-is = agree-put σ τ (MessageState r) stateDropped e })
         (λ _. same-cond Same (ap₂ (conflict c) ours theirs) (λ _. record { answer-is = refl; left-is = e })
-        (λ _. same-cond Same (ap (λ live. places ≤? live) (live-same σ τ e c (w .named))) (λ _. same-refuse refl)
-        (λ full. same-begins c m r w (leb-false places (σ (LiveCount c)) full) (ap₂ merged ours theirs)))))
+        (λ _. same-cond Same (noPlace-same σ τ e house c (w .named) (live-same σ τ e c (w .named))) (λ _. same-refuse refl)
+        (λ full. same-begins c m r w (room house σ f house-fits c _ full) (ap₂ merged ours theirs)))))
 
     same-deliver : (m : ℕ) → Same (stepDeliver house σ m) (stepDeliver house τ m)
     unfolding stepDeliver
@@ -241,17 +241,18 @@ module _ (σ τ : State) (e : Agree σ τ) where
         same-refusing _ _
         (same-first CONTROLLER _ _ (ap (λ n. n ≤? c) size)
         (λ z. let cl = named c z in
-        same-first PLACES-USED-UP _ _ (ap (λ k. places ≤? k) (stable-same σ τ e c cl))
+        same-first PLACES-USED-UP _ _ (noPlace-same σ τ e house c cl (stable-same σ τ e c cl))
         (λ _. same-first INCARNATIONS-USED-UP _ _ (ap (λ i. lastIncarnation ≤? i) (incarnation-same σ τ e c cl)) (λ _. refl))))
         (λ z. let d = crashAllowed house σ c z in
         let g = controllerForm f c (d .controller-lt) in
         let w = chain-form σ c f (d .controller-lt) in
         let k = σ (StableCount c) in
-        let s : Starts σ c k = record { chain = w; kept = g .stable-pos; room = d .room; below = g .stable-le; left = d .incarnation-lt } in
+        let left = room house σ f house-fits c k (d .room) in
+        let s : Starts σ c k = record { chain = w; kept = g .stable-pos; room = left; below = g .stable-le; left = d .incarnation-lt } in
         let own = incarnation-same σ τ e c (w .named) in
         let live = live-same σ τ e c (w .named) in
         let x = number-same σ τ e c k (w .named) in
-        let again = replayed-same σ τ e c k (w .named) (omega (arith, d .room)) in
+        let again = replayed-same σ τ e c k (w .named) (omega (arith, left .place-lt)) in
         rw (← stable-same σ τ e c (w .named))
         (record {
           answer-is = λ i. Crashed c (own i) (x i) (live i - k) (again i);
@@ -278,7 +279,7 @@ module _ (σ τ : State) (e : Agree σ τ) where
     hear-starts hearer owner i w l j =
         let w′ = chain-noted σ hearer hearer owner i w in
         let low = lowest (noted σ hearer owner i) hearer (w′ .live-pos) in
-        record { chain = w′; kept = low .pos; room = omega (arith, w .live-le); below = low .le; left = j }
+        record { chain = w′; kept = low .pos; room = room-live w′ l; below = low .le; left = j }
 
     -- H
     same-hear : (hearer owner i : ℕ) → Same (stepHear σ hearer owner i) (stepHear τ hearer owner i)
@@ -296,7 +297,7 @@ module _ (σ τ : State) (e : Agree σ τ) where
         (λ l. same-cond Same (ap (λ j. lastIncarnation ≤? j) (incarnation-same σ τ e hearer (w .named))) (λ _. same-refuse refl)
         (λ j. let s = hear-starts hearer owner i w (leb-false (σ (LiveCount hearer)) k l) (leb-false lastIncarnation (σ (Incarnation hearer)) j) in
         let x = number-same σ τ e hearer k (w .named) in
-        let again = replayed-same σ τ e hearer k (w .named) (omega (arith, s .room)) in
+        let again = replayed-same σ τ e hearer k (w .named) (omega (arith, s .room .place-lt)) in
         record { answer-is = λ d. Rolled hearer (x d) (live d - k) (again d); left-is = agree-rolled _ _ hearer k s heard }))))
 
     -- the gap

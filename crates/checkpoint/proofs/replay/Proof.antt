@@ -2,6 +2,7 @@
 use native.Mathlib.Omega.{arith}
 use borrow.Author.Needs.{needs}
 use Rattle.table.specs.Words.{state}
+use Rattle.laws.specs.Numbers.{number-fits}
 use Rattle.laws.specs.Found.{flagged-le}
 use Rattle.checkpoint.specs.Writes.{replay-is}
 use Rattle.checkpoint.proofs.replay.Statement.{statement}
@@ -15,4 +16,4 @@ returns c = search replay-is
 
 pub replay-spec : {M : Type 1} → statement M
 replay-spec = tie.close (tie.spec
-    (λ c κs. search needs) (λ c κs. search needs) sub-result returns)
+    (λ c κs. search (needs, number-fits)) (λ c κs. search needs) sub-result returns)

@@ -1,8 +1,14 @@
--- The place, the live count and the state are put, with what was read before (writes-added).
+-- There is room, so that the number fits (room-fits). The place, the live count and the state are put, with what was read before
+-- (writes-added).
 use Rattle.delivery.specs.Delivers.{writes-added}
+use native.Mathlib.Omega.{arith}
+use Rattle.laws.specs.Numbers.{room-fits}
 use borrow.Author.Needs.{needs}
 use Rattle.delivery.proofs.add_interval.Statement.{statement}
 use Rattle.delivery.proofs.add_interval.Tie as tie
+
+number-of-requires : tie.Need-number-of-requires
+number-of-requires c κs = let s = c .before .before .before .before .before .before .pre in (s .0, s .1, room-fits (s .2) _ (omega (arith, c .before .live-count .ensures)))
 
 returns : tie.Need-returns
 returns c =
@@ -20,6 +26,6 @@ pub add-interval-spec : {M : Type 1} → statement M
 add-interval-spec =
     tie.close
     (tie.spec
-    (λ c κs. search needs) (λ c κs. search needs) (λ c. search needs) (λ c κs. search needs) (λ c. search needs)
+    (λ c κs. search needs) (λ c κs. search needs) (λ c. search needs) number-of-requires (λ c. search needs)
     (λ c. search needs) (λ c. search needs) (λ c κs. search needs) (λ c. search needs) (λ c κs. search needs)
     (λ c κs. search needs) (λ c. search needs) returns)

@@ -9,7 +9,7 @@ use Rattle.form.proofs.in_form.Tie as tie
 
 returns : tie.Need-returns
 unfolding inForm
-returns c = sym (failed _ 0 (sym (c .before .head-ok .ensures) ∙ not-true _ (c .if1 .taken)))
+returns c = sym (failed _ (sym (c .before .head-ok .ensures) ∙ not-true _ (c .if1 .taken)) (λ w. search w))
 
 records-ok-requires : tie.Need-records-ok-requires
 records-ok-requires c κs = (search needs, sym (c .before .head-ok .ensures) ∙ not-false _ (c .if1 .left))

@@ -11,19 +11,19 @@ returns : tie.Need-returns
 unfolding inForm
 returns c =
     let size = c .before .before .size .ensures in
-    sym (failed _ 1 (rw size at (sym (c .before .controllers-ok .ensures)) ∙ not-true _ (c .if1 .taken)))
+    sym (failed _ (rw size at (sym (c .before .controllers-ok .ensures)) ∙ not-true _ (c .if1 .taken)) (λ w. search w))
 
 returns-2 : tie.Need-returns-2
 unfolding inForm
 returns-2 c =
     let size = c .before .before .before .before .size .ensures in
-    sym (failed _ 2 (rw size at (sym (c .before .all-rows-ok .ensures)) ∙ not-true _ (c .if2 .taken)))
+    sym (failed _ (rw size at (sym (c .before .all-rows-ok .ensures)) ∙ not-true _ (c .if2 .taken)) (λ w. search w))
 
 returns-3 : tie.Need-returns-3
 unfolding inForm
 returns-3 c =
     let size = c .before .before .before .before .before .before .size .ensures in
-    sym (failed _ 3 (rw size at (sym (c .before .all-places-ok .ensures)) ∙ not-true _ (c .if3 .taken)))
+    sym (failed _ (rw size at (sym (c .before .all-places-ok .ensures)) ∙ not-true _ (c .if3 .taken)) (λ w. search w))
 
 returns-4 : tie.Need-returns-4
 unfolding inForm allOf

@@ -2,6 +2,7 @@
 use Rattle.table.specs.Layout.{places}
 use Rattle.table.specs.Words.{state}
 use Rattle.rules.specs.Shared.{latestFlagged}
+use Rattle.laws.specs.Numbers.{number-fits}
 use Rattle.interval.specs.Walks.{flagged-none, flagged-here, flagged-below}
 use mathlib.Core.Path.{_≡_, refl, sym, ap, _∙_}
 use Prim.Native.Nat.{_≤_}
@@ -39,4 +40,4 @@ latest-flagged-spec =
     tie.close
     (tie.spec
     Inv-loop μ-loop loop-holds (λ c. search needs) (λ c κs. search needs) (λ c. search needs)
-    (λ c κs. search needs) returns (λ c. search needs) loop-again returns-2)
+    (λ c κs. search (needs, number-fits)) returns (λ c. search needs) loop-again returns-2)

@@ -24,7 +24,7 @@ live-count-requires : tie.Need-live-count-requires Inv-loop μ-loop Inv-places �
 live-count-requires c κs = let s = c .before .pre in (s .0, s .1 .named)
 
 latest-flagged-requires : tie.Need-latest-flagged-requires Inv-loop μ-loop Inv-places μ-places
-latest-flagged-requires c κs = let s = c .before .before .pre in (s .0, s .1 .named, omega arith)
+latest-flagged-requires c κs = let s = c .before .before .pre in (s .0, s .1 .named, omega arith, s .1 .numbers-le)
 
 places-holds : tie.Need-places-holds Inv-loop μ-loop Inv-places μ-places
 places-holds c =
@@ -53,7 +53,7 @@ loop-again c =
 raise-flagged-requires : tie.Need-raise-flagged-requires Inv-loop μ-loop Inv-places μ-places
 raise-flagged-requires c κs =
     let w = c .before .loop .inv in
-    (w .come .long, w .come .chain .named, place-lt _ _ _ _ _ _ w, come-latest _ _ _ _ _ (w .come))
+    (w .come .long, w .come .chain .named, place-lt _ _ _ _ _ _ w, come-latest _ _ _ _ _ (w .come), w .come .chain .numbers-le)
 
 places-again : tie.Need-places-again Inv-loop μ-loop Inv-places μ-places
 places-again c = judged-clear _ _ _ _ _ _ _ (c .before .before .loop .inv) (c .before .loop-test .left) (c .raise-flagged .ensures)

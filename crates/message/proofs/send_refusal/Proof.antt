@@ -1,6 +1,6 @@
 -- The tests stand in the order of the cases; what was read is put for the words, and each test has its outcome.
 use Rattle.base.specs.Cases.{firstOf}
-use borrow.Author.Tests.{le-leb, lt-leb, eq-eqb, ne-eqb}
+use borrow.Author.Tests.{eq-eqb, ne-eqb}
 use borrow.Author.Needs.{needs}
 use Rattle.message.proofs.send_refusal.Statement.{statement}
 use Rattle.message.proofs.send_refusal.Tie as tie
@@ -17,16 +17,16 @@ returns-3 : tie.Need-returns-3
 unfolding firstOf
 returns-3 c =
     let k = c .before .before .before in
-    rw (← (k .before .size .ensures), k .if1 .left, ne-eqb _ _ (c .before .before .if2 .left), ← (c .before .records-used .ensures), le-leb _ _ (c .if3 .taken))
+    rw (← (k .before .size .ensures), k .if1 .left, ne-eqb _ _ (c .before .before .if2 .left), ← (c .before .records-full .ensures), c .if3 .taken)
 
 returns-4 : tie.Need-returns-4
 unfolding firstOf
 returns-4 c =
     let k = c .before .before .before in
-    rw (← (k .before .size .ensures), k .if1 .left, ne-eqb _ _ (c .before .before .if2 .left), ← (c .before .records-used .ensures), lt-leb _ _ (c .if3 .left))
+    rw (← (k .before .size .ensures), k .if1 .left, ne-eqb _ _ (c .before .before .if2 .left), ← (c .before .records-full .ensures), c .if3 .left)
 
 pub send-refusal-spec : {M : Type 1} → statement M
 send-refusal-spec =
     tie.close
     (tie.spec
-    (λ c κs. search needs) returns returns-2 (λ c. search needs) (λ c κs. search needs) returns-3 returns-4)
+    (λ c κs. search needs) returns returns-2 (λ c κs. search needs) returns-3 returns-4)

@@ -1,7 +1,6 @@
 -- The tests are those of the definition: the length, and then the form, of which a head that isn't in form settles the answer.
 use Rattle.questions.specs.Numbers.{formNumber}
-use Rattle.base.specs.Cases.{failed}
-use Rattle.rules.specs.Form.{inForm}
+use Rattle.laws.specs.Facts.{no-head}
 use mathlib.Core.Path.{sym, _∙_}
 use borrow.Author.Tests.{eq-eqb, ne-eqb, not-true, not-false}
 use borrow.Author.Needs.{needs}
@@ -13,8 +12,8 @@ unfolding formNumber
 returns c = rw (ne-eqb _ _ (c .if1 .taken))
 
 returns-2 : tie.Need-returns-2
-unfolding formNumber inForm
-returns-2 c = rw (eq-eqb _ _ (c .before .before .if1 .left), failed _ 0 (sym (c .before .head-ok .ensures) ∙ not-true _ (c .if2 .taken)))
+unfolding formNumber
+returns-2 c = rw (eq-eqb _ _ (c .before .before .if1 .left), no-head _ _ (sym (c .before .head-ok .ensures) ∙ not-true _ (c .if2 .taken)))
 
 records-ok-requires : tie.Need-records-ok-requires
 records-ok-requires c κs = (search needs, sym (c .before .head-ok .ensures) ∙ not-false _ (c .if2 .left))

@@ -17,7 +17,7 @@ returns c =
     let x = c .before .before .before .before in
     let y = x .before .before .before in
     let live = rw (y .before .before .live-count .ensures) at (y .before .if1 .taken) in
-    rw (lt-ltb _ _ live, v, c .before .before .last-given .ensures, c .before .before .before .cause .ensures, x .number-of .ensures, x .before .place-number .ensures, x .before .before .place-incarnation .ensures, y .flag .ensures)
+    rw (lt-ltb _ _ live, v, c .before .before .last-given .ensures, c .before .before .before .cause .ensures, x .is-number-of .ensures, x .before .place-number .ensures, x .before .before .place-incarnation .ensures, y .flag .ensures)
 
 returns-2 : tie.Need-returns-2
 unfolding placeOk
@@ -28,6 +28,6 @@ place-ok-spec =
     tie.close
     (tie.spec
     (λ c. search needs) (λ c κs. search needs) (λ c κs. search needs) (λ c κs. search needs)
-    (λ c κs. search needs) (λ c. search needs) (λ c κs. search needs) (λ c κs. search needs)
+    (λ c. search needs) (λ c κs. search needs) (λ c κs. search needs) (λ c κs. search needs)
     (λ c κs. search needs) (λ c κs. search needs) (λ c κs. search needs) (λ c κs. search needs)
     (λ c κs. search needs) returns returns-2)

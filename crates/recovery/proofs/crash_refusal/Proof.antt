@@ -26,5 +26,5 @@ pub crash-refusal-spec : {M : Type 1} → statement M
 crash-refusal-spec =
     tie.close
     (tie.spec
-    (λ c κs. search needs) returns (λ c. search needs) stable-count-requires returns-2 incarnation-requires
+    (λ c κs. search needs) returns stable-count-requires (λ c κs. search needs) returns-2 incarnation-requires
     returns-3 returns-4)

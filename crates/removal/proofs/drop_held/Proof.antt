@@ -6,6 +6,7 @@ use lib.ListN.{length}
 use borrow.Author.Needs.{needs}
 use Rattle.table.specs.Layout.{messages, tableWords}
 use Rattle.table.specs.Words.{state, words}
+use Rattle.laws.specs.Numbers.{number-fits}
 use Rattle.removal.specs.Dropping.{droppedTo, drop-none, drop-more, drop-all}
 use Rattle.removal.proofs.drop_held.Statement.{statement}
 use Rattle.removal.proofs.drop_held.Tie as tie
@@ -31,5 +32,5 @@ pub drop-held-spec : {M : Type 1} → statement M
 drop-held-spec =
     tie.close
     (tie.spec
-    Inv-loop μ-loop (λ c κs. search needs) (λ c κs. search needs) (λ c. search needs) loop-holds (λ c κs. search needs) (λ c. search needs)
+    Inv-loop μ-loop (λ c κs. search (needs, number-fits)) (λ c κs. search needs) (λ c. search needs) loop-holds (λ c κs. search needs) (λ c. search needs)
     (λ c. search needs) loop-again (λ c. search needs) returns)
