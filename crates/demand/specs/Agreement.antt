@@ -33,6 +33,10 @@ firstKept σ c = numberOf σ c 1
 abbrev pub lastStable : State → ℕ → ℕ
 lastStable σ c = numberOf σ c (σ (StableCount c))
 
+-- an interval of c is flagged just where its place has the flag 1
+abbrev pub FlagAgrees : Run → ℕ → Interval → Type 0
+FlagAgrees r c y = (r .history .flagged y ≡ true) ↔ (state (r .table) (Flag c (placeOf (state (r .table)) c (y .number))) ≡ 1)
+
 -- controller c, and Q, in a run
 pub record Agrees (r : Run) (c : ℕ) : Type 0 where
   pub degree : r .history .degree c ≡ state (r .table) (Degree c)
@@ -43,9 +47,8 @@ pub record Agrees (r : Run) (c : ℕ) : Type 0 where
   pub newest-live : newest (r .history .chain c) .number ≡ lastLive (state (r .table)) c
   -- those up to the number that the stable count says are stable, and no others
   pub stable : (y : Interval) → member y (r .history .chain c) ≡ true → (r .history .stable y ≡ true) ↔ (y .number ≤ lastStable (state (r .table)) c)
-  -- W4: of those that aren't discarded, and so have a place, those are flagged whose place has the flag 1
-  pub flagged : (y : Interval) → member y (r .history .chain c) ≡ true → firstKept (state (r .table)) c ≤ y .number →
-      (r .history .flagged y ≡ true) ↔ (state (r .table) (Flag c (placeOf (state (r .table)) c (y .number))) ≡ 1)
+  -- W4: flags agree for those that aren't discarded, and so have a place
+  pub flagged : (y : Interval) → member y (r .history .chain c) ≡ true → firstKept (state (r .table)) c ≤ y .number → FlagAgrees r c y
   -- and Q is that of the table
   pub gap : r .history .gap ≡ state (r .table) Gap
 
@@ -85,6 +88,12 @@ agrees t g n k l O before rest e c below =
       gap = v .gap-is ∙ gap-is σ;
     }
 
--- Nothing is discarded yet, so that every live interval is one of them.
-pub none-discarded-yet : (t g : List ℕ) (n k : ℕ) → step t g (Open n k) .answer ≡ Done → (l : List Call) (c : ℕ) → firstKept (state (upTo t g n k l .table)) c ≡ 1
+-- Nothing is discarded yet, so that flags agree for every live interval.
+none-discarded-yet : (t g : List ℕ) (n k : ℕ) → step t g (Open n k) .answer ≡ Done → (l : List Call) (c : ℕ) → firstKept (state (upTo t g n k l .table)) c ≡ 1
 none-discarded-yet t g n k done l c = number-is (form house _ (sound-after t g n k done l .table .good)) c 1
+
+pub all-flags : (t g : List ℕ) (n k : ℕ) (l : List Call) → FromOpening t g n k l → (before rest : List Call) → l ≡ before ++ rest → (c : ℕ) → c < n →
+    let r = upTo t g n k before in (y : Interval) → member y (r .history .chain c) ≡ true → FlagAgrees r c y
+all-flags t g n k l O before rest e c below y z =
+    let w = agrees t g n k l O before rest e c below in
+    w .flagged y z (omega (arith, none-discarded-yet t g n k (O .done) before c, w .live y z .1))

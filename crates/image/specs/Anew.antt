@@ -8,7 +8,7 @@ use Rattle.base.specs.Choice.{_==_, _<?_, cond-ind}
 use Rattle.table.specs.Field.{State, Known, End, OfPlace, Incarnation, LiveCount, StableCount, PlaceIncarnation, Flag, PairIncarnation, PairNumber, word, same}
 use Rattle.table.specs.Change.{put, put-same, clearPlaces, putPart, putStates}
 use Rattle.table.specs.Layout.{controllers, incarnations}
-use Rattle.table.specs.Numbering.{numberOf, placeOf, number-from, number-next, place-lt, place-next, numbers-put, numbers-states}
+use Rattle.table.specs.Numbering.{numberOf, lastLive, placeOf, number-from, number-next, place-lt, place-next, numbers-put, numbers-states}
 use Rattle.rules.specs.Limits.{lastIncarnation}
 use Rattle.rules.specs.Vector.{pair as pairList, placeVector}
 use Rattle.rules.specs.Shared.{logged, loggedTo, capped, causesIn, causes, newVector, placed, entered, restarted, dropHeld, startAnew, removed}
@@ -69,7 +69,7 @@ module _ (σ : State) (c k : ℕ) (s : Starting σ c k) where
   kept = numberOf σ c k
 
   abbrev live : ℕ
-  live = numberOf σ c (σ (LiveCount c))
+  live = lastLive σ c
 
   abbrev freed : State
   freed = clearPlaces σ c k (σ (LiveCount c))

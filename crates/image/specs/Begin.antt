@@ -10,7 +10,7 @@ use Rattle.base.specs.Choice.{_==_}
 use Rattle.table.specs.Field.{State, OfPlace, Size, Incarnation, LiveCount, PlaceIncarnation, Flag, PairIncarnation, PairNumber, MessageState, word, placeHead, same}
 use Rattle.table.specs.Change.{put, put-same, putPart}
 use Rattle.table.specs.Layout.{controllers}
-use Rattle.table.specs.Numbering.{numberOf, placeOf, used, recordOf, number-from, number-next, place-lt, place-next, place-of-count}
+use Rattle.table.specs.Numbering.{numberOf, lastLive, placeOf, used, recordOf, number-from, number-next, place-lt, place-next, place-of-count}
 use Rattle.rules.specs.Limits.{Limits}
 use Rattle.rules.specs.Vector.{Vector, pair as pairList, placeVector, messageVector, filtered, merged}
 use Rattle.rules.specs.Form.{stateDelivered}
@@ -133,7 +133,7 @@ bothFor σ c r = merged (filtered σ c (placeVector σ c (newestPlace σ c))) (f
 -- the new interval's vector is the model's
 begun-vec : (σ : State) (c r i x : ℕ) → c < controllers → 1 ≤ σ (LiveCount c) → Near (placeVector σ c (newestPlace σ c)) → Near (messageVector σ r) →
     vecOf (set (bothFor σ c r) c (pairList i x))
-    ≡ mergedFor c (pair i x) (filteredFor (modelController σ c) (modelController σ c .vec (numberOf σ c (σ (LiveCount c))))) (filteredFor (modelController σ c) (vecOf (messageVector σ r)))
+    ≡ mergedFor c (pair i x) (filteredFor (modelController σ c) (modelController σ c .vec (lastLive σ c))) (filteredFor (modelController σ c) (vecOf (messageVector σ r)))
 unfolding mergedFor
 begun-vec σ c r i x cl l1 near far =
     let v = filtered σ c (placeVector σ c (newestPlace σ c)) in

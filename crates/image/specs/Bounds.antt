@@ -12,7 +12,7 @@ use Rattle.base.specs.Cases.{firstOf}
 use Rattle.table.specs.Field.{State, Known, End, Size, Gap, Degree, Incarnation, LiveCount, StableCount, PlaceIncarnation, Flag, Sender, Receiver, SendingIncarnation, SendingNumber, word, same}
 use Rattle.table.specs.Layout.{controllers, places, messages}
 use Rattle.table.specs.Words.{Agree}
-use Rattle.table.specs.Numbering.{numberOf, placeOf, used, recordOf, number-from, place-lt, none-used, number-same, used-agree, last-agree, record-agree}
+use Rattle.table.specs.Numbering.{numberOf, lastLive, placeOf, used, recordOf, number-from, place-lt, none-used, number-same, used-agree, last-agree, record-agree}
 use Rattle.rules.specs.Limits.{house}
 use Rattle.rules.specs.Form.{inForm}
 use Rattle.rules.specs.Steps.{AfterBoth, refusingBoth, openHouse, openRefusals, stepOpen}
@@ -35,7 +35,7 @@ pub record Bounded (σ : State) : Type 0 where
 -- The model looks at no place and no record past them, so that states with the same words have one model.
 module _ (σ τ : State) (e : Agree σ τ) (b : Bounded σ) where
   -- the place of a live number is in the table
-  place-in : (c x : ℕ) → c < controllers → x ≤ numberOf σ c (σ (LiveCount c)) → placeOf σ c x < places
+  place-in : (c x : ℕ) → c < controllers → x ≤ lastLive σ c → placeOf σ c x < places
   place-in c x cl q =
       let live = σ (LiveCount c) in
       let top = b .live-le c cl in
@@ -46,7 +46,7 @@ module _ (σ τ : State) (e : Agree σ τ) (b : Bounded σ) where
   controller-same : (c : ℕ) → c < controllers → modelController τ c ≡ modelController σ c
   unfolding controllerBy
   controller-same c cl =
-      let x : ℕ = numberOf σ c (σ (LiveCount c)) in
+      let x : ℕ = lastLive σ c in
       let live : numberOf σ c (τ (LiveCount c)) ≡ x = ap (numberOf σ c) (sym (e (LiveCount c) (cl, omega arith))) in
       renumbered σ τ c (λ k. sym (number-same σ τ e c k cl))
       ∙ controller-path (sym (e (Degree c) (cl, omega arith))) (sym (e (Incarnation c) (cl, omega arith))) live (ap (numberOf σ c) (sym (e (StableCount c) (cl, omega arith))))

@@ -9,7 +9,7 @@ use borrow.Author.Tests.{lt-ltb, le-ltb}
 use Rattle.base.specs.Choice.{_==_, _<?_, le?}
 use Rattle.table.specs.Field.{Field, State, OfHead, OfController, Known, End, OfPlace, OfMessage, Gap, Degree, Incarnation, LiveCount, StableCount, PlaceIncarnation, Flag, PairIncarnation, PairNumber, MessageState, Sender, Receiver, SendingIncarnation, SendingNumber, MessagePairIncarnation, MessagePairNumber, word}
 use Rattle.table.specs.Layout.{controllers}
-use Rattle.table.specs.Numbering.{numberOf, placeOf, used, lastGiven, recordOf, present, place-from, numbering, Numbered, numbers-kept}
+use Rattle.table.specs.Numbering.{numberOf, lastLive, placeOf, used, lastGiven, recordOf, present, place-from, numbering, Numbered, numbers-kept}
 use Rattle.rules.specs.Vector.{Pair as PairList, Vector, incarnation, number, pairOf, placeVector, messageVector}
 use Rattle.history.specs.History.{interval}
 use Rattle.model.specs.Model.{Pair, pair, Vec, Controller, Message, Model, putController, absentController}
@@ -83,14 +83,14 @@ unfolding image
 controller-is σ c cl = rw (lt-ltb c controllers cl)
 
 -- what a controller has begun in its number x
-pub begun-at : (σ : State) (c x : ℕ) → 1 ≤ x → x ≤ numberOf σ c (σ (LiveCount c)) → modelController σ c .begunIn x ≡ σ (PlaceIncarnation c (placeOf σ c x))
+pub begun-at : (σ : State) (c x : ℕ) → 1 ≤ x → x ≤ lastLive σ c → modelController σ c .begunIn x ≡ σ (PlaceIncarnation c (placeOf σ c x))
 unfolding controllerBy
-begun-at σ c x p q = within-in (numberOf σ c (σ (LiveCount c))) 0 (λ x. σ (PlaceIncarnation c (placeOf σ c x))) x p q
+begun-at σ c x p q = within-in (lastLive σ c) 0 (λ x. σ (PlaceIncarnation c (placeOf σ c x))) x p q
 
 -- and the vector of that number
-pub vec-at : (σ : State) (c x : ℕ) → 1 ≤ x → x ≤ numberOf σ c (σ (LiveCount c)) → modelController σ c .vec x ≡ placeVec σ c (placeOf σ c x)
+pub vec-at : (σ : State) (c x : ℕ) → 1 ≤ x → x ≤ lastLive σ c → modelController σ c .vec x ≡ placeVec σ c (placeOf σ c x)
 unfolding controllerBy
-vec-at σ c x p q = within-in (numberOf σ c (σ (LiveCount c))) noVec (λ x. placeVec σ c (placeOf σ c x)) x p q
+vec-at σ c x p q = within-in (lastLive σ c) noVec (λ x. placeVec σ c (placeOf σ c x)) x p q
 
 -- a message that is there
 pub message-at : (σ : State) (m : ℕ) → recordOf σ m < used σ → image σ .message m ≡ modelMessage σ (recordOf σ m)

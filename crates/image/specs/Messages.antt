@@ -11,7 +11,7 @@ use Rattle.base.specs.Choice.{_<?_}
 use Rattle.table.specs.Field.{State, OfController, Known, End, OfPlace, OfMessage, Size, LiveCount, PlaceIncarnation, PlaceNumber, Sender, Receiver, SendingIncarnation, SendingNumber, MessagePairIncarnation, MessagePairNumber, messageHead, word}
 use Rattle.table.specs.Change.{putPart}
 use Rattle.table.specs.Layout.{controllers, messageWords}
-use Rattle.table.specs.Numbering.{numberOf, used, nextMessage, recordOf, number-from, place-of-count, record-one, posted, posted-used, posted-last, posted-gap, posted-new, posted-record, posted-number, posted-at, posted-kept, posted-missing, numbering-vector, Numbered, numbers-part}
+use Rattle.table.specs.Numbering.{numberOf, lastLive, used, nextMessage, recordOf, number-from, place-of-count, record-one, posted, posted-used, posted-last, posted-gap, posted-new, posted-record, posted-number, posted-at, posted-kept, posted-missing, numbering-vector, Numbered, numbers-part}
 use Rattle.rules.specs.Limits.{Limits}
 use Rattle.rules.specs.Vector.{Vector, placeVector, messageVector, flat, filtered}
 use Rattle.rules.specs.Form.{stateHeld}
@@ -82,7 +82,7 @@ module _ (σ : State) (sender receiver payload : ℕ) (sl : sender < controllers
   w = messageRecord stateHeld sender receiver i x payload v
 
   -- where the newest place has the newest number
-  with-number : x ≡ numberOf σ sender (σ (LiveCount sender)) → image (sent σ sender receiver payload) ≡ sendMessage (image σ) (nextMessage σ) sender receiver
+  with-number : x ≡ lastLive σ sender → image (sent σ sender receiver payload) ≡ sendMessage (image σ) (nextMessage σ) sender receiver
   unfolding image sent sendMessage controllerBy
   with-number e =
       model-path (λ d c. cond (c <? controllers) (posted-controller σ w c d) absentController) (posted-last σ w)
@@ -97,7 +97,7 @@ module _ (σ : State) (sender receiver payload : ℕ) (sl : sender < controllers
       (posted-missing σ w m ne)))) (posted-gap σ w)
     where
       live : ℕ
-      live = numberOf σ sender (σ (LiveCount sender))
+      live = lastLive σ sender
 
       begun : i ≡ modelController σ sender .begunIn live
       begun =

@@ -10,7 +10,7 @@ use Rattle.base.specs.Choice.{_==_, _<?_, and-left, and-right, cond-ind}
 use Rattle.base.specs.Lists.{length-tab}
 use Rattle.table.specs.Field.{State, OfController, Known, OfPlace, Size, Discarded, Degree, Incarnation, LiveCount, StableCount, PlaceIncarnation, Flag, PairIncarnation, PairNumber, placeHead, word}
 use Rattle.table.specs.Layout.{controllers}
-use Rattle.table.specs.Numbering.{numberOf, placeOf, place-of-number, number-fresh, none-given, none-used}
+use Rattle.table.specs.Numbering.{numberOf, lastLive, placeOf, place-of-number, number-fresh, none-given, none-used}
 use Rattle.rules.specs.Vector.{pair as pairList, noPair}
 use Rattle.rules.specs.Shared.{placeRecord}
 use Rattle.rules.specs.Steps.{firstVector, openHouse}
@@ -48,7 +48,7 @@ module _ (n k c : ℕ) (cl : c < controllers) (l : c < n) where
   own-controller w = rw (lt-ltb c n l)
 
   -- its highest live number
-  one-live : numberOf σ c (σ (LiveCount c)) ≡ 1
+  one-live : lastLive σ c ≡ 1
   one-live = opened-number n k c _ ∙ own-controller (word (LiveCount c))
 
   -- its known words

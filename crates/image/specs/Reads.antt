@@ -3,9 +3,9 @@ use mathlib.Core.Path.{_≡_, refl, sym, ap, _∙_, subst}
 use mathlib.Core.Bool.{false}
 use Prim.Native.Nat.{ℕ, _≤_, _<_}
 use Rattle.base.specs.Choice.{_==_}
-use Rattle.table.specs.Field.{State, Known, End, Gap, Degree, Incarnation, LiveCount, StableCount, Flag, Sender, Receiver, SendingIncarnation, SendingNumber}
+use Rattle.table.specs.Field.{State, Known, End, Gap, Degree, Incarnation, StableCount, Flag, Sender, Receiver, SendingIncarnation, SendingNumber}
 use Rattle.table.specs.Layout.{controllers, incarnations}
-use Rattle.table.specs.Numbering.{numberOf, placeOf, used, lastGiven, recordOf, present-given}
+use Rattle.table.specs.Numbering.{numberOf, lastLive, placeOf, used, lastGiven, recordOf, present-given}
 use Rattle.rules.specs.Vector.{placeVector, messageVector}
 use Rattle.history.specs.History.{interval}
 use Rattle.model.specs.Model.{Controller, Message}
@@ -38,7 +38,7 @@ module _ (σ : State) (c : ℕ) (cl : c < controllers) where
   incarnation-is = ap (λ (k : Controller). k .incarnation) (controller-is σ c cl)
 
   -- its highest live number
-  pub live-is : image σ .controller c .live ≡ numberOf σ c (σ (LiveCount c))
+  pub live-is : image σ .controller c .live ≡ lastLive σ c
   unfolding controllerBy
   live-is = ap (λ (k : Controller). k .live) (controller-is σ c cl)
 
@@ -58,11 +58,11 @@ module _ (σ : State) (c : ℕ) (cl : c < controllers) where
   ends-is owner i ol il = ap (λ (k : Controller). k .ends owner i) (controller-is σ c cl) ∙ rows-in (λ owner i. σ (End c owner i)) owner i ol il
 
   -- the vector of number x, live
-  pub vec-is : (x : ℕ) → 1 ≤ x → x ≤ numberOf σ c (σ (LiveCount c)) → image σ .controller c .vec x ≡ vecOf (placeVector σ c (placeOf σ c x))
+  pub vec-is : (x : ℕ) → 1 ≤ x → x ≤ lastLive σ c → image σ .controller c .vec x ≡ vecOf (placeVector σ c (placeOf σ c x))
   vec-is x p q = ap (λ (k : Controller). k .vec x) (controller-is σ c cl) ∙ vec-at σ c x p q
 
   -- whether number x, live, is flagged
-  pub flag-is : (x : ℕ) → 1 ≤ x → x ≤ numberOf σ c (σ (LiveCount c)) → image σ .controller c .flagged x ≡ (σ (Flag c (placeOf σ c x)) == 1)
+  pub flag-is : (x : ℕ) → 1 ≤ x → x ≤ lastLive σ c → image σ .controller c .flagged x ≡ (σ (Flag c (placeOf σ c x)) == 1)
   unfolding controllerBy
   flag-is x p q = ap (λ (k : Controller). k .flagged x) (controller-is σ c cl) ∙ within-in _ false (λ x. σ (Flag c (placeOf σ c x)) == 1) x p q
 

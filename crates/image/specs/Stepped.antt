@@ -367,13 +367,13 @@ module _ (L : Limits) (σ : State) (f : Form L σ) where
   unfolding stepGap put same
   stepped-gap q = stepped-refusing σ (SetGap q) (gapRefusals q) _ (λ e. outcome-as _ _ (asks (SetGap q)) refl refl (image-gap σ q) (O.gap-set q (gapAllowed q e)))
 
--- after the host's look at the form, in a house of which nothing is discarded
-module _ (L : Limits) (σ : State) (g : List ℕ) (z : inForm L σ ≡ true → Fresh σ) where
+-- after the host's look at the form, in a house from which nothing is discarded; one that is not in form need not say so
+module _ (L : Limits) (σ : State) (g : List ℕ) (whole : inForm L σ ≡ true → Fresh σ) where
   looked : (x : Command) → looksAtForm x ≡ true → (Form L σ → Fresh σ → SteppedBoth σ x (perform L σ g x)) → SteppedBoth σ x (stepOn L σ g x)
   unfolding stepOn
   looked x q h =
       cond-ind (SteppedBoth σ x) (looksAtForm x && not (inForm L σ)) (λ e. O.refused (asks x) FORM)
-      (λ e. let good = not-false (inForm L σ) (subst (λ b. (b && not (inForm L σ)) ≡ false) q e) in h (form L σ good) (z good))
+      (λ e. let good = not-false (inForm L σ) (subst (λ b. (b && not (inForm L σ)) ≡ false) q e) in h (form L σ good) (whole good))
 
   -- every step on a state and a ledger
   pub stepped-state : (x : Command) → SteppedBoth σ x (stepOn L σ g x)

@@ -8,7 +8,7 @@ use Rattle.base.specs.Choice.{le?}
 use Rattle.table.specs.Field.{State, End, Size, LiveCount, Sender, same}
 use Rattle.table.specs.Change.{put}
 use Rattle.table.specs.Layout.{controllers}
-use Rattle.table.specs.Numbering.{numberOf, placeOf, used, recordOf, number-from, place-lt, place-next, place-ge, Numbered}
+use Rattle.table.specs.Numbering.{numberOf, lastLive, placeOf, used, recordOf, number-from, place-lt, place-next, place-ge, Numbered}
 use Rattle.rules.specs.Limits.{Limits}
 use Rattle.rules.specs.Vector.{Vector, incarnation, number, pairOf, placeVector, messageVector, filtered, condemned, conflict}
 use Rattle.rules.specs.Steps.{noted, lowestCondemned}
@@ -89,7 +89,7 @@ pub sound-noted : {L : Limits} (σ : State) (hearer owner i c : ℕ) → Sound L
 unfolding noted put same placeVector
 sound-noted σ hearer owner i c s = record { named = s .named; live-pos = s .live-pos; vector = s .vector }
 
-module _ {L : Limits} (σ : State) (c : ℕ) (s : Sound L σ c) (x : ℕ) (x1 : 1 ≤ x) (xl : x ≤ numberOf σ c (σ (LiveCount c))) where
+module _ {L : Limits} (σ : State) (c : ℕ) (s : Sound L σ c) (x : ℕ) (x1 : 1 ≤ x) (xl : x ≤ lastLive σ c) where
   -- the place of number x, which is live
   abbrev p : ℕ
   p = placeOf σ c x
@@ -120,7 +120,7 @@ module _ {L : Limits} (σ : State) (c : ℕ) (s : Sound L σ c) (x : ℕ) (x1 : 
 pub record Fresh (σ : State) : Type 0 where
   pub count : (c k : ℕ) → c < controllers → numberOf σ c k ≡ k
 
--- a table in form has one: no word says that anything was
+-- a state in form is one: words 3 to 10 are 0
 pub fresh : {L : Limits} {σ : State} → Form L σ → Fresh σ
 fresh f = record { count = λ c k _. number-is f c k }
 

@@ -68,8 +68,10 @@ pub fn clear_places(t: &mut [u32], c: usize, p: usize, q: usize)
     clear(&mut t[from..to]);
 }
 
-// Whether no place is left for an interval after the k-th of c.
+// Whether no place is left for an interval after the k-th of c. It asks what the number of that interval needs, though it doesn't make
+// it yet.
 pub fn no_place(t: &[u32], c: usize, k: u32) -> bool
+    requires { ⌜ (length (now t) ≡ tableWords) × (c < controllers) × (k ≤ places) × (lastLive (state (now t)) c ≤ lastNumber) ⌝ }
     ensures { λ b. ⌜ b ≡ noPlace house (state (now (t .entry))) c k ⌝ }
 {
     table::PLACES as u32 <= k

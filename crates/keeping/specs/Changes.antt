@@ -6,27 +6,24 @@ use Prim.Native.Nat.{ℕ, _+_, _*_, _≤_, _<_}
 use native.Mathlib.Omega.{arith}
 use lib.ListN.{length, getD}
 use borrow.Author.Tests.{ltb-true}
-use Rattle.base.specs.Choice.{_==_, _<?_, cond-ind}
+use Rattle.base.specs.Choice.{_<?_, cond-ind}
 use Rattle.base.specs.Ranges.{allb}
-use Rattle.table.specs.Field.{Field, State, OfController, Known, End, Size, Gap, Degree, LiveCount, StableCount, Flag, PairIncarnation, PairNumber, placeHead, word, same}
+use Rattle.table.specs.Field.{Field, State, Known, End, Size, Gap, Degree, LiveCount, StableCount, Flag, PairIncarnation, PairNumber, placeHead, word, same}
 use Rattle.table.specs.Change.{put, put-ind, put-same, put-other, putPart, part-ind}
 use Rattle.table.specs.Numbering.{numbers-put}
 use Rattle.rules.specs.Limits.{Limits, lastGap}
 use Rattle.rules.specs.Form.{zeros, vectorOk, highest, rowOk, headZeros, inForm}
 use Rattle.rules.specs.Shared.{newestPlace, logged, loggedTo, checkpointed, forced, capped}
 use Rattle.laws.specs.Facts.{Fitting, Form, form, below-8, controllerForm, placeForm, known-top, end-top, live-number}
+use Rattle.laws.specs.Chain.{logged-word}
 use Rattle.laws.specs.Records.{placeVector-of}
 use Rattle.keeping.specs.Untouched.{okAt, home, at-one-home, looked, form-put, form-part}
 use Rattle.keeping.specs.InRange.{head-ok, controller-ok, highest-is, row-ok, place-ok}
 
--- logging writes neither the number of controllers nor a word of a controller but the stable count
+-- logging does not write the number of controllers
 pub logged-size : (σ : State) (c k : ℕ) → loggedTo σ c k Size ≡ σ Size
 unfolding loggedTo logged put same
 logged-size σ c k = cond-ind (λ (τ : State). τ Size ≡ σ Size) (σ (StableCount c) <? k) (λ _. refl) (λ _. refl)
-
-pub logged-word : (σ : State) (c k w : ℕ) → (w == word (StableCount c)) ≡ false → loggedTo σ c k (OfController c w) ≡ σ (OfController c w)
-unfolding loggedTo logged put same
-logged-word σ c k w ne = cond-ind (λ (τ : State). τ (OfController c w) ≡ σ (OfController c w)) (σ (StableCount c) <? k) (λ _. rw ne) (λ _. refl)
 
 module _ (L : Limits) where
   -- THE HEAD

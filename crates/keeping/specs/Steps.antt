@@ -23,13 +23,14 @@ use Rattle.rules.specs.Step.{perform, looksAtForm, stepOn}
 use Rattle.rules.specs.declared.Answer.the-variants.{Done}
 use Rattle.rules.specs.declared.Command.{Command}
 use Rattle.rules.specs.declared.Command.the-variants.{Open, SetDegree, Send, Release, Deliver, Log, Checkpoint, Tell, Crash, Hear, SetGap}
-use Rattle.laws.specs.Facts.{Fitting, Form, form, below-8, controllerForm, placeForm, messageForm, released-lt, known-le, end-le, live-number}
-use Rattle.laws.specs.Allowed.{openAllowed, degreeAllowed, sendAllowed, messageAllowed, releaseAllowed, logAllowed, checkpointAllowed, tellAllowed, crashAllowed, hearAllowed, gapAllowed, Room, room}
-use Rattle.laws.specs.Numbers.{numbers-loggedTo, numbers-causes, numbers-noted, room-same}
+use Rattle.laws.specs.Facts.{Fitting, Form, form, below-8, controllerForm, placeForm, messageForm, released-lt, known-le, end-le, numbers-le, live-number}
+use Rattle.laws.specs.Allowed.{openAllowed, degreeAllowed, sendAllowed, messageAllowed, releaseAllowed, logAllowed, checkpointAllowed, tellAllowed, crashAllowed, hearAllowed, gapAllowed, Room, room-left}
+use Rattle.laws.specs.Numbers.{numbers-loggedTo, numbers-causes, numbers-noted, room-live, room-same}
+use Rattle.laws.specs.Chain.{logged-word}
 use Rattle.laws.specs.Records.{length-merged}
 use Rattle.laws.specs.Answering.{not-done}
 use Rattle.keeping.specs.InRange.{held-ok, dropped-ok, filtered-ok, merged-ok}
-use Rattle.keeping.specs.Changes.{logged-size, logged-word, kept-gap, kept-degree, kept-word, kept-row, kept-logged, kept-loggedTo, kept-checkpointed, kept-capped}
+use Rattle.keeping.specs.Changes.{logged-size, kept-gap, kept-degree, kept-word, kept-row, kept-logged, kept-loggedTo, kept-checkpointed, kept-capped}
 use Rattle.keeping.specs.Messages.{kept-state, kept-causes, kept-dropHeld, kept-letOut, kept-posted}
 use Rattle.keeping.specs.Chains.{kept-added, kept-restarted}
 use Rattle.keeping.specs.Opening.{form-open}
@@ -108,7 +109,7 @@ module _ (L : Limits) where
           (λ _. cond-ind (λ (o : After). In (o .left)) (conflict c _ _) (λ _. e)
           (λ _. cond-ind (λ (o : After). In (o .left)) (chainFull L σ c) (λ _. e)
           (λ u. kept-capped L fit _ c h
-          (kept-added L σ e c m r _ h (room L σ facts fit c (σ (LiveCount c)) u) (present-given σ m (a .record-used)) (a .record-used) refl (length-merged _ _) (merged-ok L (σ Size) _ _ ours theirs))))))
+          (kept-added L σ e c m r _ h (room-left L σ facts fit c (σ (LiveCount c)) u) (present-given σ m (a .record-used)) (a .record-used) refl (length-merged _ _) (merged-ok L (σ Size) _ _ ours theirs))))))
 
       -- L
       kept-stepLog : (c q : ℕ) → In (stepLog σ c q .left)
@@ -145,7 +146,7 @@ module _ (L : Limits) where
           let h = a .controller-lt in
           let k = controllerForm facts c h in
           let j = σ (StableCount c) in
-          kept-removed _ c j h (k .stable-pos) (k .stable-le) (room-same (numbers-put σ (End c c _) _ refl .number c (j + 1)) (room L σ facts fit c j (a .room))) (a .incarnation-lt)
+          kept-removed _ c j h (k .stable-pos) (k .stable-le) (room-same (numbers-put σ (End c c _) _ refl .number c (j + 1)) (room-left L σ facts fit c j (a .place-left))) (a .incarnation-lt)
           (kept-word L σ c c h h (End c c _) _ refl refl (live-number facts fit c h j (k .stable-le)) e))
 
       -- H
@@ -168,10 +169,7 @@ module _ (L : Limits) where
           let own = logged-word heard hearer k (word (Incarnation hearer)) refl in
           let same-number = numbers-loggedTo heard hearer k .number hearer (k + 1) ∙ numbers-noted σ hearer owner i .number hearer (k + 1) in
           kept-removed (loggedTo heard hearer k) hearer k (subst (λ n. hearer < n) (sym (logged-size heard hearer k)) h) (omega arith) (omega arith)
-          (record {
-            place-lt = omega (arith, controllerForm facts hearer h .live-le);
-            number-le = omega (arith, same-number, live-number facts fit hearer h (k + 1) (omega arith));
-          }) (omega (arith, leb-false lastIncarnation (σ (Incarnation hearer)) w))
+          (room-same same-number (room-live below (controllerForm facts hearer h .live-le) (numbers-le facts fit hearer h))) (omega (arith, leb-false lastIncarnation (σ (Incarnation hearer)) w))
           (kept-loggedTo L fit heard hearer h k (omega arith) good))))
 
       -- the gap

@@ -122,11 +122,11 @@ module _ (L : Limits) (σ : State) where
     pub place-lt : k < L .places
     pub number-le : numberOf σ c (k + 1) ≤ L .numbers
 
-  pub room : Form L σ → Fitting L → (c k : ℕ) → noPlace L σ c k ≡ false → Room c k
+  pub room-left : Form L σ → Fitting L → (c k : ℕ) → noPlace L σ c k ≡ false → Room c k
   unfolding noPlace
-  room f fit c k e = let l = leb-false _ _ e in record { place-lt = l; number-le = omega (arith, number-is f c (k + 1), fit .numbers) }
+  room-left f fit c k e = let l = leb-false _ _ e in record { place-lt = l; number-le = omega (arith, number-is f c (k + 1), fit .numbers) }
 
-  -- it applies: the k-th has a number from the last place's on
+  -- it applies: the number of the k-th is at least the count of places
   pub no-place-number : (c k : ℕ) → noPlace L σ c k ≡ true → L .places ≤ numberOf σ c k
   unfolding noPlace
   no-place-number c k e = omega (arith, leb-true (L .places) k e, number-from σ c k)
@@ -158,7 +158,7 @@ module _ (L : Limits) (σ : State) where
   -- X
   pub record CrashAllowed (c : ℕ) : Type 0 where
     pub controller-lt : c < σ Size
-    pub room : crashFull L σ c ≡ false
+    pub place-left : crashFull L σ c ≡ false
     pub incarnation-lt : σ (Incarnation c) < lastIncarnation
 
   -- no refusal of X applies
@@ -167,7 +167,7 @@ module _ (L : Limits) (σ : State) where
       let w = cleared _ refl e in
       record {
         controller-lt = leb-false _ _ (search w);
-        room = search w;
+        place-left = search w;
         incarnation-lt = leb-false _ _ (search w);
       }
 

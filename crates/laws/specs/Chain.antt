@@ -13,7 +13,7 @@ use Rattle.table.specs.Field.{Field, State, OfHead, OfController, Known, End, O
 use Rattle.table.specs.Change.{put, put-ind, put-same, putPart, putStates, states-ind}
 use Rattle.table.specs.Layout.{controllers, places, messages}
 use Rattle.table.specs.Words.{state, words, agree-words}
-use Rattle.table.specs.Numbering.{numberOf, lastLive, used, numbering, numbers-kept, number-from, number-same, used-agree}
+use Rattle.table.specs.Numbering.{numberOf, lastLive, used, numbering, numbers-kept, number-same, used-agree}
 use Rattle.rules.specs.Limits.{house, lastIncarnation, lastNumber}
 use Rattle.rules.specs.Vector.{Vector, pair, placeVector, messageVector}
 use Rattle.rules.specs.Form.{stateReleased}
@@ -21,7 +21,7 @@ use Rattle.rules.specs.Shared.{placeRecord, logged, loggedTo, checkpointed, for
 use Rattle.rules.specs.Steps.{chainFull, intervalAdded, noted, messageRefusals, releaseRefusals}
 use Rattle.laws.specs.Facts.{Near, Form, form, below-8, controllerForm, placeForm, messageForm, released-lt, no-message, message-near, house-fits, numbers-le}
 use Rattle.laws.specs.Records.{placeVector-of, messageVector-of}
-use Rattle.laws.specs.Allowed.{messageAllowed, releaseAllowed, Room, room}
+use Rattle.laws.specs.Allowed.{messageAllowed, releaseAllowed, Room, room-left}
 use Rattle.laws.specs.Numbers.{numbers-capped, numbers-added, numbers-restarted, room-same}
 use Rattle.laws.specs.Agree.{incarnation-same, live-same, placeVector-same, messageVector-same, live-restarted}
 use Rattle.laws.specs.Answering.{Lent}
@@ -71,7 +71,7 @@ chain-form σ c f h =
 pub chain-counts : {σ : State} {c : ℕ} → Chain σ c → Counts σ c
 chain-counts w = record { named = w .named; incarnation-le = w .incarnation-le; live-pos = w .live-pos; live-le = w .live-le; numbers-le = w .numbers-le }
 
--- so has a state with the same incarnation, live count and numbers
+-- a state with the same incarnation, live count and numbers has the same counts
 counts-same : {σ τ : State} {c : ℕ} → τ (Incarnation c) ≡ σ (Incarnation c) → τ (LiveCount c) ≡ σ (LiveCount c) → ((k : ℕ) → numberOf τ c k ≡ numberOf σ c k) →
     Counts σ c → Counts τ c
 counts-same {σ} {τ} {c} own live number w =
@@ -84,22 +84,25 @@ counts-same {σ} {τ} {c} own live number w =
       numbers-le = omega (arith, last, w .numbers-le);
     }
 
--- a table with the words of σ
+-- so has a table with the words of σ
 pub counts-words : (σ : State) (c : ℕ) {t : List ℕ} → t ≡ words σ → Counts σ c → Counts (state t) c
 counts-words σ c {t} q w =
     let e = agree-words σ q in
     let cl = w .named in
     counts-same (incarnation-same (state t) σ e c cl) (live-same (state t) σ e c cl) (λ k. number-same (state t) σ e c k cl) w
 
--- one in which a checkpoint was made, if it was due
+-- logging writes no word of a controller but the stable count
+pub logged-word : (σ : State) (c k w : ℕ) → (w == word (StableCount c)) ≡ false → loggedTo σ c k (OfController c w) ≡ σ (OfController c w)
+unfolding loggedTo logged put same
+logged-word σ c k w ne = cond-ind (λ (τ : State). τ (OfController c w) ≡ σ (OfController c w)) (σ (StableCount c) <? k) (λ _. rw ne) (λ _. refl)
+
+-- a state in which a checkpoint was made, if one was due
 pub counts-capped : (σ : State) (c : ℕ) → Counts σ c → Counts (capped σ c) c
-unfolding capped checkpointed loggedTo logged put same
+unfolding capped checkpointed put same
 counts-capped σ c = counts-same (kept (word (Incarnation c)) refl) (kept (word (LiveCount c)) refl) (numbers-capped σ c .number c)
   where
-    kept : (k : ℕ) → (k == word (StableCount c)) ≡ false → capped σ c (OfController c k) ≡ σ (OfController c k)
-    kept k n =
-        cond-ind (λ (τ : State). τ (OfController c k) ≡ σ (OfController c k)) (forced σ c)
-        (λ _. cond-ind (λ (τ : State). τ (OfController c k) ≡ σ (OfController c k)) (σ (StableCount c) <? σ (LiveCount c)) (λ _. rw n) (λ _. refl)) (λ _. refl)
+    kept : (w : ℕ) → (w == word (StableCount c)) ≡ false → capped σ c (OfController c w) ≡ σ (OfController c w)
+    kept w ne = cond-ind (λ (τ : State). τ (OfController c w) ≡ σ (OfController c w)) (forced σ c) (λ _. logged-word σ c (σ (LiveCount c)) w ne) (λ _. refl)
 
 -- an interval more, where there is room for it
 pub counts-added : (σ : State) (c m r : ℕ) (v : Vector) → Counts σ c → Room house σ c (σ (LiveCount c)) → Counts (intervalAdded σ c m r v) c
@@ -205,11 +208,6 @@ chain-words σ c {t} q w =
       unsent = λ r l u. e (SendingNumber r) (l, omega arith) ∙ w .unsent r l (omega (arith, used-agree (state t) σ e));
     }
 
--- a live place has room for an interval
-pub room-live : {σ : State} {c k : ℕ} → Chain σ c → k < σ (LiveCount c) → Room house σ c k
-room-live {σ} {c} {k} w l =
-    record { place-lt = omega (arith, w .live-le); number-le = omega (arith, number-from σ c (k + 1), number-from σ c (σ (LiveCount c)), w .numbers-le) }
-
 -- what starting anew at c after its k-th interval counts on
 pub record Starts (σ : State) (c k : ℕ) : Type 0 where
   pub chain : Chain σ c
@@ -291,7 +289,7 @@ pub taken : (t : List ℕ) (r : ℕ) → Lent t → 0 ≡ firstOf (messageRefusa
 taken t r l e =
     let f = form house (state t) (l .good) in
     let a = messageAllowed (state t) r stateReleased e in
-    record { record-lt = omega (arith, f .used-le, a .record-used); receiver = chain-of t _ l (released-lt f r (a .record-used) (a .state-is)); room = room house (state t) f house-fits _ _ }
+    record { record-lt = omega (arith, f .used-le, a .record-used); receiver = chain-of t _ l (released-lt f r (a .record-used) (a .state-is)); room = room-left house (state t) f house-fits _ _ }
 
 -- R: the same; its receiver may be the desk
 pub record Releasable (σ : State) (r : ℕ) : Type 0 where

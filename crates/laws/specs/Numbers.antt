@@ -63,6 +63,11 @@ number-fits σ c k h l = omega (arith, number-from σ c k, number-from σ c (σ 
 pub room-fits : {σ : State} {c k : ℕ} → Room house σ c k → (j : ℕ) → j ≤ k + 1 → numberOf σ c j < 2 ^ 32
 room-fits {σ} {c} {k} w j l = omega (arith, number-from σ c j, number-from σ c (k + 1), w .number-le)
 
--- room for an interval, where numbers are the same
+-- a live place has room for an interval
+pub room-live : {L : Limits} {σ : State} {c k : ℕ} → k < σ (LiveCount c) → σ (LiveCount c) ≤ L .places → lastLive σ c ≤ L .numbers → Room L σ c k
+room-live {L} {σ} {c} {k} l places-le numbers-le =
+    record { place-lt = omega arith; number-le = omega (arith, number-from σ c (k + 1), number-from σ c (σ (LiveCount c))) }
+
+-- where numbers are the same, there is the same room
 pub room-same : {L : Limits} {σ τ : State} {c k : ℕ} → numberOf τ c (k + 1) ≡ numberOf σ c (k + 1) → Room L σ c k → Room L τ c k
 room-same e w = record { place-lt = w .place-lt; number-le = omega (arith, e, w .number-le) }

@@ -199,8 +199,8 @@ module _ (t g : List ℕ) (n k r : ℕ) (e : r ≡ firstOf (openRefusals house g
   ledger-cleared : r ≡ 0 → (w : List ℕ) → w ≡ zeroWords (length g) → w ≡ blankLedger house
   unfolding zeroWords blankLedger
   ledger-cleared z w we =
-      let w = cleared _ refl (sym z ∙ e) in
-      let l : length g ≡ ledgerWords house = eqb-true _ _ (not-false _ (search w)) in
+      let none = cleared _ refl (sym z ∙ e) in
+      let l : length g ≡ ledgerWords house = eqb-true _ _ (not-false _ (search none)) in
       we ∙ ap zeroWords l
 
   pub open-done : (u w : List ℕ) → r ≡ 0 → u ≡ words (openHouse n k) → w ≡ zeroWords (length g) → outBoth Done u w ≡ writtenBoth (stepOpen house (state t) g n k)

@@ -8,7 +8,7 @@ use Rattle.base.specs.Choice.{cond-ind, le?}
 use Rattle.table.specs.Field.{State, Incarnation, LiveCount, MessageState, Sender, SendingIncarnation, SendingNumber}
 use Rattle.table.specs.Layout.{controllers}
 use Rattle.table.specs.Words.{state}
-use Rattle.table.specs.Numbering.{numberOf, used, lastGiven, recordOf, present-pos, given-present, record-one}
+use Rattle.table.specs.Numbering.{numberOf, lastLive, used, lastGiven, recordOf, present-pos, given-present, record-one}
 use Rattle.rules.specs.Form.{stateHeld}
 use Rattle.rules.specs.Step.{step, Call, asks, stepCall}
 use Rattle.rules.specs.declared.Answer.{Answer}
@@ -127,7 +127,7 @@ module _ {n : ℕ} {h : History} (t : List ℕ) (v : Inv n (modelOf t) h) (m : �
       let number = ap (λ (z : Interval). z .number) sending-is in
       let sender = ap (λ (z : Interval). z .owner) sending-is in
       let more : τ (Incarnation c) ≡ σ (Incarnation c) + 1 = subst (λ c. τ (Incarnation c) ≡ σ (Incarnation c) + 1) (sym sender) later in
-      let above : numberOf τ c (τ (LiveCount c)) ≤ σ (SendingNumber (recordOf σ m)) = subst (λ c. numberOf τ c (τ (LiveCount c)) ≤ σ (SendingNumber (recordOf σ m))) (sym sender) low in
+      let above : lastLive τ c ≤ σ (SendingNumber (recordOf σ m)) = subst (λ c. lastLive τ c ≤ σ (SendingNumber (recordOf σ m))) (sym sender) low in
       let top = live-is τ c (omega arith) in
       let now = incarnation-is τ c (omega arith) in
       let before = incarnation-is σ c (omega arith) in

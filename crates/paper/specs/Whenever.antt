@@ -12,11 +12,13 @@ use Rattle.table.specs.Words.{state}
 use Rattle.table.specs.Numbering.{lastLive, used, recordOf, present-pos, given-present}
 use Rattle.rules.specs.Limits.{house}
 use Rattle.rules.specs.Form.{stateHeld, stateReleased}
+use Rattle.rules.specs.Steps.{chainFull}
 use Rattle.rules.specs.Step.{Call, asks}
 use Rattle.rules.specs.declared.Answer.{Answer}
 use Rattle.rules.specs.declared.Answer.the-variants.{Done, Delivered, Dropped}
 use Rattle.rules.specs.declared.Command.{Command}
 use Rattle.rules.specs.declared.Command.the-variants.{Release, Deliver, Checkpoint, Tell}
+use Rattle.laws.specs.Allowed.{no-place-number}
 use Rattle.history.specs.History.{Interval, History, newest}
 use Rattle.history.specs.Demand.{Run, stepIn, named, RestsOnLost, FromOpening, upTo, end}
 use Rattle.history.specs.Progress.{Orphan, SentIn, SendingLive, HeldIn, LetOutIn, NotLetOut, HasHeard, Deliverable}
@@ -272,8 +274,8 @@ module _ (t g : List ℕ) (n k : ℕ) (l : List Call) (O : FromOpening t g n k l
         (λ d. let b = receiver-is d in Delivered m (σ (Incarnation b)) (lastLive σ b + 1))
         ∙ (λ d. Delivered m (incarnation-now d) (number-now d + 1))
 
-    no-place : house .places ≤ lastLive σ (receiverIn u m) → house .places ≤ newest (h .chain c) .number
-    no-place q = subst (λ x. house .places ≤ x) (ap (lastLive σ) receiver-is ∙ number-now) q
+    no-place : chainFull house σ (receiverIn u m) ≡ true → house .places ≤ newest (h .chain c) .number
+    no-place q = subst (λ x. house .places ≤ x) (ap (lastLive σ) receiver-is ∙ number-now) (no-place-number house σ (receiverIn u m) _ q)
 
     -- Where its controllers are cleared for its receiver and its sending interval rests on nothing lost, it doesn't wait, whatever that has heard.
     pub useful-arrives : AllCleared t g n k l m c → (Orphan h (h .sending m) → ⊥) → Begins t g n k l m

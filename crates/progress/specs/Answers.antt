@@ -27,7 +27,6 @@ use Rattle.rules.specs.declared.Answer.the-variants.{Done, Released, Delivered,
 use Rattle.rules.specs.declared.Command.{Command}
 use Rattle.rules.specs.declared.Command.the-variants.{Release, Deliver, Checkpoint, Tell}
 use Rattle.laws.specs.Facts.{Form, form, messageForm, released-lt}
-use Rattle.laws.specs.Allowed.{no-place-number}
 use Rattle.keeping.specs.Unrefused.{Sound}
 use Rattle.model.specs.Model.{Vec, full, releasedVec, filtered as filteredFor}
 use Rattle.model.specs.Tests.{fails, passes, eq?}
@@ -218,7 +217,7 @@ module _ (L : Limits) (σ : State) (g : List ℕ) (good : inForm L σ ≡ true) 
       -- the answer of a delivery, or the refusal where the receiver's places are used up
       abbrev Goes : Answer → Type 0
       Goes a =
-          (a ≡ Delivered m (σ (Incarnation c)) (lastLive σ c + 1)) ⊎ ((a ≡ Refused PLACES-USED-UP) × (L .places ≤ lastLive σ c))
+          (a ≡ Delivered m (σ (Incarnation c)) (lastLive σ c + 1)) ⊎ ((a ≡ Refused PLACES-USED-UP) × (chainFull L σ c ≡ true))
 
       -- so answers D to a message that is not condemned and whose filtered vector is empty
       deliver-goes : (IsCondemned → ⊥) → ((a : ℕ) → full (filteredFor (image σ .controller c) (image σ .message m .vec) a) ≡ false) →
@@ -235,7 +234,7 @@ module _ (L : Limits) (σ : State) (g : List ℕ) (good : inForm L σ ≡ true) 
           conflict-empty c ours (filtered σ c v) (subst (λ (w : Vec). (a : ℕ) → full (w a) ≡ false) (sym theirs) h) in
           subst Goes (sym delivered)
           (rw (spares, agrees) (cond-ind (λ (o : After). Goes (o .answer)) (chainFull L σ c)
-          (λ q. inr (refl, no-place-number L σ c (σ (LiveCount c)) q))
+          (λ q. inr (refl, q))
           (λ _. inl (ap (Delivered m (σ (Incarnation c))) (number-next σ c (σ (LiveCount c)))))))
 
 -- TABLES AND LEDGERS OF WORDS
@@ -305,6 +304,6 @@ module _ (t g : List ℕ) (s : Sound t g) where
           ((a : ℕ) → full (filteredFor (modelOf t .controller (receiverIn t m)) (modelOf t .message m .vec) a) ≡ false) →
           (step t g (Deliver m) .answer
           ≡ Delivered m (state t (Incarnation (receiverIn t m))) (lastLive (state t) (receiverIn t m) + 1))
-          ⊎ ((step t g (Deliver m) .answer ≡ Refused PLACES-USED-UP) × (house .places ≤ lastLive (state t) (receiverIn t m)))
+          ⊎ ((step t g (Deliver m) .answer ≡ Refused PLACES-USED-UP) × (chainFull house (state t) (receiverIn t m) ≡ true))
       delivery-goes kept h =
           subst (Goes house (state t) g good m l e) (sym (same-answer (Deliver m))) (deliver-goes house (state t) g good m l e kept h)

@@ -12,7 +12,7 @@ use Rattle.base.specs.Ranges.{anyb-some}
 use Rattle.base.specs.Cases.{Case, firstOf}
 use Rattle.table.specs.Field.{State, End, OfMessage, Size, Incarnation, LiveCount, Cause, MessageState, Sender, SendingNumber, same, messageHead}
 use Rattle.table.specs.Change.{put, put-same, put-other, putPart, clearPlaces, putStates, states-at}
-use Rattle.table.specs.Numbering.{numberOf, used, recordOf, messageOf, number-next, Numbered, numbers-states, numbers-trans, posted-kept}
+use Rattle.table.specs.Numbering.{numberOf, lastLive, used, recordOf, messageOf, number-next, Numbered, numbers-states, numbers-trans, posted-kept}
 use Rattle.rules.specs.Limits.{Limits, lastIncarnation}
 use Rattle.rules.specs.Vector.{Vector, messageVector, flat, filtered, condemned, mask, conflict}
 use Rattle.rules.specs.Form.{stateHeld, stateReleased, stateDelivered, stateDropped, statePublished, forDesk, inForm}
@@ -35,7 +35,7 @@ use Rattle.progress.specs.Causes.{NoneCauses, none-unmoved, causes-held,
 -- c starts anew, by a step from σ to τ, with an interval of the number x or a lower one
 pub record Anew (σ τ : State) (c x : ℕ) : Type 0 where
   pub incarnation-is : τ (Incarnation c) ≡ σ (Incarnation c) + 1
-  pub number-le : numberOf τ c (τ (LiveCount c)) ≤ x
+  pub number-le : lastLive τ c ≤ x
 
 -- what ends the holding of the message in record r, by a step from σ to τ
 pub data Leaves (σ τ : State) (r : ℕ) : Command → Answer → Type 0 where
@@ -46,7 +46,7 @@ pub data Leaves (σ τ : State) (r : ℕ) : Command → Answer → Type 0 where
 
 -- the sender of the message in record r has not started anew, by a step from σ to τ, or only above its sending number
 abbrev pub Spared : State → State → ℕ → Type 0
-Spared σ τ r = let c = σ (Sender r) in (τ (Incarnation c) ≡ σ (Incarnation c)) ⊎ (σ (SendingNumber r) < numberOf τ c (τ (LiveCount c)))
+Spared σ τ r = let c = σ (Sender r) in (τ (Incarnation c) ≡ σ (Incarnation c)) ⊎ (σ (SendingNumber r) < lastLive τ c)
 
 -- the message in record r was held before such a step, and is so after it
 pub record KeptHeld (σ τ : State) (r : ℕ) : Type 0 where
@@ -58,7 +58,7 @@ pub record KeptHeld (σ τ : State) (r : ℕ) : Type 0 where
 spared-unmoved : (σ ρ τ : State) (r : ℕ) → Unmoved σ ρ → Spared ρ τ r → Spared σ τ r
 spared-unmoved σ ρ τ r w s =
     let sender = w (Sender r) refl in
-    subst (λ c. (τ (Incarnation c) ≡ σ (Incarnation c)) ⊎ (σ (SendingNumber r) < numberOf τ c (τ (LiveCount c)))) sender
+    subst (λ c. (τ (Incarnation c) ≡ σ (Incarnation c)) ⊎ (σ (SendingNumber r) < lastLive τ c)) sender
     (⊎-elim (λ e. inl (e ∙ w (Incarnation (ρ (Sender r))) refl)) (λ l. inr (omega (arith, l, w (SendingNumber r) refl))) s)
 
 -- INTERVALS REMOVED
@@ -94,7 +94,7 @@ unfolding restarted entered placed put same putPart clearPlaces
 begun-word σ c k r w e = unmoved-capped (restarted σ c k) c (OfMessage r w) e
 
 -- the number of the new interval is that after the k-th
-start-number : (σ : State) (c k : ℕ) → let τ = startAnew σ c k in numberOf τ c (τ (LiveCount c)) ≡ numberOf σ c k + 1
+start-number : (σ : State) (c k : ℕ) → let τ = startAnew σ c k in lastLive τ c ≡ numberOf σ c k + 1
 unfolding startAnew dropHeld putStates
 start-number σ c k =
     let live = unmoved-capped (restarted σ c k) c (LiveCount c) refl ∙ live-restarted σ c k in
@@ -145,7 +145,7 @@ spared-removed σ c k r h =
     let kth : numberOf τ c k ≡ numberOf α c k = numbers-begun α c k .number c k in
     let sending : τ (SendingNumber r) ≡ σ (SendingNumber r) = word _ refl in (
       causes-held σ c k r (sym (word _ refl) ∙ held),
-      eq? (σ (Sender r)) c (λ e. inr (subst (λ d. σ (SendingNumber r) < numberOf ρ d (ρ (LiveCount d))) (sym e) (omega (arith, low (word _ refl ∙ e)))))
+      eq? (σ (Sender r)) c (λ e. inr (subst (λ d. σ (SendingNumber r) < lastLive ρ d) (sym e) (omega (arith, low (word _ refl ∙ e)))))
           (λ ne. inl (start-other α c k _ ne)),
     )
 
@@ -268,7 +268,7 @@ module _ (L : Limits) (σ : State) (r : ℕ) (u : r < used σ) where
             ⊎-elim inl
             (λ d. let c-is : c ≡ σ (Sender r) = sym (d .0) ∙ w (Sender r) refl in
             let next = d .1 .incarnation-is ∙ ap (λ i. i + 1) (w (Incarnation c) refl) in
-            let low = subst (λ y. numberOf τ c (τ (LiveCount c)) ≤ y) (w (SendingNumber r) refl) (d .1 .number-le) in
+            let low = subst (λ y. lastLive τ c ≤ y) (w (SendingNumber r) refl) (d .1 .number-le) in
             inr (undone x a (subst (λ c. Anew σ τ c (σ (SendingNumber r))) c-is (record { incarnation-is = next; number-le = low }))))
             (held-removed ρ c k (omega arith) (none-unmoved σ ρ w n) r (omega arith) (w (MessageState r) refl ∙ h));
         back = λ h. let (was, low) = spared-removed ρ c k r h in (sym (w (MessageState r) refl) ∙ was, spared-unmoved σ ρ τ r w low);

@@ -13,7 +13,7 @@ use Rattle.table.specs.Field.{State, OfMessage, Size, Incarnation, LiveCount, S
 use Rattle.table.specs.Layout.{controllers, tableWords}
 use Rattle.table.specs.Change.{put, putPart}
 use Rattle.table.specs.Words.{state, Agree, agree-words}
-use Rattle.table.specs.Numbering.{numberOf, used, recordOf, nextMessage, posted, none-used, posted-used, posted-new, posted-at, number-same, used-agree, record-agree, message-agree}
+use Rattle.table.specs.Numbering.{numberOf, lastLive, used, recordOf, nextMessage, posted, none-used, posted-used, posted-new, posted-at, number-same, used-agree, record-agree, message-agree}
 use Rattle.rules.specs.Limits.{Limits, house}
 use Rattle.rules.specs.Vector.{Vector}
 use Rattle.rules.specs.Refusal.{FORM}
@@ -65,7 +65,7 @@ module _ (σ τ : State) (e : Agree σ τ) (f : Form house τ) where
       }
 
   -- newest numbers
-  newest-agree : (c : ℕ) → c < controllers → numberOf σ c (σ (LiveCount c)) ≡ numberOf τ c (τ (LiveCount c))
+  newest-agree : (c : ℕ) → c < controllers → lastLive σ c ≡ lastLive τ c
   newest-agree c cl = number-same σ τ e c (σ (LiveCount c)) cl ∙ ap (numberOf τ c) (e (LiveCount c) (cl, omega arith))
 
   -- a sender starts anew

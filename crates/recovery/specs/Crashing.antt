@@ -9,19 +9,19 @@ use borrow.Author.Tests.{le-leb, lt-leb}
 use Rattle.base.specs.Cases.{Case, firstOf, none, hit, skip}
 use Rattle.table.specs.Field.{State, End, Size, Incarnation, LiveCount, StableCount}
 use Rattle.table.specs.Change.{put}
-use Rattle.table.specs.Layout.{controllers, tableWords}
+use Rattle.table.specs.Layout.{controllers, places, tableWords}
 use Rattle.table.specs.Words.{state, words}
-use Rattle.table.specs.Numbering.{numberOf}
-use Rattle.rules.specs.Limits.{house, lastIncarnation}
+use Rattle.table.specs.Numbering.{numberOf, lastLive}
+use Rattle.rules.specs.Limits.{house, lastIncarnation, lastNumber}
 use Rattle.rules.specs.Refusal.{CONTROLLER, PLACES-USED-UP, INCARNATIONS-USED-UP}
 use Rattle.rules.specs.Shared.{removed, replayed}
 use Rattle.rules.specs.Steps.{noController, noPlace, crashFull, crashRefusals, crashed, stepCrash}
 use Rattle.rules.specs.Step.{out, written}
 use Rattle.rules.specs.declared.Answer.the-variants.{Crashed}
-use Rattle.laws.specs.Facts.{form, below-8, controllerForm, house-fits}
-use Rattle.laws.specs.Allowed.{crashAllowed, room}
+use Rattle.laws.specs.Facts.{form, controllerForm, house-fits}
+use Rattle.laws.specs.Allowed.{crashAllowed, room-left}
 use Rattle.laws.specs.Answering.{Lent, granted}
-use Rattle.laws.specs.Chain.{chain-of, Starts, starts-put, starts-words}
+use Rattle.laws.specs.Chain.{Chain, chain-of, Starts, starts-put, starts-words}
 use Rattle.laws.specs.Kept.{then-removed}
 
 -- The code has read n, how many controllers there are, k, the stable count, whether a place is left after that, and i, the incarnation:
@@ -37,25 +37,35 @@ module _ (t : List ℕ) (c n : ℕ) (en : n ≡ state t Size) where
     known : noController (state t) c ≡ false
     known = lt-leb (state t Size) c (omega arith)
 
+    chain : Lent t → Chain (state t) c
+    chain w = chain-of t c w (omega arith)
+
     pub crash-named : Lent t → c < controllers
-    crash-named w = below-8 (form house (state t) (w .good)) c (omega arith)
+    crash-named w = chain w .named
 
-    module _ (k : ℕ) (ek : k ≡ state t (StableCount c)) (full : Bool) (ef : full ≡ noPlace house (state t) c k) where
-      is-full : full ≡ crashFull house (state t) c
-      is-full = ef ∙ ap (noPlace house (state t) c) ek
+    pub crash-numbers : Lent t → lastLive (state t) c ≤ lastNumber
+    crash-numbers w = chain w .numbers-le
 
-      pub crash-full : full ≡ true → PLACES-USED-UP ≡ firstOf cases
-      crash-full m = skip _ _ _ _ known (hit _ _ _ (sym is-full ∙ m))
+    module _ (k : ℕ) (ek : k ≡ state t (StableCount c)) where
+      pub crash-places : Lent t → k ≤ places
+      crash-places w = omega (arith, chain w .live-le, controllerForm (form house (state t) (w .good)) c (omega arith) .stable-le)
 
-      module _ (m : full ≡ false) (i : ℕ) (ei : i ≡ state t (Incarnation c)) where
-        left : crashFull house (state t) c ≡ false
-        left = sym is-full ∙ m
+      module _ (full : Bool) (ef : full ≡ noPlace house (state t) c k) where
+        is-full : full ≡ crashFull house (state t) c
+        is-full = ef ∙ ap (noPlace house (state t) c) ek
 
-        pub crash-late : lastIncarnation ≤ i → INCARNATIONS-USED-UP ≡ firstOf cases
-        crash-late h = skip _ _ _ _ known (skip _ _ _ _ left (hit _ _ _ (le-leb lastIncarnation (state t (Incarnation c)) (omega arith))))
+        pub crash-full : full ≡ true → PLACES-USED-UP ≡ firstOf cases
+        crash-full m = skip _ _ _ _ known (hit _ _ _ (sym is-full ∙ m))
 
-        pub crash-free : i < lastIncarnation → 0 ≡ firstOf cases
-        crash-free h = skip _ _ _ _ known (skip _ _ _ _ left (skip _ _ _ _ (lt-leb lastIncarnation (state t (Incarnation c)) (omega arith)) none))
+        module _ (m : full ≡ false) (i : ℕ) (ei : i ≡ state t (Incarnation c)) where
+          left : crashFull house (state t) c ≡ false
+          left = sym is-full ∙ m
+
+          pub crash-late : lastIncarnation ≤ i → INCARNATIONS-USED-UP ≡ firstOf cases
+          crash-late h = skip _ _ _ _ known (skip _ _ _ _ left (hit _ _ _ (le-leb lastIncarnation (state t (Incarnation c)) (omega arith))))
+
+          pub crash-free : i < lastIncarnation → 0 ≡ firstOf cases
+          crash-free h = skip _ _ _ _ known (skip _ _ _ _ left (skip _ _ _ _ (lt-leb lastIncarnation (state t (Incarnation c)) (omega arith)) none))
 
 -- a crash that none of its refusals stops
 pub record Crashes (t : List ℕ) (c : ℕ) : Type 0 where
@@ -70,7 +80,7 @@ crashes t c n l e z =
     record {
       free = sym z ∙ e;
       long = l .long;
-      starts = record { chain = chain-of t c l (a .controller-lt); kept = k .stable-pos; room = room house (state t) (form house (state t) (l .good)) house-fits c _ (a .room); below = k .stable-le; left = a .incarnation-lt };
+      starts = record { chain = chain-of t c l (a .controller-lt); kept = k .stable-pos; room = room-left house (state t) (form house (state t) (l .good)) house-fits c _ (a .place-left); below = k .stable-le; left = a .incarnation-lt };
     }
 
 -- The code has read k, the stable count, i, the incarnation, and x, the kept number. t₁ has the end word.

@@ -23,11 +23,11 @@ use Rattle.rules.specs.declared.Answer.{Answer}
 use Rattle.rules.specs.declared.Answer.the-variants.{Heard, Rolled, Refused}
 use Rattle.laws.specs.Facts.{form, below-8}
 use Rattle.laws.specs.Allowed.{hearAllowed}
-use Rattle.laws.specs.Numbers.{numbers-noted}
+use Rattle.laws.specs.Numbers.{numbers-noted, room-live}
 use Rattle.laws.specs.Agree.{lowestCondemned-same, replayed-same}
 use Rattle.laws.specs.Found.{lowest}
 use Rattle.laws.specs.Answering.{Lent, granted-by}
-use Rattle.laws.specs.Chain.{Chain, chain-of, chain-words, room-live, Starts, chain-noted}
+use Rattle.laws.specs.Chain.{Chain, chain-of, chain-words, Starts, chain-noted}
 use Rattle.laws.specs.Kept.{agree-rolled}
 use Rattle.recovery.specs.Rolling.{undoing}
 
@@ -57,7 +57,7 @@ put-back σ f g x y h v =
     put-ind (λ h z. z ≡ σ h) (put (put (put σ f x) g y) f (σ f)) g (σ g) refl
     (λ h ng. put-ind (λ h z. h ≢ g → z ≡ σ h) (put (put σ f x) g y) f (σ f) (λ _. refl) (λ h nf ng. put-other (put σ f x) g h y ng ∙ put-other σ f h x nf) h ng) h
 
--- what is noted changes not what is replayed
+-- what is noted changes no number, and so not what is replayed
 noted-flagged : (σ : State) (hearer owner i c k : ℕ) → latestFlagged (noted σ hearer owner i) c k ≡ latestFlagged σ c k
 unfolding latestFlagged noted put same
 noted-flagged σ hearer owner i c zero = refl
@@ -187,7 +187,7 @@ module _ {t t₁ : List ℕ} {hearer owner i known k : ℕ} (w : Walked t t₁ h
       pub hear-starts : own < lastIncarnation → Starts (state t₁) hearer k
       hear-starts m =
           let f = lowest (state t₁) hearer (chain .live-pos) in
-          record { chain = chain; kept = omega (arith, f .pos, w .place-is); room = room-live chain (omega arith); below = omega arith; left = omega arith }
+          record { chain = chain; kept = omega (arith, f .pos, w .place-is); room = room-live (omega arith) (chain .live-le) (chain .numbers-le); below = omega arith; left = omega arith }
 
       pub hear-undone : own < lastIncarnation → {t₂ : List ℕ} {a : Answer} → out a t₂ ≡ written (undoing (state t₁) hearer k) → out a t₂ ≡ written (hear (state t) hearer owner i)
       unfolding hear

@@ -19,10 +19,10 @@ use Rattle.rules.specs.Vector.{placeVector, messageVector, flat, knownSt
 use Rattle.rules.specs.Form.{stateHeld, stateReleased, stateDelivered, stateLost, stateDropped, statePublished, stateOk, zeros, pairOk, vectorOk, highest, rowOk, placeOk, messageOk, headZeros, headOk}
 use Rattle.rules.specs.Ledger.{countAt, entryAt, ledgerWords, countOf, ledgerOk, appended, blankLedger}
 use Rattle.rules.specs.Shared.{placeRecord, logged, loggedTo, checkpointed, forced, capped, causing, causedIn, causesIn, causes, offeredAgain, newVector, placed, entered, restarted, heldOrDropped, dropHeld, startAnew, removed, latestFlagged, replayed}
-use Rattle.rules.specs.Steps.{refusing, refusingBoth, openHouse, stepOpen, stepGap, recordsFull, stepSend, letOut, mayGo, release, stepRelease, intervalAdded, intervalBegins, noPlace, chainFull, deliver, toldRow, told, crashed, crashFull, noted, lowestCondemned, rolledBack, hear}
+use Rattle.rules.specs.Steps.{refusing, refusingBoth, openHouse, stepOpen, stepGap, recordsFull, stepSend, letOut, mayGo, release, stepRelease, intervalAdded, intervalBegins, noPlace, chainFull, deliver, toldRow, told, crashed, crashFull, stepCrash, noted, lowestCondemned, rolledBack, hear}
 use Rattle.rules.specs.Report.{report}
 use Rattle.rules.specs.Starred.{Row, _is_by_, rows-hold, no, yes, truth, answer}
-use Rattle.rules.specs.declared.Answer.the-variants.{Done, Sent, Released, Held, Delivered, Rolled, Refused}
+use Rattle.rules.specs.declared.Answer.the-variants.{Done, Sent, Released, Held, Delivered, Crashed, Rolled, Refused}
 
 -- message 1, in record 0, is from controller 0, of degree 0, and has the pair (0,2) of controller 1, which controller 0 knows to be stable
 abbrev since-logged : State
@@ -103,16 +103,17 @@ in-head k x = put (put blank Size 1) (OfHead k) x
 abbrev untold : State
 untold = put (put blank (Known 1 1 0) 2) (Known 1 1 1) 3
 
--- five intervals of controller 0 are discarded, nine of controller 1, and the gap is 64: no table in form says so yet
+-- five intervals of controller 0 are discarded, twenty of controller 1, and the gap is 64: no table in form says so yet. Controller 0 is
+-- the house's only one; of its three live intervals the first is stable and a checkpoint.
 abbrev some-discarded : State
-some-discarded = put (put (put two-unstable (Discarded 0) 5) (Discarded 1) 9) Gap 64
+some-discarded = put (put (put (put (put two-unstable Size 1) (Flag 0 0) 1) (Discarded 0) 5) (Discarded 1) 20) Gap 64
 
 -- what stands of its place p: the flag, and then the stable count and the number that it knows to be stable of its incarnation i
 abbrev stands : State → ℕ → ℕ → List ℕ
 stands σ p i = σ (Flag 0 p) ∷ σ (StableCount 0) ∷ σ (Known 0 0 i) ∷ []
 
 pub told-apart : List Row
-unfolding put same putPart clearPlaces putStates tab allb anyb numberOf placeOf used recordOf messageOf placeVector messageVector flat knownStable filterPair filtered condemnedPair condemned maskTo mask conflictPair conflict mergePair merged placeRecord logged loggedTo checkpointed forced capped causing causedIn causesIn causes offeredAgain newVector placed entered restarted heldOrDropped dropHeld startAnew removed latestFlagged replayed stateOk zeros pairOk vectorOk highest rowOk placeOk messageOk lastGiven headZeros headOk ledgerOk appended blankLedger splice allOf firstOf refusing refusingBoth openHouse stepOpen stepGap recordsFull stepSend letOut mayGo release stepRelease intervalAdded intervalBegins noPlace deliver toldRow told crashed noted lowestCondemned rolledBack hear report first onesIn ones
+unfolding put same putPart clearPlaces putStates tab allb anyb numberOf placeOf used recordOf messageOf placeVector messageVector flat knownStable filterPair filtered condemnedPair condemned maskTo mask conflictPair conflict mergePair merged placeRecord logged loggedTo checkpointed forced capped causing causedIn causesIn causes offeredAgain newVector placed entered restarted heldOrDropped dropHeld startAnew removed latestFlagged replayed stateOk zeros pairOk vectorOk highest rowOk placeOk messageOk lastGiven headZeros headOk ledgerOk appended blankLedger splice allOf firstOf refusing refusingBoth openHouse stepOpen stepGap recordsFull stepSend letOut mayGo release stepRelease intervalAdded intervalBegins noPlace deliver toldRow told crashed stepCrash noted lowestCondemned rolledBack hear report first onesIn ones
 told-apart =
     -- "Counting stored pairs at release instead of filtered ones": it would be held.
     (answer (release house since-logged [] 1 0 .answer) is answer (Released 1 0) by refl)
@@ -203,12 +204,20 @@ told-apart =
     ∷ (truth (chainFull house (put blank (LiveCount 0) 63) 0) is no by refl)
     ∷ (truth (crashFull house (put blank (StableCount 0) 64) 0) is yes by refl)
     ∷ (truth (crashFull house (put blank (StableCount 0) 63) 0) is no by refl)
-    -- Numbers without the count discarded, or with that of another controller: of the interval that message 1 begins, of the one that a
-    -- crash keeps and of a start; and the word after the counts, the gap, taken for one.
+    -- Numbers without the count discarded, or with that of another controller. D: the answer, the new interval and its own pair.
     ∷ (answer (deliver house some-discarded 1 0 .answer) is answer (Delivered 1 0 9) by refl)
-    ∷ ((deliver house some-discarded 1 0 .left (PlaceNumber 0 3) ∷ []) is (9 ∷ []) by refl)
-    ∷ ((crashed some-discarded 0 (End 0 0 0) ∷ crashed some-discarded 0 (PlaceNumber 0 1) ∷ []) is (6 ∷ 7 ∷ []) by refl)
-    ∷ ((numberOf some-discarded 8 1 ∷ placeOf some-discarded 0 7 ∷ []) is (1 ∷ 1 ∷ []) by refl)
+    ∷ ((deliver house some-discarded 1 0 .left (PlaceNumber 0 3) ∷ deliver house some-discarded 1 0 .left (PairNumber 0 3 0) ∷ []) is (9 ∷ 9 ∷ []) by refl)
+    -- L: the known word. X: the answer, with what is replayed, the end word, and the start with its own pair and its known word.
+    ∷ ((logged some-discarded 0 3 (Known 0 0 0) ∷ []) is (8 ∷ []) by refl)
+    ∷ (answer (stepCrash house some-discarded 0 .answer) is answer (Crashed 0 0 6 2 0) by refl)
+    ∷ ((crashed some-discarded 0 (End 0 0 0) ∷ []) is (6 ∷ []) by refl)
+    ∷ ((crashed some-discarded 0 (PlaceNumber 0 1) ∷ crashed some-discarded 0 (PairNumber 0 1 0) ∷ crashed some-discarded 0 (Known 0 0 1) ∷ []) is (7 ∷ 7 ∷ 7 ∷ []) by refl)
+    -- H: the answer, with what is replayed; a held message that was sent from the last interval kept stays held.
+    ∷ (answer (hear (put one-orphan (Discarded 0) 5) 0 1 0 .answer) is answer (Rolled 0 8 1 1) by refl)
+    ∷ ((rolledBack (put (put one-held (Discarded 0) 5) (SendingNumber 0) 7) 0 2 (MessageState 0) ∷ []) is (stateHeld ∷ []) by refl)
+    -- The form: a place's number. Back from a number: the place. The word after the counts, the gap, taken for one.
+    ∷ (truth (placeOk house 1 (deliver house (put some-discarded SentCount 1) 1 0 .left) 0 3) is yes by refl)
+    ∷ ((placeOf some-discarded 0 7 ∷ numberOf some-discarded 8 1 ∷ []) is (1 ∷ 1 ∷ []) by refl)
     -- A telling of less than is known, or of one incarnation only; a checkpoint that leaves the newest interval unlogged. A held message
     -- that rests on it would never go out.
     ∷ ((told untold 1 0 (Known 0 1 0) ∷ told untold 1 0 (Known 0 1 1) ∷ []) is (2 ∷ 3 ∷ []) by refl)

@@ -192,7 +192,8 @@ unfoldable pub intervalBegins : State → ℕ → ℕ → ℕ → Vector → Aft
 intervalBegins σ c m r v =
     after (Delivered m (σ (Incarnation c)) (numberOf σ c (σ (LiveCount c) + 1))) (capped (intervalAdded σ c m r v) c)
 
--- "12 delivery with 64 live, unless it drops or waits; crash with 64 stable": no place is left after the k-th interval of c ..
+-- "12 delivery with 64 live, unless it drops or waits; crash with 64 stable": no place is left after the k-th interval of c, whose
+-- number W11 will look at too ..
 unfoldable pub noPlace : Limits → State → ℕ → ℕ → Bool
 noPlace L σ c k = L .places ≤? k
 

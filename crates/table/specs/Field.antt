@@ -38,7 +38,7 @@ Discarded c = OfHead (3 + c)
 abbrev pub Gap : Field
 Gap = OfHead 11
 
--- the first word of the head that has no meaning yet, and the first after the gap
+-- the first word of the head that the form has at 0, and the first after the gap
 abbrev pub spareFrom : ℕ
 spareFrom = 2
 

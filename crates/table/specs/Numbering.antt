@@ -14,22 +14,22 @@ use Rattle.table.specs.Change.{put, put-ind, put-same, put-other, putPar
 use Rattle.table.specs.Layout.{controllers, messages, headWords}
 use Rattle.table.specs.Words.{state, words, Agree, agree-value, agree-part-to, then-put}
 
--- W11: "Words 3 to 10 hold the count discarded for each controller", which the form has at 0 until then. There are no others: the word
--- after those of the eight controllers is the gap.
+-- The count discarded of c. The eight controllers have a word for it each, and nobody else: the next word is the gap.
 abbrev pub discarded : State → ℕ → ℕ
 discarded σ c = cond (c <? controllers) (σ (Discarded c)) 0
 
--- "so place p has that count plus p + 1": the number of the k-th live interval of c, counted from 1. Place p holds the (p + 1)-th.
+-- "Place p has number p + 1"; W11: "place p has that count plus p + 1". The number of the k-th live interval of c, counted from 1: place
+-- p holds the (p + 1)-th.
 unfoldable pub numberOf : State → ℕ → ℕ → ℕ
 numberOf σ c k = discarded σ c + k
-
--- the number of the newest live interval of c, the highest on its chain
-abbrev pub lastLive : State → ℕ → ℕ
-lastLive σ c = numberOf σ c (σ (LiveCount c))
 
 -- And back: the place of c with the number x. Numbers on a chain follow each other from that of place 0 on.
 unfoldable pub placeOf : State → ℕ → ℕ → ℕ
 placeOf σ c x = x - numberOf σ c 1
+
+-- the number of the newest live interval of c, the highest on its chain
+abbrev pub lastLive : State → ℕ → ℕ
+lastLive σ c = numberOf σ c (σ (LiveCount c))
 
 -- "Word 1: messages sent" has two meanings: the message records in use, which stand one after the other from record 0 on ..
 unfoldable pub used : State → ℕ

@@ -21,7 +21,7 @@ use Rattle.rules.specs.Step.{looksAtForm, writtenBoth, lent}
 use Rattle.rules.specs.declared.Command.{Command}
 use Rattle.listing.specs.Quiet.{steps, goes}
 use Rattle.laws.specs.Facts.{Form, form, released-lt, house-fits}
-use Rattle.laws.specs.Allowed.{room}
+use Rattle.laws.specs.Allowed.{room-left}
 use Rattle.laws.specs.Chain.{chain-form}
 use Rattle.testers.specs.StepSame.{Same, same-beside, same-written, same-begins, newest-filtered}
 use Rattle.testers.specs.Sample.{sample-run}
@@ -41,7 +41,7 @@ echoed-same σ τ e f m l st left =
     let r = recordOf σ m in
     let c = σ (Receiver r) in
     let w = chain-form σ c f (released-lt f r l st) in
-    rw (← record-agree σ τ e m (f .used-le), ← e (Receiver r) (omega (arith, f .used-le), omega arith)) (same-begins σ τ e c m r w (room house σ f house-fits c _ left) (newest-filtered σ τ e f c w))
+    rw (← record-agree σ τ e m (f .used-le), ← e (Receiver r) (omega (arith, f .used-le), omega arith)) (same-begins σ τ e c m r w (room-left house σ f house-fits c _ left) (newest-filtered σ τ e f c w))
 
 echoed-words : {t g : List ℕ} (σ : State) (k : List ℕ) (m : ℕ) {x : Command} → Stage t g σ k x → looksAtForm x ≡ true → let r = recordOf σ m in (r <? used σ) ≡ true →
     σ (MessageState r) ≡ stateReleased → chainFull house σ (σ (Receiver r)) ≡ false → lent t g (λ σ. beside (echoed σ m) g) ≡ writtenBoth (beside (echoed σ m) g)

@@ -27,9 +27,10 @@ use Rattle.rules.specs.declared.Answer.the-variants.{Sent, Released, Held, Deli
 use Rattle.rules.specs.declared.Command.{Command}
 use Rattle.rules.specs.declared.Command.the-variants.{Open, SetDegree, Send, Release, Deliver, Log, Checkpoint, Tell, Crash, Hear, SetGap}
 use Rattle.laws.specs.Facts.{Form, form, below-8, controllerForm, messageForm, released-lt, message-near, house-fits}
-use Rattle.laws.specs.Allowed.{sendAllowed, messageAllowed, releaseAllowed, logAllowed, checkpointAllowed, tellAllowed, crashAllowed, hearAllowed, Room, room}
+use Rattle.laws.specs.Allowed.{sendAllowed, messageAllowed, releaseAllowed, logAllowed, checkpointAllowed, tellAllowed, crashAllowed, hearAllowed, Room, room-left}
+use Rattle.laws.specs.Numbers.{room-live}
 use Rattle.laws.specs.Agree.{incarnation-same, live-same, stable-same, recordsFull-same, noPlace-same, state-same, placeVector-same, messageVector-same, filtered-same, condemned-same, replayed-same, lowestCondemned-same, agree-logged, agree-checkpointed, agree-capped, agree-sent, agree-begun, agree-noted, agree-told}
-use Rattle.laws.specs.Chain.{chain-counts, counts-added, Chain, chain-form, chain-noted, room-live, Starts, starts-put}
+use Rattle.laws.specs.Chain.{chain-counts, counts-added, Chain, chain-form, chain-noted, Starts, starts-put}
 use Rattle.laws.specs.Found.{lowest}
 use Rattle.laws.specs.Kept.{agree-removed, agree-rolled}
 use Rattle.keeping.specs.Kept.{inForm-same}
@@ -198,7 +199,7 @@ module _ (σ τ : State) (e : Agree σ τ) where
         (λ _. record { answer-is = refl; left-is = agree-put σ τ (MessageState r) stateDropped e })
         (λ _. same-cond Same (ap₂ (conflict c) ours theirs) (λ _. record { answer-is = refl; left-is = e })
         (λ _. same-cond Same (noPlace-same σ τ e house c (w .named) (live-same σ τ e c (w .named))) (λ _. same-refuse refl)
-        (λ full. same-begins c m r w (room house σ f house-fits c _ full) (ap₂ merged ours theirs)))))
+        (λ full. same-begins c m r w (room-left house σ f house-fits c _ full) (ap₂ merged ours theirs)))))
 
     same-deliver : (m : ℕ) → Same (stepDeliver house σ m) (stepDeliver house τ m)
     unfolding stepDeliver
@@ -247,7 +248,7 @@ module _ (σ τ : State) (e : Agree σ τ) where
         let g = controllerForm f c (d .controller-lt) in
         let w = chain-form σ c f (d .controller-lt) in
         let k = σ (StableCount c) in
-        let left = room house σ f house-fits c k (d .room) in
+        let left = room-left house σ f house-fits c k (d .place-left) in
         let s : Starts σ c k = record { chain = w; kept = g .stable-pos; room = left; below = g .stable-le; left = d .incarnation-lt } in
         let own = incarnation-same σ τ e c (w .named) in
         let live = live-same σ τ e c (w .named) in
@@ -279,7 +280,7 @@ module _ (σ τ : State) (e : Agree σ τ) where
     hear-starts hearer owner i w l j =
         let w′ = chain-noted σ hearer hearer owner i w in
         let low = lowest (noted σ hearer owner i) hearer (w′ .live-pos) in
-        record { chain = w′; kept = low .pos; room = room-live w′ l; below = low .le; left = j }
+        record { chain = w′; kept = low .pos; room = room-live l (w′ .live-le) (w′ .numbers-le); below = low .le; left = j }
 
     -- H
     same-hear : (hearer owner i : ℕ) → Same (stepHear σ hearer owner i) (stepHear τ hearer owner i)

@@ -1,4 +1,4 @@
--- Two words are put, with what was read before (writes-logged).
+-- Numbers of c are bounded, so that this one fits (number-fits). Two words are put, with what was read before (writes-logged).
 use Rattle.laws.specs.Numbers.{number-fits}
 use Rattle.checkpoint.specs.Writes.{writes-logged}
 use borrow.Author.Needs.{needs}

@@ -1,4 +1,5 @@
--- The latest checkpoint has a number of the first k places (flagged-le), so that the difference is the one of the definition.
+-- Numbers of c are bounded, so that this one fits (number-fits). The latest checkpoint has a number of the first k places
+-- (flagged-le), so that the difference is the one of the definition.
 use native.Mathlib.Omega.{arith}
 use borrow.Author.Needs.{needs}
 use Rattle.table.specs.Words.{state}

@@ -1,4 +1,5 @@
--- There is room, so that the number fits (room-fits). The new interval has its counts (added-counts), so that it can be checkpointed; what is answered was read before (writes-begun).
+-- There is room, so that the number fits (room-fits). The new interval has its counts (added-counts), so that it can be checkpointed;
+-- what is answered was read before (writes-begun).
 use Rattle.delivery.specs.Delivers.{added-counts, writes-begun}
 use native.Mathlib.Omega.{arith}
 use Rattle.laws.specs.Numbers.{room-fits}

@@ -1,4 +1,5 @@
--- The places from p on and below k are not flagged, so that the answer for k is that for p.
+-- The places from p on and below k are not flagged, so that the answer for k is that for p. Numbers of c are bounded, so that this
+-- one fits (number-fits).
 use Rattle.table.specs.Layout.{places}
 use Rattle.table.specs.Words.{state}
 use Rattle.rules.specs.Shared.{latestFlagged}

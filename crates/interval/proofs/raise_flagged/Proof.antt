@@ -1,4 +1,5 @@
--- Place p is the last of one place more: it is flagged (flagged-here), or the figure stays (flagged-below).
+-- Numbers of c are bounded, so that this one fits (number-fits). Place p is the last of one place more: it is flagged
+-- (flagged-here), or the figure stays (flagged-below).
 use Rattle.laws.specs.Numbers.{number-fits}
 use Rattle.interval.specs.Walks.{flagged-here, flagged-below}
 use mathlib.Core.Path.{refl, sym, _∙_}

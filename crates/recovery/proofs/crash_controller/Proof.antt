@@ -1,4 +1,5 @@
--- The answer's numbers are read before the words change, and these are those of the rule (crash-done).
+-- There is room, so that the number fits (room-fits). The answer's numbers are read before the words change, and these are those of
+-- the rule (crash-done).
 use native.Mathlib.Omega.{arith}
 use Rattle.laws.specs.Numbers.{room-fits}
 use borrow.Author.Needs.{needs}

@@ -1,6 +1,6 @@
 -- The tests are those of the definition, in its order.
 use borrow.Author.Needs.{needs}
-use Rattle.recovery.specs.Crashing.{crash-unknown, crash-named, crash-full, crash-late, crash-free}
+use Rattle.recovery.specs.Crashing.{crash-unknown, crash-named, crash-numbers, crash-places, crash-full, crash-late, crash-free}
 use Rattle.recovery.proofs.crash_refusal.Statement.{statement}
 use Rattle.recovery.proofs.crash_refusal.Tie as tie
 
@@ -9,6 +9,9 @@ returns c = search crash-unknown
 
 stable-count-requires : tie.Need-stable-count-requires
 stable-count-requires c κs = search (needs, crash-named)
+
+no-place-requires : tie.Need-no-place-requires
+no-place-requires c κs = search (needs, crash-named, crash-places, crash-numbers)
 
 returns-2 : tie.Need-returns-2
 returns-2 c = search crash-full
@@ -26,5 +29,5 @@ pub crash-refusal-spec : {M : Type 1} → statement M
 crash-refusal-spec =
     tie.close
     (tie.spec
-    (λ c κs. search needs) returns stable-count-requires (λ c κs. search needs) returns-2 incarnation-requires
+    (λ c κs. search needs) returns stable-count-requires no-place-requires returns-2 incarnation-requires
     returns-3 returns-4)

@@ -1,5 +1,5 @@
--- The answer's numbers are read before the words change (undo-done); the latest checkpoint has a number of the kept intervals
--- (flagged-le), so that the difference is the one of the definition (replay-is).
+-- There is room, so that the number fits (room-fits). The answer's numbers are read before the words change (undo-done); the latest
+-- checkpoint has a number of the kept intervals (flagged-le), so that the difference is the one of the definition (replay-is).
 use native.Mathlib.Omega.{arith}
 use Rattle.laws.specs.Numbers.{room-fits}
 use borrow.Author.Needs.{needs}
@@ -10,13 +10,13 @@ use Rattle.recovery.specs.Rolling.{undo-done}
 use Rattle.recovery.proofs.undo.Statement.{statement}
 use Rattle.recovery.proofs.undo.Tie as tie
 
+number-of-requires : tie.Need-number-of-requires
+number-of-requires c κs = let s = c .before .before .before .before .pre in (s .0, s .1 .chain .named, room-fits (s .1 .room) _ (omega arith))
+
 sub-again : tie.Need-sub-again
 sub-again c =
     let s = c .before .before .before .before .before in
     omega (arith, c .number-of .ensures, s .pre .2, flagged-le (state (s .args .t .now)) (s .args .hearer) (s .args .k))
-
-number-of-requires : tie.Need-number-of-requires
-number-of-requires c κs = let s = c .before .before .before .before .pre in (s .0, s .1 .chain .named, room-fits (s .1 .room) _ (omega arith))
 
 returns : tie.Need-returns
 returns c = search (undo-done, replay-is)

@@ -1,5 +1,5 @@
--- Before record r the records below r have been looked at (droppedTo), and no other word has changed. Those from the last one sent on hold no message
--- (drop-all).
+-- Numbers of c are bounded, so that this one fits (number-fits). Before record r the records below r have been looked at
+-- (droppedTo), and no other word has changed. Those from the last one sent on hold no message (drop-all).
 use mathlib.Core.Path.{_≡_}
 use Prim.Native.Nat.{_-_, _≤_}
 use lib.ListN.{length}

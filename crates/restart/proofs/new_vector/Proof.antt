@@ -1,4 +1,5 @@
--- There is room, so that the number fits (room-fits). The kept vector is near, so that it can be filtered (kept-near); the rest is the definition (new-vector-is).
+-- There is room, so that the number fits (room-fits). The kept vector is near, so that it can be filtered (kept-near); the rest is the
+-- definition (new-vector-is).
 use native.Mathlib.Omega.{arith}
 use Rattle.laws.specs.Numbers.{room-fits}
 use borrow.Author.Needs.{needs}

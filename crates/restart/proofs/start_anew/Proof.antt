@@ -1,5 +1,5 @@
--- The start has its counts (begun-counts), so that it can be checkpointed; held messages are dropped on the table of that (starts), whose records in use
--- are those of before (begun-drops).
+-- The start has its counts (begun-counts), so that it can be checkpointed; held messages are dropped on the table of that (starts),
+-- whose records in use are those of before (begun-drops), and whose numbers are bounded (begun-numbers).
 use borrow.Author.Needs.{needs}
 use Rattle.restart.specs.Anew.{begun-counts, begun-drops, begun-numbers, starts}
 use Rattle.restart.proofs.start_anew.Statement.{statement}
