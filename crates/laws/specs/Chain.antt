@@ -104,22 +104,28 @@ counts-capped σ c = counts-same (kept (word (Incarnation c)) refl) (kept (word 
     kept : (w : ℕ) → (w == word (StableCount c)) ≡ false → capped σ c (OfController c w) ≡ σ (OfController c w)
     kept w ne = cond-ind (λ (τ : State). τ (OfController c w) ≡ σ (OfController c w)) (forced σ c) (λ _. logged-word σ c (σ (LiveCount c)) w ne) (λ _. refl)
 
--- an interval more, where there is room for it
+-- a state whose newest interval is the one after the k-th of σ, where σ has room for that
+counts-next : {σ τ : State} {c k : ℕ} → c < controllers → τ (Incarnation c) ≤ lastIncarnation → τ (LiveCount c) ≡ k + 1 →
+    numberOf τ c (k + 1) ≡ numberOf σ c (k + 1) → Room house σ c k → Counts τ c
+counts-next {σ} {τ} {c} {k} named own live number room =
+    let last = ap (numberOf τ c) live ∙ number in
+    record {
+      named = named;
+      incarnation-le = own;
+      live-pos = omega arith;
+      live-le = omega (arith, room .place-lt);
+      numbers-le = omega (arith, last, room .number-le);
+    }
+
+-- an interval more
 pub counts-added : (σ : State) (c m r : ℕ) (v : Vector) → Counts σ c → Room house σ c (σ (LiveCount c)) → Counts (intervalAdded σ c m r v) c
 unfolding intervalAdded put same putPart
 counts-added σ c m r v w room =
     let i = σ (Incarnation c) in
     let live = σ (LiveCount c) in
     let x = numberOf σ c (live + 1) in
-    let n : intervalAdded σ c m r v (LiveCount c) ≡ live + 1 = put-same (putPart σ (OfPlace c live 0) 0 (placeRecord i x m 0 (set v c (pair i x)))) (LiveCount c) (live + 1) in
-    let last = ap (numberOf (intervalAdded σ c m r v) c) n ∙ numbers-added σ c m r v .number c (live + 1) in
-    record {
-      named = w .named;
-      incarnation-le = w .incarnation-le;
-      live-pos = omega arith;
-      live-le = omega (arith, room .place-lt);
-      numbers-le = omega (arith, last, room .number-le);
-    }
+    let n = put-same (putPart σ (OfPlace c live 0) 0 (placeRecord i x m 0 (set v c (pair i x)))) (LiveCount c) (live + 1) in
+    counts-next (w .named) (w .incarnation-le) n (numbers-added σ c m r v .number c (live + 1)) room
 
 pub chain-of : (t : List ℕ) (c : ℕ) → Lent t → c < state t Size → Chain (state t) c
 chain-of t c l h = chain-form (state t) c (form house (state t) (l .good)) h
@@ -222,15 +228,7 @@ unfolding restarted entered put same
 counts-restarted σ c k s =
     let i = σ (Incarnation c) + 1 in
     let own : restarted σ c k (Incarnation c) ≡ i = put-same (placed σ c k i (numberOf σ c (k + 1)) (newVector σ c k)) (Incarnation c) i in
-    let live = live-restarted σ c k in
-    let last = ap (numberOf (restarted σ c k) c) live ∙ numbers-restarted σ c k .number c (k + 1) in
-    record {
-      named = s .chain .named;
-      incarnation-le = omega (arith, s .left);
-      live-pos = omega arith;
-      live-le = omega (arith, s .room .place-lt);
-      numbers-le = omega (arith, last, s .room .number-le);
-    }
+    counts-next (s .chain .named) (omega (arith, s .left)) (live-restarted σ c k) (numbers-restarted σ c k .number c (k + 1)) (s .room)
 
 -- a change of words that it does not look at keeps what starting anew counts on
 pub starts-kept : (σ τ : State) (c k : ℕ) → ((f : Field) → onChain f ≡ true → τ f ≡ σ f) → Starts σ c k → Starts τ c k

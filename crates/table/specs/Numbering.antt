@@ -18,7 +18,7 @@ use Rattle.table.specs.Words.{state, words, Agree, agree-value, agree-pa
 abbrev pub discarded : State → ℕ → ℕ
 discarded σ c = cond (c <? controllers) (σ (Discarded c)) 0
 
--- "Place p has number p + 1"; W11: "place p has that count plus p + 1". The number of the k-th live interval of c, counted from 1: place
+-- "place p has number p + 1"; W11: "place p has that count plus p + 1". The number of the k-th live interval of c, counted from 1: place
 -- p holds the (p + 1)-th.
 unfoldable pub numberOf : State → ℕ → ℕ → ℕ
 numberOf σ c k = discarded σ c + k

@@ -172,6 +172,14 @@ pub fn set_sent_count(t: &mut [u32], x: u32)
     t[SENT_COUNT] = x;
 }
 
+// How many intervals of c were discarded.
+pub fn discarded(t: &[u32], c: usize) -> u32
+    requires { ⌜ (length (now t) ≡ tableWords) × (c < controllers) ⌝ }
+    ensures { λ x. ⌜ x ≡ state (now (t .entry)) (Discarded c) ⌝ }
+{
+    t[DISCARDED + c]
+}
+
 // The gap between checkpoints, 0 where there is no ceiling on replay.
 pub fn gap(t: &[u32]) -> u32
     requires { ⌜ length (now t) ≡ tableWords ⌝ }
@@ -401,14 +409,6 @@ pub fn message_vector_at(r: usize) -> usize
     ensures { λ at. ⌜ at ≡ position (OfMessage r messageHead) ⌝ }
 {
     MESSAGE_VECTOR + r * MESSAGE_WORDS
-}
-
-// How many intervals of c were discarded.
-pub fn discarded(t: &[u32], c: usize) -> u32
-    requires { ⌜ (length (now t) ≡ tableWords) × (c < controllers) ⌝ }
-    ensures { λ x. ⌜ x ≡ state (now (t .entry)) (Discarded c) ⌝ }
-{
-    t[DISCARDED + c]
 }
 
 // Numbers: of the k-th live interval of c, counted from 1, where it fits a word; whether x is that number, whatever stands in the
