@@ -18,6 +18,15 @@ a ≤? b = leb a b
 abbrev pub _<?_ : ℕ → ℕ → Bool
 a <? b = ltb a b
 
+-- a test that doesn't fail holds, and one that doesn't hold fails
+pub holds : (b : Bool) → (b ≡ false → ⊥) → b ≡ true
+holds true f = refl
+holds false f = absurd (f refl)
+
+pub fails : (b : Bool) → (b ≡ true → ⊥) → b ≡ false
+fails true f = absurd (f refl)
+fails false f = refl
+
 pub and-left : (a b : Bool) → (a && b) ≡ true → a ≡ true
 and-left true b e = refl
 and-left false b e = e

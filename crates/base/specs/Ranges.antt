@@ -1,4 +1,4 @@
--- Tests over the indices below a bound: all pass, some passes, the first that passes.
+-- Tests over the indices below a bound: all pass, some passes, the first that passes, and how many pass.
 use mathlib.Core.Path.{_≡_, refl, sym, ap, ap₂, _∙_}
 use mathlib.Core.Bool.{Bool, true, false, not, cond, _&&_, _||_, and-false, and-true, and-assoc, or-true, true≢false, false≢true}
 use Prim.Native.Nat.{ℕ, zero, suc, _+_, _≤_, _<_}
@@ -188,3 +188,26 @@ first-hit (suc n) f h = go (f 0) refl (first-hit n (λ i. f (suc i))) h
     go : (b : Bool) → f 0 ≡ b → (m < n → f (suc m) ≡ true) → cond b 0 (suc m) < suc n → f (cond b 0 (suc m)) ≡ true
     go true q r h = q
     go false q r h = r (omega arith)
+
+-- how many of the first n numbers pass a test
+unfoldable pub count : ℕ → (ℕ → Bool) → ℕ
+count zero test = 0
+count (suc n) test = cond (test n) 1 0 + count n test
+
+-- by one test or the other
+pub count-same : (n : ℕ) (f g : ℕ → Bool) → ((a : ℕ) → a < n → f a ≡ g a) → count n f ≡ count n g
+unfolding count
+count-same zero f g h = refl
+count-same (suc n) f g h = ap₂ (λ b k. cond b 1 0 + k) (h n (omega arith)) (count-same n f g (λ a l. h a (omega arith)))
+
+-- where the first test passes only if the second does, no more numbers pass it
+pub count-le : (n : ℕ) (f g : ℕ → Bool) → ((a : ℕ) → f a ≡ true → g a ≡ true) → count n f ≤ count n g
+unfolding count
+count-le zero f g h = omega arith
+count-le (suc n) f g h = let rest = count-le n f g h in let one = both (f n) (g n) (h n) in omega arith
+  where
+    both : (b c : Bool) → (b ≡ true → c ≡ true) → cond b 1 0 ≤ cond c 1 0
+    both true true i = omega arith
+    both true false i = absurd (false≢true (i refl))
+    both false true i = omega arith
+    both false false i = omega arith

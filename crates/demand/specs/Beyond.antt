@@ -4,31 +4,41 @@
 use mathlib.Core.Path.{_≡_, refl, sym, _∙_, ap, subst}
 use mathlib.Core.Bool.{Bool, true, false}
 use mathlib.Core.List.{List, [], _∷_, _++_, append-nil}
-use Prim.Native.Nat.{ℕ, _<_}
+use Prim.Native.Nat.{ℕ, _≤_, _<_}
 use native.Mathlib.Omega.{arith}
+use lib.ListN.{length}
 use Rattle.base.specs.Choice.{cond-ind}
 use Rattle.table.specs.Field.{Known}
 use Rattle.table.specs.Words.{state}
+use Rattle.rules.specs.Limits.{house}
 use Rattle.rules.specs.Report.{report}
-use Rattle.rules.specs.Step.{step, Call, asks, stepCall}
+use Rattle.rules.specs.Sets.{nth}
+use Rattle.rules.specs.Step.{OutBoth, step, Call, asks, releaseSet, stepCall}
 use Rattle.rules.specs.declared.Answer.{Answer}
-use Rattle.rules.specs.declared.Answer.the-variants.{Done, Released, Dropped, Crashed, Rolled}
+use Rattle.rules.specs.declared.Answer.the-variants.{Done, Released, Dropped, Crashed, Rolled, SetReleased}
+use Rattle.rules.specs.declared.Command.{Command}
 use Rattle.rules.specs.declared.Command.the-variants.{Open, Release, Deliver, Crash}
 use Rattle.history.specs.History.{Interval, History, member, joined, stabilized, flagging, degreeSet, sentFrom, gapSet, delivering, logging, checkpointing, forcedAt, capping, beginning, opening, answers, fedStep, fed}
-use Rattle.history.specs.Demand.{Run, callIn, stepIn, next, justOpened, RestsOnLost, named, FromOpening, upTo, end, Cited}
-use Rattle.model.specs.Model.{Model}
-use Rattle.model.specs.Tests.{fails}
+use Rattle.history.specs.Demand.{Run, callIn, stepIn, next, justOpened, RestsOnLost, named, LetsGo, FromOpening, upTo, end, Cited}
+use Rattle.model.specs.Model.{Model, full, releasedVec}
+use Rattle.model.specs.Tests.{Is, fails}
 use Rattle.model.specs.Invariant.{Inv, ext-refl}
 use Rattle.model.specs.Consequences.{release-covers, release-named, sending-begun, unheard-end, unheard-not-condemned, unheard-live}
 use Rattle.model.specs.Paper.{theorem-3-message}
 use Rattle.model.specs.Recovery.{HearsOf}
-use Rattle.model.specs.Runs.{NoDoneOpening, in-list, along, later, at-end}
-use Rattle.image.specs.Reads.{known-is}
+use Rattle.laws.specs.Facts.{form, controllerForm}
+use Rattle.laws.specs.Together.{named-own, own-may}
+use Rattle.calls.specs.Sets.{SetIn, refused, held, goes, set-in, set-goes}
+use Rattle.calls.specs.Made.{NoDoneOpening, part-itself}
+use Rattle.model.specs.Runs.{in-list, part, along, later, at-end}
+use Rattle.image.specs.Reads.{incarnation-is, known-is}
+use Rattle.image.specs.Stepped.{release-found}
 use Rattle.image.specs.Outcome as O
 use Rattle.image.specs.Outcome.{Outcome}
 use Rattle.image.specs.Tables.{opening-done}
 use Rattle.testers.specs.Citing.{RunCites, cites-next, cites-opened}
 use Rattle.demand.specs.Demanded.{fed-refused, found, outcome, follows}
+use Rattle.demand.specs.InForm.{sound-after}
 
 -- "The list starts from the table that a done opening left, whatever stood in it before", and from the ledger that it left: the table
 -- depends on n and k alone, the ledger on nothing
@@ -52,6 +62,12 @@ pub data Undoes : Answer → Type 0 where
   answersRolled : (b k undone replayed : ℕ) → Undoes (Rolled b k undone replayed)
   answersDropped : (m : ℕ) → Undoes (Dropped m)
 
+-- a set is no such
+set-undoes-nothing : {t g l : List ℕ} {o : OutBoth} → SetIn t g l o → Undoes (o .answer) → ⊥
+set-undoes-nothing (refused number) u = elim u [ ]
+set-undoes-nothing (held table w) u = elim u [ ]
+set-undoes-nothing (goes w) u = elim u [ ]
+
 -- a crash is accepted
 pub data CrashAccepted : Answer → Type 0 where
   answersCrashed : (c i k lost replayed : ℕ) → CrashAccepted (Crashed c i k lost replayed)
@@ -66,25 +82,25 @@ unfolding capping checkpointing flagging stabilized
 capped-heard h c = cond-ind (λ (q : History). q .heard ≡ h .heard) (forcedAt h c) (λ e. refl) (λ e. refl)
 
 -- a delivery that drops message m has its reason
-dropping : {n : ℕ} {μ : Model} {h : History} {m j : ℕ} {μ′ : Model} → Inv n μ h → Outcome n μ (asks (Deliver m)) (Dropped m) j μ′ →
+dropping : {n : ℕ} {μ : Model} {h : History} {m j : ℕ} {μ′ : Model} → Inv n μ h → Outcome n μ (Deliver m) (Dropped m) j μ′ →
     RestsOnLost h h (h .receiver m) (h .sending m)
 dropping {h = h} v (O.dropped m p l w z) =
     subst (λ c. RestsOnLost h h c (h .sending m)) (sym (v .message-ok m p l .receiver-is)) (theorem-3-message v m _ p l w .0 z)
 
 -- the same of an answer that is said to be so
-dropped-reason : {n : ℕ} {μ : Model} {h : History} {m : ℕ} {y : Answer} {j : ℕ} {μ′ : Model} → Inv n μ h → Outcome n μ (asks (Deliver m)) y j μ′ → y ≡ Dropped m →
+dropped-reason : {n : ℕ} {μ : Model} {h : History} {m : ℕ} {y : Answer} {j : ℕ} {μ′ : Model} → Inv n μ h → Outcome n μ (Deliver m) y j μ′ → y ≡ Dropped m →
     RestsOnLost h h (h .receiver m) (h .sending m)
-dropped-reason {n} {μ} {h} {m} {y} {j} {μ′} v o e = dropping v (subst (λ z. Outcome n μ (asks (Deliver m)) z j μ′) e o)
+dropped-reason {n} {μ} {h} {m} {y} {j} {μ′} v o e = dropping v (subst (λ z. Outcome n μ (Deliver m) z j μ′) e o)
 
 module _ {n : ℕ} {μ : Model} {h : History} (v : Inv n μ h) (u : Unheard h) where
   -- where no crash is heard, none can be heard of
   none-heard : {b a i : ℕ} → HearsOf n μ b a i → ⊥
   none-heard {b} {a} {i} f = let e = unheard-end v a (f .crashed-below) a i (u a a i) in omega (arith, f .ended)
 
-  -- so a call that is neither a done opening nor an accepted crash leaves it so
-  stays-unheard : {x : Call} {y : Answer} {j : ℕ} {μ′ : Model} → Outcome n μ x y j μ′ → NoDoneOpening x y →
-      ((c : ℕ) → x ≡ asks (Crash c) → CrashAccepted y → ⊥) → Unheard (fed x y h)
-  unfolding fed fedStep answers report joined stabilized flagging degreeSet sentFrom gapSet delivering beginning logging checkpointing
+  -- so a step that is neither a done opening nor an accepted crash leaves it so
+  stays-unheard : {x : Command} {y : Answer} {j : ℕ} {μ′ : Model} → Outcome n μ x y j μ′ → NoDoneOpening x y →
+      ((c : ℕ) → x ≡ Crash c → CrashAccepted y → ⊥) → Unheard (fedStep x y h)
+  unfolding fedStep answers report joined stabilized flagging degreeSet sentFrom gapSet delivering beginning logging checkpointing
   stays-unheard (O.refused x number) o c = subst Unheard (sym (fed-refused x number h)) u
   stays-unheard (O.opened j k p q r) o c = absurd (o j k refl refl)
   stays-unheard (O.degree-set d k p q) o c = u
@@ -103,54 +119,78 @@ module _ {n : ℕ} {μ : Model} {h : History} (v : Inv n μ h) (u : Unheard h) w
   stays-unheard (O.gap-set q l) o c = u
 
   -- nothing is dropped
-  none-dropped : {x : Call} {m j : ℕ} {μ′ : Model} → Outcome n μ x (Dropped m) j μ′ → ⊥
+  none-dropped : {x : Command} {m j : ℕ} {μ′ : Model} → Outcome n μ x (Dropped m) j μ′ → ⊥
   none-dropped (O.dropped m p l w z) = unheard-not-condemned v (μ .message m .to) w (u (μ .message m .to)) (μ .message m .vec) z
 
   -- and nothing is rolled back
-  none-rolled : {x : Call} {b k undone replayed j : ℕ} {μ′ : Model} → Outcome n μ x (Rolled b k undone replayed) j μ′ → ⊥
+  none-rolled : {x : Command} {b k undone replayed j : ℕ} {μ′ : Model} → Outcome n μ x (Rolled b k undone replayed) j μ′ → ⊥
   none-rolled (O.rolled b a i j undone f w) = none-heard f
 
-  -- so no call undoes
-  none-undone : {x : Call} {y : Answer} {j : ℕ} {μ′ : Model} → Outcome n μ x y j μ′ → Undoes y → ⊥
+  -- so no step undoes
+  none-undone : {x : Command} {y : Answer} {j : ℕ} {μ′ : Model} → Outcome n μ x y j μ′ → Undoes y → ⊥
   none-undone o (answersRolled b k undone replayed) = none-rolled o
   none-undone o (answersDropped m) = none-dropped o
 
 module _ (t g : List ℕ) (n k : ℕ) (l : List Call) (O : FromOpening t g n k l) where
-  -- "each release names the controllers that could still revoke it", by what the sender knows: every one that it names has its
-  -- reason
-  pub release-reasons : (before after : List Call) (m mask : ℕ) → l ≡ before ++ asks (Release m) ∷ after →
-      stepIn (upTo t g n k before) (Release m) .answer ≡ Released m mask →
-      (c : ℕ) → named mask c ≡ true → Reason (upTo t g n k before) m c
-  unfolding stepCall
-  release-reasons before after m mask e answer c is =
-      let s = in-list (follows n) t g k l O before (asks (Release m)) after e .holds in
+  -- a message that is there, and a controller whose pair filtering leaves of its vector: it has its reason
+  reason-of : (before rest : List Call) (e : l ≡ before ++ rest) → let s = part (follows n) t g k l O before rest e in
+      (m : ℕ) → 1 ≤ m → m ≤ s .model .sent → (c : ℕ) → Is (full (releasedVec (s .model) m c)) → Reason (upTo t g n k before) m c
+  reason-of before rest e m pos sent c is =
+      let s = part (follows n) t g k l O before rest e in
       let v = s .inv in
-      let f = found (outcome (asks (Release m)) (s .reads)) answer in
-      let q = release-named v m (f .out .pos) (f .out .sent) c (sym (f .out .names c) ∙ is) in
-      let begun = v .history .rests-begun _ _ (sending-begun v m (f .out .pos) (f .out .sent)) (q .rests) in
-      let sender = v .history .owner-below _ (sending-begun v m (f .out .pos) (f .out .sent)) in
+      let u = upTo t g n k before .table in
+      let q = release-named v m pos sent c is in
+      let begun = v .history .rests-begun _ _ (sending-begun v m pos sent) (q .rests) in
+      let sender = v .history .owner-below _ (sending-begun v m pos sent) in
       let owner = v .history .owner-below _ begun in
       let top = v .controller-ok (q .on .owner) owner .body .begun-le (q .on .incarnation) (q .on .number) begun in
       let fits = opening-done t g n k (O .done) .size-le in
       let is = q .owner-is in
       let unknown = q .unknown in
-      let low = f .low (q .on .owner) owner in
+      let size = s .reads .size-is in
+      let good = sound-after t g n k (O .done) before .table .good in
+      let last = controllerForm (form house (state u) good) (q .on .owner) (subst (λ j. q .on .owner < j) (sym size) owner) .incarnation-le in
+      let now = ap (λ (μ : Model). μ .controller (q .on .owner) .incarnation) (s .reads .model-is) in
+      let low = incarnation-is (state u) (q .on .owner) (omega arith) in
       let sent-by = upTo t g n k before .history .sending m .owner in
       let read = ap (λ (μ : Model). μ .controller sent-by .known c (q .on .incarnation)) (s .reads .model-is) in
-      let above : state (upTo t g n k before .table) (Known sent-by c (q .on .incarnation)) < q .on .number =
-      omega (arith, read, known-is (state (upTo t g n k before .table)) sent-by (omega arith) c (q .on .incarnation) (omega arith) (omega arith)) in
+      let above : state u (Known sent-by c (q .on .incarnation)) < q .on .number =
+      omega (arith, read, known-is (state u) sent-by (omega arith) c (q .on .incarnation) (omega arith) (omega arith)) in
       record { on = q .on; owner-is = q .owner-is; rests = q .rests; unknown = above }
 
-  -- and they own every interval that the sending interval rests on and that was not stable at that release, lost or not
-  pub release-owners : (before after : List Call) (m mask : ℕ) → l ≡ before ++ asks (Release m) ∷ after →
-      stepIn (upTo t g n k before) (Release m) .answer ≡ Released m mask →
+  -- "each release names the controllers that could still revoke it", by what the sender knows: every one that it names has its
+  -- reason;
+  pub release-reasons : (before after : List Call) (m echoed mask : ℕ) → l ≡ before ++ asks (Release m) ∷ after →
+      stepIn (upTo t g n k before) (Release m) .answer ≡ Released echoed mask →
+      (c : ℕ) → named mask c ≡ true → Reason (upTo t g n k before) m c
+  release-reasons before after m echoed mask e answer c is =
+      let s = part (follows n) t g k l O before (asks (Release m) ∷ after) e in
+      let o = found (outcome (Release m) (s .reads)) answer .out in
+      reason-of before (asks (Release m) ∷ after) e m (o .pos) (o .sent) c (sym (o .names c) ∙ is)
+
+  -- and so has every one that a set names, by one of its messages.
+  pub set-reasons : (before after : List Call) (messages : List ℕ) (mask : ℕ) → l ≡ before ++ releaseSet messages ∷ after →
+      callIn (upTo t g n k before) (releaseSet messages) .answer ≡ SetReleased mask →
+      (c : ℕ) → named mask c ≡ true → (i : ℕ) × (i < length messages) × Reason (upTo t g n k before) (nth messages i) c
+  set-reasons before after messages mask e answer c is =
+      let r = upTo t g n k before in
+      let σ = state (r .table) in
+      let s = part (follows n) t g k l O before (releaseSet messages ∷ after) e in
+      let (w, union-is) = set-goes (r .table) (r .ledger) messages mask answer in
+      let (i, below, own) = named-own σ messages c (subst (λ k. named k c ≡ true) (sym union-is) is) in
+      let o = release-found σ (form house σ (w .table .good)) (nth messages i) (w .all .allowed .here i below) (own-may (w .all) i below) in
+      let sent = subst (λ (μ : Model). nth messages i ≤ μ .sent) (s .reads .model-is) (o .sent) in
+      let left = subst (λ (μ : Model). Is (full (releasedVec μ (nth messages i) c))) (s .reads .model-is) (sym (o .names c) ∙ own) in
+      (i, below, reason-of before (releaseSet messages ∷ after) e (nth messages i) (o .pos) sent c left)
+
+  -- Those named own every interval that the sending interval rests on and that was not stable then, lost or not.
+  pub release-owners : (before after : List Call) (x : Call) (m mask : ℕ) → l ≡ before ++ x ∷ after → LetsGo x (callIn (upTo t g n k before) x .answer) m mask →
       let h = upTo t g n k before .history in
       (y : Interval) → h .rests (h .sending m) y ≡ true → h .stable y ≡ false → named mask (y .owner) ≡ true
-  unfolding stepCall
-  release-owners before after m mask e answer y rests unstable =
-      let s = in-list (follows n) t g k l O before (asks (Release m)) after e .holds in
-      let o = found (outcome (asks (Release m)) (s .reads)) answer .out in
-      o .names (y .owner) ∙ release-covers (s .inv) m (o .pos) (o .sent) (ext-refl (upTo t g n k before .history)) refl y rests unstable .1
+  release-owners before after x m mask e out y rests unstable =
+      let s = in-list (follows n) t g k l O before x after e .holds in
+      let o = follows n .lets-out s x m mask out in
+      o .covers (y .owner) (release-covers (s .inv) m (o .pos) (o .sent) (ext-refl (upTo t g n k before .history)) refl y rests unstable .1)
 
   -- "no reading be undone without cause": where a delivery drops its message, the sending interval rests on one lost in a crash
   -- that the receiver has heard. (For hearings this is in demand 3.)
@@ -161,7 +201,7 @@ module _ (t g : List ℕ) (n k : ℕ) (l : List Call) (O : FromOpening t g n k l
   unfolding stepCall
   drop-causes before after m e answer =
       let s = in-list (follows n) t g k l O before (asks (Deliver m)) after e .holds in
-      dropped-reason (s .inv) (outcome (asks (Deliver m)) (s .reads)) answer
+      dropped-reason (s .inv) (outcome (Deliver m) (s .reads)) answer
 
   -- what is lost anywhere in the list is stable at no time in it
   pub lost-unstable : (before rest : List Call) → l ≡ before ++ rest → (y : Interval) (crash : ℕ) →
@@ -172,7 +212,7 @@ module _ (t g : List ℕ) (n k : ℕ) (l : List Call) (O : FromOpening t g n k l
   -- the table and the ledger say what the citations say
   pub run-cites : RunCites (upTo t g n k l)
   run-cites =
-      along (follows n) t g k l O RunCites (cites-opened t g n k (O .done)) (λ before x after e s. cites-next (upTo t g n k before) x (s .unopened)) l []
+      along (follows n) t g k l O RunCites (cites-opened t g n k (O .done)) (λ before x after e q y s. cites-next q y (s .unopened)) l []
       (sym (append-nil l))
 
   -- W2: what a scholar cites is what was sent. The ledger's pairs are, in order, the messages for the desk that the list's releases let
@@ -185,19 +225,22 @@ module _ (t g : List ℕ) (n k : ℕ) (l : List Call) (O : FromOpening t g n k l
       CrashAccepted (stepIn (upTo t g n k before) (Crash c) .answer) → ⊥) where
     -- none is ever heard
     unheard : (before rest : List Call) → l ≡ before ++ rest → Unheard (upTo t g n k before .history)
-    unfolding justOpened opening next stepCall
+    unfolding justOpened opening next stepCall fed
     unheard before rest e =
         along (follows n) t g k l O (λ r. Unheard (r .history)) (λ b a i. refl)
-        (λ first x after f s u. stays-unheard (s .holds .inv) u (outcome x (s .holds .reads)) (s .unopened)
-        (λ c is z. calm first after c (f ∙ ap (λ y. first ++ y ∷ after) is) (subst (λ y. CrashAccepted (callIn (upTo t g n k first) y .answer)) is z)))
+        (λ first x after f q y s u. stays-unheard (s .holds .inv) u (outcome y (s .holds .reads)) (s .unopened)
+        (λ c is z. let (call-is, here) = part-itself (s .part) (λ m no. absurd (let w : _≡_ {A = ℕ} 0 1 = cc in omega arith)) in
+        calm first after c (f ∙ ap (λ x. first ++ x ∷ after) (call-is ∙ ap asks is)) (subst (λ r. CrashAccepted (stepIn r (Crash c) .answer)) here (subst (λ y. CrashAccepted (stepIn q y .answer)) is z))))
         before rest e
 
     -- no call rolls back or drops
     pub nothing-undone : (before after : List Call) (x : Call) → l ≡ before ++ x ∷ after →
         Undoes (callIn (upTo t g n k before) x .answer) → ⊥
-    nothing-undone before after x e =
-        let s = in-list (follows n) t g k l O before x after e .holds in
-        none-undone (s .inv) (unheard before (x ∷ after) e) (outcome x (s .reads))
+    unfolding stepCall
+    nothing-undone before after (asks x) e =
+        let s = in-list (follows n) t g k l O before (asks x) after e .holds in
+        none-undone (s .inv) (unheard before (asks x ∷ after) e) (outcome x (s .reads))
+    nothing-undone before after (releaseSet messages) e = set-undoes-nothing (set-in (upTo t g n k before .table) (upTo t g n k before .ledger) messages)
 
     -- and every interval that was begun is live at the end
     pub all-live : (y : Interval) → end t g n k l .begun y ≡ true → member y (end t g n k l .chain (y .owner)) ≡ true

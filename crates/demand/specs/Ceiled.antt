@@ -7,20 +7,22 @@ use native.Mathlib.Omega.{arith}
 use Rattle.rules.specs.Step.{Call, asks, stepCall}
 use Rattle.rules.specs.declared.Answer.{Answer}
 use Rattle.rules.specs.declared.Answer.the-variants.{Crashed, Rolled}
+use Rattle.rules.specs.declared.Command.{Command}
 use Rattle.rules.specs.declared.Command.the-variants.{Crash, Hear}
 use Rattle.history.specs.History.{History}
-use Rattle.history.specs.Demand.{Run, callIn, next, runs, justOpened, FromOpening}
+use Rattle.history.specs.Demand.{Run, stepIn, next, runs, justOpened, FromOpening}
 use Rattle.history.specs.Ceiling.{largestGap, NeverOff, Ceiling, largest-covers}
 use Rattle.model.specs.Model.{Model, putController, putMessage, degreeController, logController, gapModel, tellController, endController, noteController, sendMessage, releaseMessage}
 use Rattle.model.specs.Invariant.{Inv}
 use Rattle.model.specs.Close.{Close, carries-begun, carries-anew, logged-flagged, cap-gap, close-opened, close-controllers, close-same, close-checkpointed, close-capped}
-use Rattle.model.specs.Runs.{NoDoneOpening, in-list, first-part, along}
+use Rattle.calls.specs.Made.{NoDoneOpening, part-history, part-then}
+use Rattle.model.specs.Runs.{in-list, first-part, along}
 use Rattle.image.specs.Outcome.{Outcome, refused, opened, degree-set, sent, released, held, dropped, waits, delivered, logged, checkpointed, told, crashed, heard, rolled, gap-set}
 use Rattle.image.specs.Tables.{modelOf, sizeOf, opening-done}
 use Rattle.demand.specs.Demanded.{table-inv, table-outcome, follows}
 
--- a call keeps the numbers less than M above the latest flagged ones, where Q is not 0 after it and was at most M before
-outcome-close : {n M : ℕ} {μ : Model} {x : Call} {a : Answer} {j : ℕ} {μ′ : Model} {h : History} → Outcome n μ x a j μ′ → NoDoneOpening x a →
+-- a step keeps the numbers less than M above the latest flagged ones, where Q is not 0 after it and was at most M before
+outcome-close : {n M : ℕ} {μ : Model} {x : Command} {a : Answer} {j : ℕ} {μ′ : Model} {h : History} → Outcome n μ x a j μ′ → NoDoneOpening x a →
     Inv n μ h → 1 ≤ μ′ .gap → μ .gap ≤ M → Close n M μ → Close n M μ′
 unfolding putController putMessage degreeController logController gapModel tellController endController noteController sendMessage releaseMessage
 outcome-close (refused x number) o v on within close = close
@@ -43,21 +45,21 @@ outcome-close (rolled b a i j undone f w) o v on within close =
     close-capped close b (f .hearer-below) _ (carries-anew b _ j (omega (arith, w .below)) (logged-flagged b _ j)) on within
 outcome-close (gap-set q l) o v on within close = close-controllers refl close
 
--- what a call replays stands above the latest flagged one up to a live number, and the call leaves Q
+-- what a step replays stands above the latest flagged one up to a live number, and the step leaves Q
 record Replays (n : ℕ) (μ μ′ : Model) (replayed : ℕ) : Type 0 where
   gap-same : μ′ .gap ≡ μ .gap
   above : (M : ℕ) → Close n M μ → replayed < M
 
 module _ {n : ℕ} {μ : Model} {h : History} (v : Inv n μ h) where
   -- a crash replays up to the stable number
-  crash-replays : {c echoed i kept lost replayed j : ℕ} {μ′ : Model} → Outcome n μ (asks (Crash c)) (Crashed echoed i kept lost replayed) j μ′ →
+  crash-replays : {c echoed i kept lost replayed j : ℕ} {μ′ : Model} → Outcome n μ (Crash c) (Crashed echoed i kept lost replayed) j μ′ →
       Replays n μ μ′ replayed
   unfolding putController
   crash-replays (crashed c lost l) =
       record { gap-same = cap-gap _ c; above = λ M close. close .above-lt c l _ (v .controller-ok c l .shape .stable-le) }
 
   -- and a rollback up to the number that it kept
-  roll-replays : {b a i echoed kept undone replayed j : ℕ} {μ′ : Model} → Outcome n μ (asks (Hear b a i)) (Rolled echoed kept undone replayed) j μ′ →
+  roll-replays : {b a i echoed kept undone replayed j : ℕ} {μ′ : Model} → Outcome n μ (Hear b a i) (Rolled echoed kept undone replayed) j μ′ →
       Replays n μ μ′ replayed
   unfolding putController noteController
   roll-replays (rolled b a i x undone f w) =
@@ -70,38 +72,39 @@ module _ (t g : List ℕ) (n k : ℕ) where
 
   -- at the end of a list: Q was at most the largest before each of its calls, and not 0 after it
   close-end : (l : List Call) → FromOpening t g n k l → NeverOff t g n k l → 1 ≤ largestGap start l → Close n (largestGap start l) (modelOf (runs start l .table))
-  unfolding justOpened next
+  unfolding justOpened next stepCall
   close-end l O on pos =
       let M = largestGap start l in
       along (follows n) t g k l O (λ r. Close n M (modelOf (r .table)))
       (subst (Close n M) (sym (opening-done t g n k (O .done) .model-is)) (close-opened n k M pos))
-      (λ before x after e s close.
+      (λ before x after e q y s close.
       let r = runs start before in
       let v = table-inv (s .holds) in
       let covers = subst (λ z. r .history .gap ≤ largestGap start z) (sym e) (largest-covers start before (x ∷ after)) in
-      outcome-close (table-outcome (s .holds) x) (s .unopened) v
-      (omega (arith, on before after x e, table-inv (s .one .holds) .gap-is)) (omega (arith, covers, v .gap-is)) close)
+      let here = ap (λ (h : History). h .gap) (part-history (s .part)) in
+      let there = ap (λ (h : History). h .gap) (part-then (s .part)) in
+      outcome-close (table-outcome (s .holds) y) (s .unopened) v
+      (omega (arith, on before after x e, there, table-inv (s .one .holds) .gap-is)) (omega (arith, covers, here, v .gap-is)) close)
       l [] (sym (append-nil l))
 
   module _ (l : List Call) (O : FromOpening t g n k l) (on : NeverOff t g n k l) where
-    -- What a call replays is below the largest Q before it: the calls before it are such a list, and Q, which it leaves, is not 0.
-    below-largest : (before after : List Call) (x : Call) (a : Answer) → l ≡ before ++ x ∷ after → callIn (runs start before) x .answer ≡ a → (replayed : ℕ) →
+    -- What a step replays is below the largest Q before it: the calls before it are such a list, and Q, which it leaves, is not 0.
+    below-largest : (before after : List Call) (x : Command) (a : Answer) → l ≡ before ++ asks x ∷ after → stepIn (runs start before) x .answer ≡ a → (replayed : ℕ) →
         ((μ μ′ : Model) (h : History) (j : ℕ) → Inv n μ h → Outcome n μ x a j μ′ → Replays n μ μ′ replayed) → replayed < largestGap start before
-    unfolding next
+    unfolding next stepCall
     below-largest before after x a e answer replayed replays =
         let r = runs start before in
-        let s = in-list (follows n) t g k l O before x after e in
+        let s = in-list (follows n) t g k l O before (asks x) after e in
         let v = table-inv (s .holds) in
-        let after-it = callIn r x .table in
+        let after-it = stepIn r x .table in
         let w = replays _ _ _ _ v (subst (λ y. Outcome n (modelOf (r .table)) x y (sizeOf after-it) (modelOf after-it)) answer (table-outcome (s .holds) x)) in
         let covers = subst (λ z. r .history .gap ≤ largestGap start z) (append-nil before) (largest-covers start before []) in
-        w .above _ (close-end before (first-part before (x ∷ after) (subst (FromOpening t g n k) e O))
-        (λ first rest y d. on first (rest ++ x ∷ after) y (e ∙ ap (λ z. z ++ x ∷ after) d ∙ append-assoc first (y ∷ rest) (x ∷ after)))
-        (omega (arith, on before after x e, table-inv (s .one .holds) .gap-is, w .gap-same, v .gap-is, covers)))
+        w .above _ (close-end before (first-part before (asks x ∷ after) (subst (FromOpening t g n k) e O))
+        (λ first rest y d. on first (rest ++ asks x ∷ after) y (e ∙ ap (λ z. z ++ asks x ∷ after) d ∙ append-assoc first (y ∷ rest) (asks x ∷ after)))
+        (omega (arith, on before after (asks x) e, table-inv (s .one .holds) .gap-is, w .gap-same, v .gap-is, covers)))
 
     -- The ceiling, for every table, ledger, opening and list of calls.
     pub ceiling : Ceiling t g n k l
-    unfolding stepCall
     ceiling =
         record {
           crashes = λ before after c echoed i kept lost replayed e answer. below-largest before after _ _ e answer replayed (λ μ μ′ h j v o. crash-replays v o);

@@ -1,5 +1,5 @@
 -- Every entry of the ledger may be cited: along a list, each message that the citations have for the desk was sent so by a send of the list,
--- and each entry is one of these that a release let out, of which demand 3 says that the interval that sent it stands.
+-- and each entry is one of these that a release or a set let out, of which demand 3 says that the interval that sent it stands.
 use mathlib.Core.Path.{_≡_, refl, sym, _∙_, ap, subst}
 use mathlib.Core.Bool.{Bool, true, false, cond}
 use mathlib.Core.List.{List, [], _∷_, _++_, append-nil}
@@ -15,15 +15,17 @@ use Rattle.rules.specs.Report.{report}
 use Rattle.rules.specs.Step.{Call, asks, stepCall}
 use Rattle.rules.specs.declared.Answer.{Answer}
 use Rattle.rules.specs.declared.Answer.the-variants.{Sent, Released}
+use Rattle.rules.specs.declared.Command.{Command}
 use Rattle.rules.specs.declared.Command.the-variants.{Send, Release}
 use Rattle.history.specs.History.{Interval, History, member, changedAt, sentFrom, answers, valueAt, fedStep, fed}
 use Rattle.history.specs.Citations.{Citation, Citations, noCitations, sentWith, letOutTo, citedStep, cited}
-use Rattle.history.specs.Demand.{callIn, stepIn, next, justOpened, FromOpening, upTo, end}
+use Rattle.history.specs.Demand.{Run, callIn, stepIn, next, justOpened, LetsGo, FromOpening, upTo, end}
 use Rattle.history.specs.Progress.{SentIn}
 use Rattle.history.specs.Citable.{newestThen, Citable, AllCitable}
 use Rattle.model.specs.Model.{Model}
 use Rattle.model.specs.Tests.{changedAt-same}
-use Rattle.model.specs.Runs.{NoDoneOpening, AtCall, in-list, along}
+use Rattle.calls.specs.Made.{NoDoneOpening, part-itself, part-out}
+use Rattle.model.specs.Runs.{AtStep, in-list, along}
 use Rattle.image.specs.Outcome as O
 use Rattle.image.specs.Outcome.{Outcome}
 use Rattle.image.specs.Tables.{modelOf, sizeOf}
@@ -32,12 +34,12 @@ use Rattle.testers.specs.Citing.{cited-refused}
 use Rattle.demand.specs.Demanded.{sent-last, outcome, follows, demand-3}
 use Rattle.demand.specs.Beyond.{run-cites}
 
--- What holds of citations holds after a call that is no done opening, if it does after a send and after a release that lets its message out.
-cited-ind : {n : ℕ} {μ : Model} {x : Call} {a : Answer} {j : ℕ} {μ′ : Model} (P : Citations → Type 0) (q : Citations) → Outcome n μ x a j μ′ → NoDoneOpening x a → P q →
-    ((s r p m : ℕ) → x ≡ asks (Send s r p) → a ≡ Sent m → P (sentWith q m r p)) →
-    ((m mask : ℕ) → x ≡ asks (Release m) → a ≡ Released m mask → P (letOutTo q m)) → P (cited x a q)
-unfolding cited citedStep answers valueAt report
-cited-ind P q (O.refused (asks x) number) o w sends outs = subst P (sym (cited-refused x number q)) w
+-- What holds of citations holds after a step that is no done opening, if it does after a send and after a release that lets its message out.
+cited-ind : {n : ℕ} {μ : Model} {x : Command} {a : Answer} {j : ℕ} {μ′ : Model} (P : Citations → Type 0) (q : Citations) → Outcome n μ x a j μ′ → NoDoneOpening x a → P q →
+    ((s r p m : ℕ) → x ≡ Send s r p → a ≡ Sent m → P (sentWith q m r p)) →
+    ((m mask : ℕ) → x ≡ Release m → a ≡ Released m mask → P (letOutTo q m)) → P (citedStep x a q)
+unfolding citedStep answers valueAt report
+cited-ind P q (O.refused x number) o w sends outs = subst P (sym (cited-refused x number q)) w
 cited-ind P q (O.opened j k a b c) o w sends outs = absurd (o j k refl refl)
 cited-ind P q (O.degree-set c k a b) o w sends outs = w
 cited-ind P q (O.sent s r p a b ne) o w sends outs = sends s r p _ refl refl
@@ -72,10 +74,11 @@ module _ (t g : List ℕ) (n k : ℕ) (l : List Call) (O : FromOpening t g n k l
   unfolding next stepCall fed fedStep answers valueAt report sentFrom
   sent-as m s =
       let r = upTo t g n k (s .before) in
-      let x = asks (Send (s .sender) (s .receiver) (s .payload)) in
+      let y = Send (s .sender) (s .receiver) (s .payload) in
+      let x = asks y in
       let c = in-list (follows n) t g k l O (s .before) x (s .after) (s .is-in) in
       let u = callIn r x .table in
-      let there = sent-last (subst (λ a. Outcome n (c .holds .model) x a (sizeOf u) (modelOf u)) (s .answer) (outcome x (c .holds .reads))) .1 in
+      let there = sent-last (subst (λ a. Outcome n (c .holds .model) y a (sizeOf u) (modelOf u)) (s .answer) (outcome y (c .holds .reads))) .1 in
       let below : m ≤ c .one .holds .model .sent = subst (λ (μ : Model). m ≤ μ .sent) (c .one .holds .reads .model-is) there in
       let then : next x r .history ≡ sentFrom (r .history) m (s .sender) (s .receiver) = ap (λ a. fed x a (r .history)) (s .answer) in
       let whole = ap (λ z. end t g n k z) (s .is-in) in (
@@ -89,22 +92,22 @@ module _ (t g : List ℕ) (n k : ℕ) (l : List Call) (O : FromOpening t g n k l
     to-desk : sent .receiver ≡ desk
     payload-is : sent .payload ≡ p
 
-  -- if a release lets it out, it may be cited
-  released-citable : (before after : List Call) (m mask p : ℕ) → l ≡ before ++ asks (Release m) ∷ after → stepIn (upTo t g n k before) (Release m) .answer ≡ Released m mask →
+  -- if a call lets it out, it may be cited
+  let-out-citable : (before after : List Call) (x : Call) (m mask p : ℕ) → l ≡ before ++ x ∷ after → LetsGo x (callIn (upTo t g n k before) x .answer) m mask →
       SentToDesk m p → Citable t g n k l m p
-  released-citable before after m mask p e a d =
-      let c = in-list (follows n) t g k l O before (asks (Release m)) after e in
-      let out = follows n .lets-out (c .holds) m m mask a in
+  let-out-citable before after x m mask p e goes d =
+      let c = in-list (follows n) t g k l O before x after e in
+      let out = follows n .lets-out (c .holds) x m mask goes in
       let whole = ap (λ z. end t g n k z) e in
       let receiver = ap (λ (h : History). h .receiver m) whole ∙ c .all .keeps .receiver-same m (out .sent) in
       let sending = ap (λ (h : History). h .sending m) whole ∙ c .all .keeps .sending-same m (out .sent) in
       let (to, from) = sent-as m (d .sent) in
-      let (zero, live, kept) = demand-3 t g n k l O .published before after m m mask e a (sym receiver ∙ to ∙ d .to-desk) in
+      let (zero, live, kept) = demand-3 t g n k l O .published before after x m mask e goes (sym receiver ∙ to ∙ d .to-desk) in
       record {
         sent = d .sent;
         to-desk = d .to-desk;
         payload-is = d .payload-is;
-        let-out = record { before = before; after = after; echoed = m; is-in = e; answer = a ∙ ap (Released m) zero };
+        let-out = record { before = before; call = x; after = after; is-in = e; lets-go = subst (LetsGo x (callIn (upTo t g n k before) x .answer) m) zero goes };
         sent-from = from;
         live = subst (λ (y : Interval). member y (h .chain (y .owner)) ≡ true) (sym sending) live;
         not-lost = subst (λ (y : Interval). (crash : ℕ) → h .lost y crash ≡ false) (sym sending) kept;
@@ -132,32 +135,32 @@ module _ (t g : List ℕ) (n k : ℕ) (l : List Call) (O : FromOpening t g n k l
       at i true e d = subst (λ i. SentToDesk i (s .payload)) (sym (eqb-true i m e)) (record { sent = s; to-desk = d; payload-is = refl })
       at i false e d = w .sends i d
 
-  -- after a release that lets its message out
-  tells-out : (q : Citations) (before after : List Call) (m mask : ℕ) → l ≡ before ++ asks (Release m) ∷ after →
-      stepIn (upTo t g n k before) (Release m) .answer ≡ Released m mask → Tells q → Tells (letOutTo q m)
+  -- after a release that lets its message out, by itself or in a set
+  tells-out : (q : Citations) (before after : List Call) (x : Call) (m mask : ℕ) → l ≡ before ++ x ∷ after → LetsGo x (callIn (upTo t g n k before) x .answer) m mask →
+      Tells q → Tells (letOutTo q m)
   unfolding letOutTo
-  tells-out q before after m mask e a w =
+  tells-out q before after x m mask e goes w =
       record {
         sends = w .sends;
         entries =
             cond-ind (λ more. Each (q .published ++ more)) (q .receiver m == desk)
             (λ d. each-more (λ c. Citable t g n k l (c .message) (c .payload)) (q .published) _ (w .entries)
-            (released-citable before after m mask _ e a (w .sends m (eqb-true (q .receiver m) desk d))))
+            (let-out-citable before after x m mask _ e goes (w .sends m (eqb-true (q .receiver m) desk d))))
             (λ _. subst Each (sym (append-nil (q .published))) (w .entries));
       }
 
-  -- after each call
-  tells-next : (before : List Call) (x : Call) (after : List Call) → l ≡ before ++ x ∷ after → AtCall (follows n) t g k before x after →
-      Tells (upTo t g n k before .citations) → Tells (next x (upTo t g n k before) .citations)
-  unfolding next stepCall
-  tells-next before x after e c w =
-      let r = upTo t g n k before in
-      cited-ind Tells (r .citations) (outcome x (c .holds .reads)) (c .unopened) w
-      (λ s to p m xe ae. let is = subst (λ y. l ≡ before ++ y ∷ after) xe e in
-      let answer = subst (λ y. callIn r y .answer ≡ Sent m) xe ae in
-      tells-sent (r .citations) m (record { before = before; after = after; sender = s; receiver = to; payload = p; is-in = is; answer = answer }) w)
-      (λ m mask xe ae. let is = subst (λ y. l ≡ before ++ y ∷ after) xe e in
-      tells-out (r .citations) before after m mask is (subst (λ y. callIn r y .answer ≡ Released m mask) xe ae) w)
+  -- after each step of a call
+  tells-next : (before : List Call) (x : Call) (after : List Call) → l ≡ before ++ x ∷ after → (q : Run) (y : Command) → AtStep (follows n) t g k before x q y →
+      Tells (q .citations) → Tells (next (asks y) q .citations)
+  unfolding next stepCall cited
+  tells-next before x after e q y c w =
+      cited-ind Tells (q .citations) (outcome y (c .holds .reads)) (c .unopened) w
+      (λ s to p m ye ae. let (call-is, here) = part-itself (c .part) (λ m no. absurd (let z : _≡_ {A = ℕ} 0 1 = cc in omega arith)) in
+      let is = subst (λ x. l ≡ before ++ x ∷ after) (call-is ∙ ap asks ye) e in
+      let answer = subst (λ r. stepIn r (Send s to p) .answer ≡ Sent m) here (subst (λ y. stepIn q y .answer ≡ Sent m) ye ae) in
+      tells-sent (q .citations) m (record { before = before; after = after; sender = s; receiver = to; payload = p; is-in = is; answer = answer }) w)
+      (λ m own ye ae. let (mask, goes, _) = part-out m m own (c .part) ye ae in
+      tells-out (q .citations) before after x m mask e goes w)
 
   -- so at the end
   tells : Tells (upTo t g n k l .citations)

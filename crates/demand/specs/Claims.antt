@@ -9,6 +9,7 @@ use lib.Count.{ones}
 use lib.ListN.{length, take, drop}
 use borrow.Author.Tests.{eqb-true, eq-eqb}
 use Rattle.base.specs.Choice.{_==_, cond-ind}
+use Rattle.base.specs.Ranges.{count}
 use Rattle.table.specs.Field.{MessageState}
 use Rattle.table.specs.Layout.{controllers, messages, tableWords}
 use Rattle.table.specs.Words.{state, words, words-state, word-at}
@@ -18,7 +19,8 @@ use Rattle.rules.specs.Refusal.{LENGTH, FORM, LEDGER}
 use Rattle.rules.specs.Form.{stateLost, forDesk, inForm}
 use Rattle.rules.specs.Ledger.{ledgerWords, countOf, entryOf, citedMessage, citedPayload, appended, blankLedger}
 use Rattle.rules.specs.Steps.{openHouse}
-use Rattle.rules.specs.Step.{OutBoth, stepOn, lent, step, Call, asks, stepCall}
+use Rattle.rules.specs.Step.{OutBoth, stepOn, lent, step, Call, asks, releaseSet, stepCall}
+use Rattle.rules.specs.declared.Answer.{Answer}
 use Rattle.rules.specs.declared.Answer.the-variants.{Done, Released, Held, Refused}
 use Rattle.rules.specs.declared.Command.{Command}
 use Rattle.rules.specs.declared.Command.the-variants.{Open, Checkpoint, Release, SetGap}
@@ -26,23 +28,26 @@ use Rattle.lines.specs.Lines.{stepOf, parse}
 use Rattle.lines.specs.Letters.{no-letter, no-line}
 use Rattle.lines.specs.Program.{houseWrites}
 use Rattle.lines.specs.declared.Parsed.the-variants.{Asks}
-use Rattle.history.specs.History.{interval, member}
-use Rattle.history.specs.Citations.{ledgerOf}
-use Rattle.history.specs.Demand.{Run, stepIn, next, runs, justOpened, Accepted, answersHeard, answersRolled, RestsOnLost, named, FromOpening, upTo, end, Cited, Demand3}
+use Rattle.history.specs.History.{interval, member, opening}
+use Rattle.history.specs.Citations.{noCitations, ledgerOf}
+use Rattle.history.specs.Demand.{Run, callIn, stepIn, next, runs, justOpened, Accepted, answersHeard, answersRolled, RestsOnLost, named, LetsGo, alone, together, FromOpening, upTo, end, Cited, Demand3}
 use Rattle.history.specs.Citable.{Citable, AllCitable}
 use Rattle.history.specs.Ceiling.{largestGap, NeverOff, Ceiling}
 use Rattle.history.specs.Uses.{orphan-is-not-live}
 use Rattle.history.specs.Examples.{ListingLine}
-use Rattle.image.specs.Mask.{count}
 use Rattle.image.specs.Tables.{opening-done}
 use Rattle.laws.specs.Beside.{looksAtLedger}
+use Rattle.laws.specs.Together.{union-counts}
 use Rattle.keeping.specs.Unrefused.{sound-let}
+use Rattle.keeping.specs.Sets.{sound-let-set}
+use Rattle.calls.specs.Sets.{set-goes, not-gone-keeps}
+use Rattle.calls.specs.Made.{call-ind}
 use Rattle.demand.specs.Demanded.{demand-3}
 use Rattle.demand.specs.Beyond.{ledger-cites}
 use Rattle.demand.specs.Citable.{all-citable}
 use Rattle.demand.specs.Ceiled.{ceiling}
 use Rattle.demand.specs.InForm.{sound-after}
-use Rattle.testers.specs.StepSame.{same-written, step-words}
+use Rattle.keeping.specs.StepSame.{same-written, step-words}
 use Rattle.testers.specs.Refused.{keeps-refused}
 use Rattle.testers.specs.NoneLost.{none-lost}
 use Rattle.testers.specs.Checkpoint.{checkpoint-twice}
@@ -67,7 +72,8 @@ refused-keeps-every-word t g x number =
 pub refused-call-keeps-every-word : (t g : List ℕ) (x : Call) (number : ℕ) → stepCall t g x .answer ≡ Refused number →
     (stepCall t g x .table ≡ t) × (stepCall t g x .ledger ≡ g)
 unfolding stepCall
-refused-call-keeps-every-word t g (asks x) = refused-keeps-every-word t g x
+refused-call-keeps-every-word t g (asks x) number e = refused-keeps-every-word t g x number e
+refused-call-keeps-every-word t g (releaseSet l) number e = not-gone-keeps t g l (λ mask z. absurd (let q : _≡_ {A = ℕ} 0 1 = cc in omega arith))
 
 -- 2. C: "Repeating it changes nothing." The second time it answers what it did the first time, and leaves every word.
 pub checkpoint-again-changes-nothing : (t g : List ℕ) (c : ℕ) → let o = step t g (Checkpoint c) in step (o .table) (o .ledger) (Checkpoint c) ≡ o
@@ -108,18 +114,24 @@ module _ (t g : List ℕ) (long : length t ≡ tableWords) (wide : length g ≡ 
       orphan-is-not-live t g 3 1 list said 2 (omega arith) (interval 2 0 2)
       (record { on = interval 1 0 2; crash = 0; rests = undone-rests t g long wide; lost = lost-later t g long wide; heard = heard-later t g long wide })
 
+  -- a release of the list that answered so let its message out
+  out-at : (j m echoed mask : ℕ) → stepIn (upTo t g 3 1 (take j list)) (Release m) .answer ≡ Released echoed mask →
+      LetsGo (asks (Release m)) (callIn (upTo t g 3 1 (take j list)) (asks (Release m)) .answer) m mask
+  unfolding stepCall
+  out-at j m echoed mask e = subst (λ a. LetsGo (asks (Release m)) a m mask) (sym e) (alone m echoed mask)
+
   -- "let out with at most K controllers named": message 2 under the degree 1.
   pub one-named-under-1 : ones 2 ≤ 1
   unfolding runs
   one-named-under-1 =
-      subst (λ k. ones 2 ≤ k) (degree-then t g long wide) (said .degrees (take 4 list) (drop 5 list) 2 2 2 refl (sample-answer t g long wide 4 refl))
+      subst (λ k. ones 2 ≤ k) (degree-then t g long wide) (said .degrees (take 4 list) (drop 5 list) _ 2 2 refl (out-at 4 2 2 2 (sample-answer t g long wide 4 refl)))
 
   -- "these own every interval .. that is lost anywhere in the list, before it or after": message 2 was let out with the owner named
   -- of an interval that is lost later.
   pub owner-of-lost-is-named : named 2 (interval 1 0 2 .owner) ≡ true
   unfolding runs
   owner-of-lost-is-named =
-      said .releases (take 4 list) (drop 5 list) 2 2 2 refl (sample-answer t g long wide 4 refl) (interval 1 0 2) 0 (sending-rests t g long wide)
+      said .releases (take 4 list) (drop 5 list) _ 2 2 refl (out-at 4 2 2 2 (sample-answer t g long wide 4 refl)) (interval 1 0 2) 0 (sending-rests t g long wide)
       (not-yet-stable t g long wide) (lost-later t g long wide)
 
   -- W2: "the sending interval of a published message is never lost or undone": message 3 was for the desk, and let out before the crash;
@@ -127,7 +139,7 @@ module _ (t g : List ℕ) (long : length t ≡ tableWords) (wide : length g ≡ 
   pub published-is-live : let y = interval 0 0 1 in (member y (end t g 3 1 list .chain 0) ≡ true) × ((crash : ℕ) → end t g 3 1 list .lost y crash ≡ false)
   unfolding runs
   published-is-live =
-      let p = said .published (take 7 list) (drop 8 list) 3 3 0 refl (sample-answer t g long wide 7 refl) (sent-to-desk t g long wide) in
+      let p = said .published (take 7 list) (drop 8 list) _ 3 0 refl (out-at 7 3 3 0 (sample-answer t g long wide 7 refl)) (sent-to-desk t g long wide) in
       subst (λ y. (member y (end t g 3 1 list .chain (y .owner)) ≡ true) × ((crash : ℕ) → end t g 3 1 list .lost y crash ≡ false)) (sent-from t g long wide) (p .1, p .2)
 
   -- and the ledger has just that message, with its payload
@@ -149,14 +161,20 @@ ones-are-the-named t g m = counted-step t g m .released
 pub held-ones-are-the-named : (t g : List ℕ) (m echoed mask : ℕ) → step t g (Release m) .answer ≡ Held echoed mask → ones mask ≡ count controllers (named mask)
 held-ones-are-the-named t g m = counted-step t g m .held
 
-pub at-most-K-named : (t g : List ℕ) (n k : ℕ) (l : List Call) → FromOpening t g n k l → (before after : List Call) (m echoed mask : ℕ) → l ≡ before ++ asks (Release m) ∷ after →
-    stepIn (upTo t g n k before) (Release m) .answer ≡ Released echoed mask →
+-- in a set too
+pub shown-ones-are-the-named : (t g : List ℕ) {x : Call} {a : Answer} {m mask : ℕ} → LetsGo x a m mask → stepCall t g x .answer ≡ a → ones mask ≡ count controllers (named mask)
+unfolding stepCall
+shown-ones-are-the-named t g (alone m echoed mask) e = ones-are-the-named t g m echoed mask e
+shown-ones-are-the-named t g (together l i mask h) e = subst (λ k. ones k ≡ count controllers (named k)) (set-goes t g l mask e .1) (union-counts (state t) l)
+
+pub at-most-K-named : (t g : List ℕ) (n k : ℕ) (l : List Call) → FromOpening t g n k l → (before after : List Call) (x : Call) (m mask : ℕ) → l ≡ before ++ x ∷ after →
+    LetsGo x (callIn (upTo t g n k before) x .answer) m mask →
     let h = upTo t g n k before .history in
     count controllers (named mask) ≤ h .degree (h .sending m .owner)
-at-most-K-named t g n k l O before after m echoed mask e a =
+at-most-K-named t g n k l O before after x m mask e goes =
     let r = upTo t g n k before in
     let h = r .history in
-    subst (λ x. x ≤ h .degree (h .sending m .owner)) (ones-are-the-named (r .table) (r .ledger) m echoed mask a) (demand-3 t g n k l O .degrees before after m echoed mask e a)
+    subst (λ k. k ≤ h .degree (h .sending m .owner)) (shown-ones-are-the-named (r .table) (r .ledger) goes refl) (demand-3 t g n k l O .degrees before after x m mask e goes)
 
 -- 5. "Listing A, input left, output right": all that `house` writes for the left column is the right one, byte by byte.
 pub listing-A-written : houseWrites leftColumn ≡ rightColumn
@@ -172,8 +190,11 @@ lost-is-never-given t g x r h =
 
 -- a call of a list too
 pub lost-is-never-given-by-a-call : (t g : List ℕ) (x : Call) (r : ℕ) → r < messages → state (stepCall t g x .table) (MessageState r) ≡ stateLost → state t (MessageState r) ≡ stateLost
-unfolding stepCall
-lost-is-never-given-by-a-call t g (asks x) = lost-is-never-given t g x
+unfolding next stepCall
+lost-is-never-given-by-a-call t g x r h =
+    let f = MessageState r in
+    call-ind (λ q. state (q .table) f ≡ stateLost → state t f ≡ stateLost) (record { table = t; ledger = g; history = opening 0 0; citations = noCitations }) x (λ e. e)
+    (λ q y part so-far e. so-far (lost-is-never-given (q .table) (q .ledger) y r h e))
 
 -- along a list
 lost-before : (s : Run) (l : List Call) (r : ℕ) → r < messages → state (runs s l .table) (MessageState r) ≡ stateLost → state (s .table) (MessageState r) ≡ stateLost
@@ -262,11 +283,15 @@ no-line-sets-the-gap = no-line
 
 -- 13. A house in form stays in form: from an opening that is done, no call of any list is refused for its buffers, with 1 (the table's
 -- length), 2 (its form) or 14 (the ledger). Whatever calls stand before it, openings too, are done or refused as they may be.
-pub never-refused-for-its-buffers : (t g : List ℕ) (n k : ℕ) → step t g (Open n k) .answer ≡ Done → (before : List Call) (x : Command) (number : ℕ) →
-    stepIn (upTo t g n k before) x .answer ≡ Refused number → (number ≢ LENGTH) × (number ≢ FORM) × (number ≢ LEDGER)
-never-refused-for-its-buffers t g n k done before x number =
+pub never-refused-for-its-buffers : (t g : List ℕ) (n k : ℕ) → step t g (Open n k) .answer ≡ Done → (before : List Call) (x : Call) (number : ℕ) →
+    callIn (upTo t g n k before) x .answer ≡ Refused number → (number ≢ LENGTH) × (number ≢ FORM) × (number ≢ LEDGER)
+unfolding stepCall
+never-refused-for-its-buffers t g n k done before (asks x) number =
     let r = upTo t g n k before in
     sound-let (r .table) (r .ledger) x number (sound-after t g n k done before)
+never-refused-for-its-buffers t g n k done before (releaseSet l) number =
+    let r = upTo t g n k before in
+    sound-let-set (r .table) (r .ledger) l number (sound-after t g n k done before)
 
 -- and every table of such a list is in form
 pub always-in-form : (t g : List ℕ) (n k : ℕ) → step t g (Open n k) .answer ≡ Done → (l : List Call) →

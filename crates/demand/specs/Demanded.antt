@@ -1,46 +1,54 @@
--- Demand 3 holds of every list of calls over a lent table and a lent ledger: every outcome of a call keeps the invariant of the
--- model.
+-- Demand 3 holds of every list of calls over a lent table and a lent ledger: every outcome of a step keeps the invariant of the
+-- model, and calls are made of steps.
 use mathlib.Core.Path.{_≡_, refl, sym, subst}
 use mathlib.Core.List.{List}
 use Prim.Native.Nat.{ℕ, _≤_, _<_}
 use native.Mathlib.Omega.{arith}
 use Rattle.table.specs.Layout.{incarnations}
+use Rattle.table.specs.Words.{state}
 use Rattle.rules.specs.Report.{report}
-use Rattle.rules.specs.Step.{Call, asks, stepCall}
+use Rattle.rules.specs.Limits.{house}
+use Rattle.rules.specs.Sets.{nth}
+use Rattle.rules.specs.Step.{Call, stepCall}
 use Rattle.rules.specs.declared.Answer.{Answer}
 use Rattle.rules.specs.declared.Answer.the-variants.{Sent, Released, Refused}
+use Rattle.rules.specs.declared.Command.{Command}
 use Rattle.rules.specs.declared.Command.the-variants.{Open, SetDegree, Send, Release, Deliver, Log, Checkpoint, Tell, Crash, Hear, SetGap}
 use Rattle.history.specs.History.{History, delivering, answers, valueAt, fedStep, fed}
-use Rattle.history.specs.Demand.{Run, callIn, next, justOpened, Accepted, FromOpening, Demand3}
+use Rattle.history.specs.Demand.{Run, callIn, stepIn, next, justOpened, Accepted, LetsGo, alone, together, FromOpening, Demand3}
+use Rattle.laws.specs.Facts.{form}
+use Rattle.calls.specs.Sets.{set-goes}
+use Rattle.calls.specs.Made.{NoDoneOpening}
 use Rattle.model.specs.Model.{Model, putController, capModel, beginController, sendMessage}
 use Rattle.model.specs.Invariant.{Inv}
 use Rattle.model.specs.Keeping.{Keeps, keeps-refl}
 use Rattle.model.specs.Capping.{keeps-log, keeps-checkpoint}
-use Rattle.model.specs.Steps.{LetsOut, keeps-degree, keeps-send, keeps-release, keeps-deliver, keeps-tell, keeps-gap}
+use Rattle.model.specs.Steps.{LetsOut, LetUnder, let-under, keeps-degree, keeps-send, keeps-release, keeps-deliver, keeps-tell, keeps-gap}
 use Rattle.model.specs.Recovery.{keeps-crash, keeps-heard, keeps-rolled}
-use Rattle.model.specs.Runs.{NoDoneOpening, Holds, Follows, demand3}
+use Rattle.model.specs.Runs.{Holds, Follows, demand3}
 use Rattle.image.specs.Outcome.{Outcome, refused, opened, degree-set, sent, released, held, dropped, waits, delivered, logged, checkpointed, told, crashed, heard, rolled, gap-set, kept-size}
+use Rattle.image.specs.Sets.{set-found}
 use Rattle.image.specs.Tables.{modelOf, sizeOf, stepped, opening-done}
 
--- a refused call changes nothing in the history
-pub fed-refused : (x : Call) (number : ℕ) (h : History) → fed x (Refused number) h ≡ h
-unfolding fed fedStep answers report
-fed-refused (asks (Open n k)) number h = refl
-fed-refused (asks (SetDegree c k)) number h = refl
-fed-refused (asks (Send s r p)) number h = refl
-fed-refused (asks (Release m)) number h = refl
-fed-refused (asks (Deliver m)) number h = refl
-fed-refused (asks (Log c q)) number h = refl
-fed-refused (asks (Checkpoint c)) number h = refl
-fed-refused (asks (Tell a b)) number h = refl
-fed-refused (asks (Crash c)) number h = refl
-fed-refused (asks (Hear b a i)) number h = refl
-fed-refused (asks (SetGap q)) number h = refl
+-- a refused step changes nothing in the history
+pub fed-refused : (x : Command) (number : ℕ) (h : History) → fedStep x (Refused number) h ≡ h
+unfolding fedStep answers report
+fed-refused (Open n k) number h = refl
+fed-refused (SetDegree c k) number h = refl
+fed-refused (Send s r p) number h = refl
+fed-refused (Release m) number h = refl
+fed-refused (Deliver m) number h = refl
+fed-refused (Log c q) number h = refl
+fed-refused (Checkpoint c) number h = refl
+fed-refused (Tell a b) number h = refl
+fed-refused (Crash c) number h = refl
+fed-refused (Hear b a i) number h = refl
+fed-refused (SetGap q) number h = refl
 
--- every call but a done opening keeps the invariant
-outcome-keeps : {n : ℕ} {μ : Model} {x : Call} {a : Answer} {j : ℕ} {μ′ : Model} {h : History} → Outcome n μ x a j μ′ →
-    NoDoneOpening x a → Inv n μ h → Keeps n μ h μ′ (fed x a h)
-unfolding fed fedStep answers valueAt report
+-- every step but a done opening keeps the invariant
+outcome-keeps : {n : ℕ} {μ : Model} {x : Command} {a : Answer} {j : ℕ} {μ′ : Model} {h : History} → Outcome n μ x a j μ′ →
+    NoDoneOpening x a → Inv n μ h → Keeps n μ h μ′ (fedStep x a h)
+unfolding fedStep answers valueAt report
 outcome-keeps {n} {μ} {h = h} (refused x number) o v = subst (Keeps n μ h μ) (sym (fed-refused x number h)) (keeps-refl v)
 outcome-keeps (opened j k p q r) o v = absurd (o j k refl refl)
 outcome-keeps (degree-set c k p q) o v = keeps-degree v c k p
@@ -60,7 +68,7 @@ outcome-keeps (rolled b a i j undone f w) o v = keeps-rolled v f w
 outcome-keeps (gap-set q l) o v = keeps-gap v q
 
 -- the controller of an accepted hearing is one of the house
-hearer-below : {n : ℕ} {μ : Model} {b a i : ℕ} {y : Answer} {j : ℕ} {μ′ : Model} → Outcome n μ (asks (Hear b a i)) y j μ′ → Accepted y → b < n
+hearer-below : {n : ℕ} {μ : Model} {b a i : ℕ} {y : Answer} {j : ℕ} {μ′ : Model} → Outcome n μ (Hear b a i) y j μ′ → Accepted y → b < n
 hearer-below (refused x number) z = elim z [ ]
 hearer-below (heard b a i f w) z = f .hearer-below
 hearer-below (rolled b a i j undone f w) z = f .hearer-below
@@ -71,15 +79,15 @@ pub record Found (n : ℕ) (μ : Model) (m mask : ℕ) : Type 0 where
   pub low : (c : ℕ) → c < n → μ .controller c .incarnation < incarnations
 
 -- every release that answers so has
-released-found : {n : ℕ} {μ : Model} {m echoed mask j : ℕ} {μ′ : Model} → Outcome n μ (asks (Release m)) (Released echoed mask) j μ′ → Found n μ m mask
+released-found : {n : ℕ} {μ : Model} {m echoed mask j : ℕ} {μ′ : Model} → Outcome n μ (Release m) (Released echoed mask) j μ′ → Found n μ m mask
 released-found (released m mask l w) = record { out = l; low = w }
 
 -- the same of an answer that is echoed to be so
-pub found : {n : ℕ} {μ : Model} {m echoed mask : ℕ} {y : Answer} {j : ℕ} {μ′ : Model} → Outcome n μ (asks (Release m)) y j μ′ → y ≡ Released echoed mask → Found n μ m mask
-found {n} {μ} {m} {echoed} {mask} {y} {j} {μ′} o e = released-found (subst (λ z. Outcome n μ (asks (Release m)) z j μ′) e o)
+pub found : {n : ℕ} {μ : Model} {m echoed mask : ℕ} {y : Answer} {j : ℕ} {μ′ : Model} → Outcome n μ (Release m) y j μ′ → y ≡ Released echoed mask → Found n μ m mask
+found {n} {μ} {m} {echoed} {mask} {y} {j} {μ′} o e = released-found (subst (λ z. Outcome n μ (Release m) z j μ′) e o)
 
 -- a send that answers so has made its message the last
-pub sent-last : {n : ℕ} {μ : Model} {s r p m j : ℕ} {μ′ : Model} → Outcome n μ (asks (Send s r p)) (Sent m) j μ′ → (1 ≤ m) × (m ≤ μ′ .sent)
+pub sent-last : {n : ℕ} {μ : Model} {s r p m j : ℕ} {μ′ : Model} → Outcome n μ (Send s r p) (Sent m) j μ′ → (1 ≤ m) × (m ≤ μ′ .sent)
 unfolding sendMessage
 sent-last (sent s r p sender receiver ne) = (omega arith, omega arith)
 
@@ -88,35 +96,44 @@ pub record ReadOff (n : ℕ) (r : Run) (μ : Model) : Type 0 where
   pub size-is : sizeOf (r .table) ≡ n
   pub model-is : modelOf (r .table) ≡ μ
 
--- the outcome of a call in such a run
-pub outcome : {n : ℕ} {r : Run} {μ : Model} (x : Call) → ReadOff n r μ →
-    Outcome n μ x (callIn r x .answer) (sizeOf (callIn r x .table)) (modelOf (callIn r x .table))
+-- the outcome of a step in such a run
+pub outcome : {n : ℕ} {r : Run} {μ : Model} (x : Command) → ReadOff n r μ →
+    Outcome n μ x (stepIn r x .answer) (sizeOf (stepIn r x .table)) (modelOf (stepIn r x .table))
 outcome {n} {r} {μ} x e =
-    subst (λ j. Outcome j μ x (callIn r x .answer) (sizeOf (callIn r x .table)) (modelOf (callIn r x .table))) (e .size-is)
-    (subst (λ ν. Outcome (sizeOf (r .table)) ν x (callIn r x .answer) (sizeOf (callIn r x .table)) (modelOf (callIn r x .table))) (e .model-is)
+    subst (λ j. Outcome j μ x (stepIn r x .answer) (sizeOf (stepIn r x .table)) (modelOf (stepIn r x .table))) (e .size-is)
+    (subst (λ ν. Outcome (sizeOf (r .table)) ν x (stepIn r x .answer) (sizeOf (stepIn r x .table)) (modelOf (stepIn r x .table))) (e .model-is)
     (stepped (r .table) (r .ledger) x))
 
 -- the invariant of such a run is one of the model of its table
 pub table-inv : {n : ℕ} {r : Run} → Holds n (ReadOff n) r → Inv n (modelOf (r .table)) (r .history)
 table-inv {n} {r} s = subst (λ μ. Inv n μ (r .history)) (sym (s .reads .model-is)) (s .inv)
 
--- and so is the outcome of a call
-pub table-outcome : {n : ℕ} {r : Run} → Holds n (ReadOff n) r → (x : Call) →
-    Outcome n (modelOf (r .table)) x (callIn r x .answer) (sizeOf (callIn r x .table)) (modelOf (callIn r x .table))
+-- and so is the outcome of a step
+pub table-outcome : {n : ℕ} {r : Run} → Holds n (ReadOff n) r → (x : Command) →
+    Outcome n (modelOf (r .table)) x (stepIn r x .answer) (sizeOf (stepIn r x .table)) (modelOf (stepIn r x .table))
 table-outcome {n} {r} s x = outcome {r = r} x (record { size-is = s .reads .size-is; model-is = refl })
+
+-- what a call that lets message m out counts on: a release by its outcome, a set by the words of the table
+let-out-under : {n : ℕ} {r : Run} (s : Holds n (ReadOff n) r) {x : Call} {a : Answer} {m mask : ℕ} → LetsGo x a m mask → callIn r x .answer ≡ a → LetUnder (s .model) m mask
+unfolding stepCall
+let-out-under s (alone m echoed mask) e = let-under (found (outcome (Release m) (s .reads)) e .out)
+let-out-under {r = r} s (together l i mask h) e =
+    let (w, is) = set-goes (r .table) (r .ledger) l mask e in
+    subst (λ (μ : Model). LetUnder μ (nth l i) mask) (s .reads .model-is)
+    (subst (LetUnder (modelOf (r .table)) (nth l i)) is (set-found (form house (state (r .table)) (w .table .good)) (w .all) i h))
 
 -- so the runs of a house of n controllers follow the model
 pub follows : (n : ℕ) → Follows n (ReadOff n)
-unfolding justOpened next stepCall
+unfolding justOpened next stepCall fed
 follows n =
     record {
       open-reads = λ t g k done. let o = opening-done t g n k done in record { size-is = o .size-is; model-is = o .model-is };
-      call-keeps = λ s x unopened.
+      step-keeps = λ s x unopened.
           let o = outcome x (s .reads) in
           let k = outcome-keeps o unopened (s .inv) in
           record { holds = record { model = _; reads = record { size-is = kept-size o unopened; model-is = refl }; inv = k .inv }; keeps = k };
-      hearer-below = λ s b a i accepted. hearer-below (outcome (asks (Hear b a i)) (s .reads)) accepted;
-      lets-out = λ s m echoed mask answer. found (outcome (asks (Release m)) (s .reads)) answer .out;
+      hearer-below = λ s b a i accepted. hearer-below (outcome (Hear b a i) (s .reads)) accepted;
+      lets-out = λ s x m mask goes. let-out-under s goes refl;
     }
 
 -- Demand 3, for every table, ledger, opening and list of calls.

@@ -6,3 +6,4 @@ pub mod Agreement
 pub mod Ceiled
 pub mod InForm
 pub mod Claims
+pub mod SetClaims

@@ -31,6 +31,8 @@ fn is_done(a: Answer) -> bool
         Answer::Heard(_) => false,
         Answer::Rolled(_, _, _, _) => false,
         Answer::Refused(_) => false,
+        Answer::SetReleased(_) => false,
+        Answer::SetHeld(_) => false,
     }
 }
 

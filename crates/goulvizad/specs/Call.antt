@@ -1,11 +1,15 @@
--- The call of the C interface that asks for the step that has no letter. A step by its letter is in crates/run/specs/Call.antt, a list of such
--- steps in crates/run/specs/Run.antt, and the questions in crates/questions/specs/Numbers.antt.
+-- The calls of the C interface that no letter asks for. A step by its letter is in crates/run/specs/Call.antt, a list of such steps in
+-- crates/run/specs/Run.antt, and the questions in crates/questions/specs/Numbers.antt.
 use mathlib.Core.List.{List}
 use Prim.Native.Nat.{ℕ}
+use Rattle.rules.specs.Step.{step, releaseSet, stepCall}
 use Rattle.rules.specs.declared.Command.the-variants.{SetGap}
-use Rattle.lines.specs.declared.Parsed.the-variants.{Asks}
-use Rattle.run.specs.Call.{Returned, handled}
+use Rattle.run.specs.Call.{Returned, reported, handled}
 
--- W4: the step that sets the gap, which has no letter, beside the ledger g
+-- W4: the step that sets the gap, beside the ledger g
 unfoldable pub gapCall : List ℕ → List ℕ → List ℕ → ℕ → Returned
-gapCall t g v q = handled t g v (Asks (SetGap q))
+gapCall t g v q = handled t g v (reported (step t g (SetGap q)))
+
+-- W5: the messages of the list l, released as a set
+unfoldable pub setCall : List ℕ → List ℕ → List ℕ → List ℕ → Returned
+setCall t g v l = handled t g v (reported (stepCall t g (releaseSet l)))

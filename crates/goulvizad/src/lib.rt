@@ -1,10 +1,10 @@
-// The C interface: one step, a list of steps, the step that sets the gap, and two questions, on buffers that the caller
-// lends. include/goulvizad.h documents it.
+// The C interface: one step, a list of steps, the step that sets the gap, the release of a set, and two questions, on buffers that the
+// caller lends. include/goulvizad.h documents it.
 ghost use mathlib.Core.Path.{_≡_};
 ghost use mathlib.Core.List.{List};
 ghost use Prim.Native.Nat.{ℕ};
 ghost use lib.ListN.{length};
-ghost use Rattle.goulvizad.specs.Call.{gapCall};
+ghost use Rattle.goulvizad.specs.Call.{gapCall, setCall};
 ghost use Rattle.lines.specs.declared.Parsed.the-variants.{Asks};
 ghost use Rattle.questions.specs.Numbers.{formNumber, checkpointNumber};
 ghost use Rattle.reporting.specs.Values.{valueRoom};
@@ -67,6 +67,22 @@ pub extern "C" fn goulvizad_set_gap(t: &mut [u32], gap: u32, values: &mut [u32])
     }
     let answer = machine::set_gap(t, gap);
     reporting::give_answer(answer, values)
+}
+
+// Messages released as a set, which has no letter either.
+#[no_mangle]
+pub extern "C" fn goulvizad_release_set(
+    t: &mut [u32],
+    g: &mut [u32],
+    messages: &[u32],
+    values: &mut [u32],
+) -> u32
+    ensures { λ r. ⌜ returned r (now (t .exit)) (now (g .exit)) (now (values .exit)) ≡ setCall (now (t .entry)) (now (g .entry)) (now (values .entry)) (now (messages .entry)) ⌝ }
+{
+    if values.len() != reporting::VALUES {
+        return run::WRONG_VALUES;
+    }
+    reporting::give_answer(sets::release_set(t, g, messages), values)
 }
 
 // Whether the table has its length and is in form.

@@ -9,9 +9,9 @@ use Rattle.base.specs.Lists.{tab}
 use Rattle.table.specs.Field.{desk}
 use Rattle.rules.specs.Limits.{house}
 use Rattle.rules.specs.Ledger.{ledgerWords}
-use Rattle.rules.specs.Step.{Call, asks}
+use Rattle.rules.specs.Step.{Call, asks, releaseSet}
 use Rattle.rules.specs.declared.Answer.{Answer}
-use Rattle.rules.specs.declared.Answer.the-variants.{Done, Sent, Released}
+use Rattle.rules.specs.declared.Answer.the-variants.{Done, Sent, Released, SetReleased}
 use Rattle.rules.specs.declared.Command.{Command}
 use Rattle.rules.specs.declared.Command.the-variants.{Open, SetDegree, Send, Release, Deliver, Log, Checkpoint, Tell, Crash, Hear, SetGap}
 use Rattle.history.specs.History.{changedAt, answers, valueAt}
@@ -21,7 +21,7 @@ pub record Citation : Type 0 where
   pub message : ℕ
   pub payload : ℕ
 
--- each message's receiver and payload, as its send named them, and the messages for the desk that releases let out, the first first
+-- each message's receiver and payload, as its send named them, and the messages for the desk that were let out, the first first
 pub record Citations : Type 0 where
   pub receiver : ℕ → ℕ
   pub payload : ℕ → ℕ
@@ -56,8 +56,14 @@ citedStep (Crash c) a q = q
 citedStep (Hear b crashed i) a q = q
 citedStep (SetGap gap) a q = q
 
+-- W5: the messages of a list were let out; "desk messages enter the ledger in the order given"
+unfoldable pub allLetOut : Citations → List ℕ → Citations
+allLetOut q [] = q
+allLetOut q (m ∷ l) = allLetOut (letOutTo q m) l
+
 unfoldable pub cited : Call → Answer → Citations → Citations
 cited (asks x) a q = citedStep x a q
+cited (releaseSet l) a q = cond (answers a (SetReleased 0)) (allLetOut q l) q
 
 -- "a count, then 128 pairs of message number and payload, in the order of publishing. Unused pairs are 0."
 abbrev pub pairOf : Citation → List ℕ

@@ -1,15 +1,17 @@
--- Demand 3 of the minutes with what request W2 adds to it, about lists of calls over the words of a lent table and a lent ledger.
+-- Demand 3 of the minutes with what requests W2 and W5 add to it, about lists of calls over the words of a lent table and a lent ledger.
 use mathlib.Core.Path.{_≡_}
 use mathlib.Core.Bool.{Bool, true, false}
 use mathlib.Core.List.{List, [], _∷_, _++_}
 use mathlib.Core.Logic.{_↔_, _≢_}
 use Prim.Native.Nat.{ℕ, _^_, _/_, _%_, _≤_, _<_}
 use lib.Count.{ones}
+use lib.ListN.{length}
 use Rattle.base.specs.Choice.{_==_}
 use Rattle.table.specs.Field.{desk}
-use Rattle.rules.specs.Step.{OutBoth, step, Call, asks, stepCall}
+use Rattle.rules.specs.Sets.{nth}
+use Rattle.rules.specs.Step.{OutBoth, step, Call, asks, releaseSet, stepCall}
 use Rattle.rules.specs.declared.Answer.{Answer}
-use Rattle.rules.specs.declared.Answer.the-variants.{Done, Released, Heard, Rolled}
+use Rattle.rules.specs.declared.Answer.the-variants.{Done, Released, Heard, Rolled, SetReleased}
 use Rattle.rules.specs.declared.Command.{Command}
 use Rattle.rules.specs.declared.Command.the-variants.{Open, Release, Hear}
 use Rattle.history.specs.History.{Interval, History, member, opening, fed}
@@ -63,6 +65,12 @@ pub record RestsOnLost (whole then : History) (hearer : ℕ) (y : Interval) : Ty
 abbrev pub named : ℕ → ℕ → Bool
 named mask c = (mask / 2 ^ c) % 2 == 1
 
+-- A call with this answer lets message m out, and shows this mask: a release, or a set that m is one of. W5: "The limit of K controllers now
+-- speaks of the set as it did of one message": the union is shown for each message of the set.
+pub data LetsGo : Call → Answer → ℕ → ℕ → Type 0 where
+  alone : (m echoed mask : ℕ) → LetsGo (asks (Release m)) (Released echoed mask) m mask
+  together : (messages : List ℕ) (i mask : ℕ) → i < length messages → LetsGo (releaseSet messages) (SetReleased mask) (nth messages i) mask
+
 -- lists from the opening of t, beside the ledger g, with n and k
 module _ (t g : List ℕ) (n k : ℕ) where
   -- the run after the first part of a list
@@ -90,25 +98,23 @@ module _ (t g : List ℕ) (n k : ℕ) where
       -- "No live interval rests on one lost in a crash its controller has heard."
       pub live : (c : ℕ) → c < n → (y : Interval) → member y (end .chain c) ≡ true → RestsOnLost end end c y → ⊥
       -- "Each message that a release in the list let out under a degree K was let out with at most K controllers named";
-      pub degrees : (before after : List Call) (m echoed mask : ℕ) → l ≡ before ++ asks (Release m) ∷ after →
-          stepIn (upTo before) (Release m) .answer ≡ Released echoed mask →
+      pub degrees : (before after : List Call) (x : Call) (m mask : ℕ) → l ≡ before ++ x ∷ after → LetsGo x (callIn (upTo before) x .answer) m mask →
           let h = upTo before .history in
           ones mask ≤ h .degree (h .sending m .owner)
       -- "these own every interval that its sending interval rests on, that wasn't stable at that release, and that is lost
       -- anywhere in the list, before it or after."
-      pub releases : (before after : List Call) (m echoed mask : ℕ) → l ≡ before ++ asks (Release m) ∷ after →
-          stepIn (upTo before) (Release m) .answer ≡ Released echoed mask →
+      pub releases : (before after : List Call) (x : Call) (m mask : ℕ) → l ≡ before ++ x ∷ after → LetsGo x (callIn (upTo before) x .answer) m mask →
           (y : Interval) (crash : ℕ) → end .rests (end .sending m) y ≡ true → upTo before .history .stable y ≡ false → end .lost y crash ≡ true →
           named mask (y .owner) ≡ true
       -- W2: "the sending interval of a published message is never lost or undone in any later steps before an opening": a message
       -- for the desk that a release in the list let out was let out with nobody named, and its sending interval is live at the end
       -- of the list, and lost in no crash. (Each first part of a list is a list, so it was live after every step from there on.)
-      pub published : (before after : List Call) (m echoed mask : ℕ) → l ≡ before ++ asks (Release m) ∷ after →
-          stepIn (upTo before) (Release m) .answer ≡ Released echoed mask → upTo before .history .receiver m ≡ desk →
+      pub published : (before after : List Call) (x : Call) (m mask : ℕ) → l ≡ before ++ x ∷ after → LetsGo x (callIn (upTo before) x .answer) m mask →
+          upTo before .history .receiver m ≡ desk →
           let y = upTo before .history .sending m in
           (mask ≡ 0) × (member y (end .chain (y .owner)) ≡ true) × ((crash : ℕ) → end .lost y crash ≡ false)
 
     -- W2, beyond demand 3: what a scholar cites is what was sent. At the end of the list the ledger has, in their order, exactly the
-    -- messages for the desk that the list's releases let out, with the payloads of their sends.
+    -- messages for the desk that the list's releases and sets let out, with the payloads of their sends.
     abbrev pub Cited : Type 0
     Cited = upTo l .ledger ≡ ledgerOf (upTo l .citations .published)

@@ -8,13 +8,13 @@ use lib.ListN.{take}
 use Rattle.base.specs.Lists.{tab}
 use Rattle.table.specs.Field.{desk}
 use Rattle.rules.specs.Report.{report}
-use Rattle.rules.specs.Step.{asks}
+use Rattle.rules.specs.Step.{asks, releaseSet}
 use Rattle.rules.specs.declared.Answer.{Answer}
-use Rattle.rules.specs.declared.Answer.the-variants.{Done, Sent, Released, Held, Delivered, Crashed, Heard, Rolled, Refused}
+use Rattle.rules.specs.declared.Answer.the-variants.{Done, Sent, Released, Held, Delivered, Crashed, Heard, Rolled, Refused, SetReleased, SetHeld}
 use Rattle.rules.specs.declared.Command.{Command}
 use Rattle.rules.specs.declared.Command.the-variants.{Open, SetDegree, Send, Release, Deliver, Log, Checkpoint, Crash, Hear, SetGap}
 use Rattle.history.specs.History.{interval, History, sameInterval, changedAt, changedAtInterval, newest, member, those, oldest, degreeSet, sentFrom, joined, leaving, stabilized, hearing, losing, gapSet, flagging, opening, logging, checkpointing, latestOn, forcedAt, capping, beginning, delivering, restarting, crashing, rollingBack, answers, valueAt, fedStep, fed}
-use Rattle.history.specs.Citations.{Citations, noCitations, sentWith, letOutTo, citedStep, cited, ledgerOf}
+use Rattle.history.specs.Citations.{Citations, noCitations, sentWith, letOutTo, citedStep, allLetOut, cited, ledgerOf}
 use Rattle.history.specs.Demand.{RestsOnLost, named}
 
 -- a line of the listing: the step and its answer
@@ -320,3 +320,16 @@ goingOut =
 pub two-citations : take 6 (ledgerOf (allCited goingOut noCitations .published)) ≡ 2 ∷ 1 ∷ 24 ∷ 3 ∷ 25 ∷ 0 ∷ []
 unfolding allCited cited citedStep answers report valueAt changedAt sentWith letOutTo ledgerOf tab flatten
 two-citations = refl
+
+-- W5: "desk messages enter the ledger in the order given". Messages 1 and 3, for the desk, and message 2, for controller 1, are let out as a set,
+-- the third first; a set that is held lets none out.
+abbrev sent-three : Citations
+sent-three = allCited (line (Send 0 desk 24) (Sent 1) ∷ line (Send 0 1 7) (Sent 2) ∷ line (Send 0 desk 25) (Sent 3) ∷ []) noCitations
+
+pub in-the-order-given : take 6 (ledgerOf (cited (releaseSet (3 ∷ 2 ∷ 1 ∷ [])) (SetReleased 0) sent-three .published)) ≡ 2 ∷ 3 ∷ 25 ∷ 1 ∷ 24 ∷ 0 ∷ []
+unfolding allCited cited citedStep allLetOut answers report valueAt changedAt sentWith letOutTo ledgerOf tab flatten
+in-the-order-given = refl
+
+pub held-together : cited (releaseSet (3 ∷ 2 ∷ 1 ∷ [])) (SetHeld 2) sent-three .published ≡ []
+unfolding allCited cited citedStep allLetOut answers report valueAt changedAt sentWith letOutTo
+held-together = refl

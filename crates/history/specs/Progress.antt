@@ -1,6 +1,6 @@
 -- Nothing is held for ever. The paper, Theorem A.2: "Each message in Send_buffer is either lost in a failure, or discarded as an orphan, or
 -- eventually sent." In steps, without a word of time. This page has what the theorems speak of at the end of any list of calls: a message
--- that was sent, one that a release let out or held, one that can be delivered, crashes, and who has heard them. Asked.antt has what brings a
+-- that was sent, one that was let out or held, one that can be delivered, crashes, and who has heard them. Asked.antt has what brings a
 -- held message out and a released one in. All is told by the steps of the list, their answers and the history.
 --
 -- What can stand against it: a crash that the controller can't hear any more, since it would have to undo and is in the last
@@ -9,15 +9,17 @@ use mathlib.Core.Path.{_≡_}
 use mathlib.Core.Bool.{true, false}
 use mathlib.Core.List.{List, _∷_, _++_}
 use mathlib.Core.Logic.{_≢_, _⊎_}
-use Prim.Native.Nat.{ℕ, _≤_}
+use Prim.Native.Nat.{ℕ, _≤_, _<_}
+use lib.ListN.{length}
 use Rattle.rules.specs.Limits.{lastIncarnation}
 use Rattle.rules.specs.Refusal.{MESSAGE, STATE, INCARNATIONS-USED-UP}
-use Rattle.rules.specs.Step.{Call, asks}
+use Rattle.rules.specs.Sets.{nth}
+use Rattle.rules.specs.Step.{Call, asks, releaseSet}
 use Rattle.rules.specs.declared.Answer.{Answer}
-use Rattle.rules.specs.declared.Answer.the-variants.{Sent, Released, Held, Crashed, Refused}
+use Rattle.rules.specs.declared.Answer.the-variants.{Sent, Held, Crashed, Refused, SetHeld}
 use Rattle.rules.specs.declared.Command.the-variants.{Send, Release, Deliver, Crash, Hear}
 use Rattle.history.specs.History.{Interval, History, member}
-use Rattle.history.specs.Demand.{Run, stepIn, Accepted, upTo, end}
+use Rattle.history.specs.Demand.{Run, callIn, stepIn, Accepted, LetsGo, upTo, end}
 
 -- the paper, Definition 1: "orphan(s) ≡ ∃u: lost(u) ∧ u → s": y rests on a lost interval (a lost one rests on itself)
 pub record Orphan (h : History) (y : Interval) : Type 0 where
@@ -25,6 +27,12 @@ pub record Orphan (h : History) (y : Interval) : Type 0 where
   pub crash : ℕ
   pub rests : h .rests y on ≡ true
   pub lost : h .lost on crash ≡ true
+
+-- A call with this answer holds message m back, and shows this mask: a release, or a set that m is one of. (What lets it out is `LetsGo`,
+-- in Demand.antt.)
+pub data HoldsBack : Call → Answer → ℕ → ℕ → Type 0 where
+  held-alone : (m echoed mask : ℕ) → HoldsBack (asks (Release m)) (Held echoed mask) m mask
+  held-together : (messages : List ℕ) (i mask : ℕ) → i < length messages → HoldsBack (releaseSet messages) (SetHeld mask) (nth messages i) mask
 
 -- lists from the opening of t, beside the ledger g, with n and k
 module _ (t g : List ℕ) (n k : ℕ) (l : List Call) where
@@ -50,23 +58,23 @@ module _ (t g : List ℕ) (n k : ℕ) (l : List Call) where
   abbrev pub SendingLive : ℕ → Type 0
   SendingLive m = let y = h .sending m in member y (h .chain (y .owner)) ≡ true
 
-  -- a release of m in the list that showed this mask, with this word
-  pub record ReleaseIn (word : ℕ → ℕ → Answer) (m mask : ℕ) : Type 0 where
+  -- a release of m in the list, or a set with m, was held, and showed this mask
+  pub record HeldIn (m mask : ℕ) : Type 0 where
     pub before : List Call
+    pub call : Call
     pub after : List Call
-    pub echoed : ℕ
-    pub is-in : l ≡ before ++ asks (Release m) ∷ after
-    pub answer : stepIn (upTo t g n k before) (Release m) .answer ≡ word echoed mask
+    pub is-in : l ≡ before ++ call ∷ after
+    pub holds-back : HoldsBack call (callIn (upTo t g n k before) call .answer) m mask
 
-  -- it was held
-  abbrev pub HeldIn : ℕ → ℕ → Type 0
-  HeldIn = ReleaseIn Held
+  -- a release of m in the list, or a set with m, let it out, and showed this mask
+  pub record LetOutIn (m mask : ℕ) : Type 0 where
+    pub before : List Call
+    pub call : Call
+    pub after : List Call
+    pub is-in : l ≡ before ++ call ∷ after
+    pub lets-go : LetsGo call (callIn (upTo t g n k before) call .answer) m mask
 
-  -- it let m out
-  abbrev pub LetOutIn : ℕ → ℕ → Type 0
-  LetOutIn = ReleaseIn Released
-
-  -- no release in the list let m out
+  -- none in the list let m out
   abbrev pub NotLetOut : ℕ → Type 0
   NotLetOut m = (mask : ℕ) → LetOutIn m mask → ⊥
 

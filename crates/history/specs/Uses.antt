@@ -6,27 +6,21 @@ use mathlib.Core.Path.{_≡_, refl, sym, _∙_, ap, subst}
 use mathlib.Core.Bool.{Bool, true, false, true≢false}
 use mathlib.Core.List.{List, _∷_, _++_, append-assoc}
 use mathlib.Core.Logic.{_≢_, inr, ⊎-elim}
-use Prim.Native.Nat.{ℕ, _<_}
+use Prim.Native.Nat.{ℕ, _≤_, _<_}
 use native.Mathlib.Omega.{arith}
 use lib.Count.{ones}
+use lib.ListN.{length}
+use Rattle.base.specs.Choice.{holds, fails}
 use Rattle.table.specs.Field.{desk}
 use Rattle.rules.specs.Limits.{lastIncarnation}
-use Rattle.rules.specs.Step.{Call, asks}
-use Rattle.rules.specs.declared.Answer.the-variants.{Done, Sent, Released, Waits, Rolled}
+use Rattle.rules.specs.Sets.{nth}
+use Rattle.rules.specs.Step.{Call, asks, releaseSet, stepCall}
+use Rattle.rules.specs.declared.Answer.the-variants.{Done, Sent, Released, Waits, Rolled, SetReleased, SetHeld}
 use Rattle.rules.specs.declared.Command.the-variants.{Send, Release, Deliver, Checkpoint, Tell, Hear}
 use Rattle.history.specs.History.{Interval, History, member}
-use Rattle.history.specs.Demand.{callIn, stepIn, next, Accepted, RestsOnLost, named, upTo, end, Demand3}
-use Rattle.history.specs.Progress.{SentIn, HeldIn, Deliverable, CrashIn, HasHeard, CanHear}
+use Rattle.history.specs.Demand.{callIn, stepIn, next, Accepted, RestsOnLost, named, LetsGo, alone, together, upTo, end, Demand3}
+use Rattle.history.specs.Progress.{SentIn, HoldsBack, held-together, HeldIn, LetOutIn, Deliverable, CrashIn, HasHeard, CanHear}
 use Rattle.history.specs.Asked.{Secures, checkpoints, undoes, SecuredIn, Spreads, by-checkpoint, by-telling, Asked, AllAsked, Learned, its-own, was-told, has-heard, Cleared, held-without, was-asked, each-learned, AllCleared, Eventually}
-
--- a test that doesn't fail holds, and one that doesn't hold fails
-holds : (b : Bool) → (b ≡ false → ⊥) → b ≡ true
-holds true f = refl
-holds false f = absurd (f refl)
-
-fails : (b : Bool) → (b ≡ true → ⊥) → b ≡ false
-fails true f = absurd (f refl)
-fails false f = refl
 
 -- lists from the opening of t, beside the ledger g, with n and k
 module _ (t g : List ℕ) (n k : ℕ) (l : List Call) where
@@ -54,28 +48,68 @@ module _ (t g : List ℕ) (n k : ℕ) (l : List Call) where
     pub orphan-is-not-live : (c : ℕ) → c < n → (y : Interval) → RestsOnLost h h c y → member y (h .chain c) ≡ false
     orphan-is-not-live c below y o = fails _ (λ live. said .live c below y live o)
 
-    -- a message that a release let out
-    module _ (before after : List Call) (m echoed mask : ℕ) (e : l ≡ before ++ asks (Release m) ∷ after)
-        (released : stepIn (upTo t g n k before) (Release m) .answer ≡ Released echoed mask) where
+    -- a message that a release or a set let out
+    module _ (before after : List Call) (x : Call) (m mask : ℕ) (e : l ≡ before ++ x ∷ after) (goes : LetsGo x (callIn (upTo t g n k before) x .answer) m mask) where
       abbrev at : History
       at = upTo t g n k before .history
 
       -- under the degree 0 was let out with nobody named
       pub nobody-named-at-0 : at .degree (at .sending m .owner) ≡ 0 → ones mask ≡ 0
-      nobody-named-at-0 z = omega (arith, said .degrees before after m echoed mask e released)
+      nobody-named-at-0 z = omega (arith, said .degrees before after x m mask e goes)
 
       -- whoever is not named loses nothing on which it rests and that wasn't stable then
       pub unnamed-loses-nothing : (y : Interval) (crash : ℕ) → h .rests (h .sending m) y ≡ true → at .stable y ≡ false → named mask (y .owner) ≡ false → h .lost y crash ≡ false
       unnamed-loses-nothing y crash rests unstable unnamed =
-          fails _ (λ lost. true≢false (sym (said .releases before after m echoed mask e released y crash rests unstable lost) ∙ unnamed))
+          fails _ (λ lost. true≢false (sym (said .releases before after x m mask e goes y crash rests unstable lost) ∙ unnamed))
 
       -- to the desk: nobody was named, and what it was sent from is live and not lost
       pub reading-stands : at .receiver m ≡ desk →
           let y = at .sending m in
           (mask ≡ 0) × (member y (h .chain (y .owner)) ≡ true) × ((crash : ℕ) → h .lost y crash ≡ false)
-      reading-stands = said .published before after m echoed mask e released
+      reading-stands = said .published before after x m mask e goes
+
+    -- a release that answers so lets its message out,
+    pub release-lets-go : (before after : List Call) (m echoed mask : ℕ) → l ≡ before ++ asks (Release m) ∷ after → stepIn (upTo t g n k before) (Release m) .answer ≡ Released echoed mask →
+        let at = upTo t g n k before .history in
+        ones mask ≤ at .degree (at .sending m .owner)
+    unfolding stepCall
+    release-lets-go before after m echoed mask e answer =
+        said .degrees before after (asks (Release m)) m mask e (subst (λ a. LetsGo (asks (Release m)) a m mask) (sym answer) (alone m echoed mask))
+
+    -- and a set each of its messages, all with the union
+    pub set-lets-go : (before after : List Call) (messages : List ℕ) (mask : ℕ) → l ≡ before ++ releaseSet messages ∷ after →
+        callIn (upTo t g n k before) (releaseSet messages) .answer ≡ SetReleased mask → (i : ℕ) → i < length messages →
+        let at = upTo t g n k before .history in
+        ones mask ≤ at .degree (at .sending (nth messages i) .owner)
+    set-lets-go before after messages mask e answer i below =
+        said .degrees before after (releaseSet messages) (nth messages i) mask e
+        (subst (λ a. LetsGo (releaseSet messages) a (nth messages i) mask) (sym answer) (together messages i mask below))
 
   -- MESSAGES AND CRASHES
+  -- a set that is held holds each of its messages back,
+  pub set-holds-back : (before after : List Call) (messages : List ℕ) (mask : ℕ) → l ≡ before ++ releaseSet messages ∷ after →
+      callIn (upTo t g n k before) (releaseSet messages) .answer ≡ SetHeld mask → (i : ℕ) → i < length messages → HeldIn t g n k l (nth messages i) mask
+  set-holds-back before after messages mask e answer i below =
+      record {
+        before = before;
+        call = releaseSet messages;
+        after = after;
+        is-in = e;
+        holds-back = subst (λ a. HoldsBack (releaseSet messages) a (nth messages i) mask) (sym answer) (held-together messages i mask below);
+      }
+
+  -- and one that is released lets each of them out
+  pub set-lets-out : (before after : List Call) (messages : List ℕ) (mask : ℕ) → l ≡ before ++ releaseSet messages ∷ after →
+      callIn (upTo t g n k before) (releaseSet messages) .answer ≡ SetReleased mask → (i : ℕ) → i < length messages → LetOutIn t g n k l (nth messages i) mask
+  set-lets-out before after messages mask e answer i below =
+      record {
+        before = before;
+        call = releaseSet messages;
+        after = after;
+        is-in = e;
+        lets-go = subst (λ a. LetsGo (releaseSet messages) a (nth messages i) mask) (sym answer) (together messages i mask below);
+      }
+
   -- a send to whomever, by whomever, sends its message
   pub send-sends : (before after : List Call) (sender receiver payload m : ℕ) → l ≡ before ++ asks (Send sender receiver payload) ∷ after →
       stepIn (upTo t g n k before) (Send sender receiver payload) .answer ≡ Sent m → SentIn t g n k l m

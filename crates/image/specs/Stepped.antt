@@ -12,21 +12,21 @@ use Rattle.base.specs.Choice.{_==_, _≤?_, _<?_, cond-ind, le?}
 use Rattle.base.specs.Cases.{Case, firstOf}
 use Rattle.table.specs.Field.{State, OfPlace, Size, Degree, Incarnation, LiveCount, StableCount, Sender, Receiver, desk, same}
 use Rattle.table.specs.Change.{put, put-same, putPart, clearPlaces, putStates}
-use Rattle.table.specs.Layout.{controllers}
+use Rattle.table.specs.Layout.{controllers, incarnations}
 use Rattle.table.specs.Numbering.{numberOf, used, recordOf, number-from, number-next, number-add, place-of-count, present-pos, present-given, posted-size}
 use Rattle.rules.specs.Limits.{Limits, lastIncarnation}
 use Rattle.rules.specs.Refusal.{FORM, PLACES-USED-UP, INCARNATIONS-USED-UP, LEDGER-USED-UP}
 use Rattle.rules.specs.Vector.{Vector, pair as pairList, placeVector, messageVector, filtered, condemned, mask, conflict, merged}
 use Rattle.rules.specs.Form.{inForm, stateReleased, stateDropped, statePublished, forDesk}
-use Rattle.rules.specs.Ledger.{countOf}
 use Rattle.rules.specs.Shared.{newestPlace, placeRecord, logged, loggedTo, checkpointed, forced, capped, causesIn, causes, placed, entered, restarted, dropHeld, startAnew, removed}
-use Rattle.rules.specs.Steps.{After, after, refusing, AfterBoth, refusingBoth, openHouse, openRefusals, stepOpen, degreeRefusals, stepDegree, sent, noReceiver, sendRefusals, stepSend, messageRefusals, letOut, mayGo, release, releaseRefusals, stepRelease, intervalAdded, intervalBegins, chainFull, deliver, stepDeliver, logRefusals, stepLog, checkpointRefusals, stepCheckpoint, told, tellRefusals, stepTell, crashed, crashRefusals, stepCrash, noted, lowestCondemned, rolledBack, hear, hearRefusals, stepHear, gapRefusals, stepGap}
-use Rattle.rules.specs.Step.{perform, looksAtForm, stepOn, Call, asks}
+use Rattle.rules.specs.Steps.{After, after, refusing, AfterBoth, refusingBoth, openHouse, openRefusals, stepOpen, degreeRefusals, stepDegree, sent, noReceiver, sendRefusals, stepSend, messageRefusals, ownVector, letOut, mayGo, releaseRefusals, stepRelease, intervalAdded, intervalBegins, chainFull, deliver, stepDeliver, logRefusals, stepLog, checkpointRefusals, stepCheckpoint, told, tellRefusals, stepTell, crashed, crashRefusals, stepCrash, noted, lowestCondemned, rolledBack, hear, hearRefusals, stepHear, gapRefusals, stepGap}
+use Rattle.rules.specs.Step.{perform, looksAtForm, stepOn}
 use Rattle.rules.specs.declared.Answer.{Answer}
 use Rattle.rules.specs.declared.Answer.the-variants.{Sent, Delivered, Crashed, Rolled}
 use Rattle.rules.specs.declared.Command.{Command}
 use Rattle.rules.specs.declared.Command.the-variants.{Open, SetDegree, Send, Release, Deliver, Log, Checkpoint, Tell, Crash, Hear, SetGap}
 use Rattle.history.specs.History.{Interval}
+use Rattle.history.specs.Demand.{named}
 use Rattle.model.specs.Model as M
 use Rattle.model.specs.Vectors.{Condemned}
 use Rattle.model.specs.Beginning.{Compatible}
@@ -37,6 +37,7 @@ use Rattle.laws.specs.Allowed.{openAllowed, degreeAllowed, sendAllowed, message
 use Rattle.laws.specs.Numbers.{numbers-added, numbers-noted}
 use Rattle.laws.specs.Found.{lowest}
 use Rattle.laws.specs.Records.{length-filtered}
+use Rattle.laws.specs.Releasing.{release-cases}
 use Rattle.image.specs.Image.{vecOf, image, putController-own}
 use Rattle.image.specs.Changes.{image-state}
 use Rattle.image.specs.Controllers.{image-degree, image-gap, image-logged, image-told, image-noted}
@@ -54,27 +55,27 @@ use Rattle.image.specs.Outcome.{Outcome, Receives}
 
 -- an outcome of step x on σ, as it stands after the step
 abbrev pub Stepped : State → Command → After → Type 0
-Stepped σ x o = Outcome (σ Size) (image σ) (asks x) (o .answer) (o .left Size) (image (o .left))
+Stepped σ x o = Outcome (σ Size) (image σ) x (o .answer) (o .left Size) (image (o .left))
 
 -- the same of a step on both buffers; no outcome speaks of the ledger
 abbrev pub SteppedBoth : State → Command → AfterBoth → Type 0
 SteppedBoth σ x o = Stepped σ x (after (o .answer) (o .left))
 
 -- the same with another writing of the answer, the size and the model
-pub outcome-as : (n : ℕ) (μ : M.Model) (x : Call) {a b : Answer} {j k : ℕ} {p q : M.Model} → a ≡ b → j ≡ k → p ≡ q → Outcome n μ x b k q → Outcome n μ x a j p
+pub outcome-as : (n : ℕ) (μ : M.Model) (x : Command) {a b : Answer} {j k : ℕ} {p q : M.Model} → a ≡ b → j ≡ k → p ≡ q → Outcome n μ x b k q → Outcome n μ x a j p
 outcome-as n μ x {b = b} {j = j} {p = p} e s h o = subst (λ z. Outcome n μ x z j p) (sym e) (subst (λ z. Outcome n μ x b z p) (sym s) (subst (Outcome n μ x b _) (sym h) o))
 
 -- a step after its refusals
 stepped-refusing : (σ : State) (x : Command) (cases : List Case) (o : After) → (0 ≡ firstOf cases → Stepped σ x o) → Stepped σ x (refusing cases σ o)
 unfolding refusing
-stepped-refusing σ x cases o h = cond-ind (Stepped σ x) (firstOf cases == 0) (λ e. h (sym (eqb-true (firstOf cases) 0 e))) (λ e. O.refused (asks x) (firstOf cases))
+stepped-refusing σ x cases o h = cond-ind (Stepped σ x) (firstOf cases == 0) (λ e. h (sym (eqb-true (firstOf cases) 0 e))) (λ e. O.refused x (firstOf cases))
 
 -- a step on both buffers after its refusals
 stepped-refusing-both : (σ : State) (g : List ℕ) (x : Command) (cases : List Case) (o : AfterBoth) → (0 ≡ firstOf cases → SteppedBoth σ x o) →
     SteppedBoth σ x (refusingBoth cases σ g o)
 unfolding refusingBoth
 stepped-refusing-both σ g x cases o h =
-    cond-ind (SteppedBoth σ x) (firstOf cases == 0) (λ e. h (sym (eqb-true (firstOf cases) 0 e))) (λ e. O.refused (asks x) (firstOf cases))
+    cond-ind (SteppedBoth σ x) (firstOf cases == 0) (λ e. h (sym (eqb-true (firstOf cases) 0 e))) (λ e. O.refused x (firstOf cases))
 
 -- O
 stepped-open : (L : Limits) (σ : State) (g : List ℕ) (n k : ℕ) → SteppedBoth σ (Open n k) (stepOpen L σ g n k)
@@ -82,7 +83,7 @@ unfolding stepOpen openHouse
 stepped-open L σ g n k =
     stepped-refusing-both σ g (Open n k) (openRefusals L g n k) _
     (λ e. let d = openAllowed L g n k e in
-    outcome-as _ _ (asks (Open n k)) refl refl (image-opened n k (d .size-le)) (O.opened n k (d .size-pos) (d .size-le) (d .degree-le)))
+    outcome-as _ _ (Open n k) refl refl (image-opened n k (d .size-le)) (O.opened n k (d .size-pos) (d .size-le) (d .degree-le)))
 
 -- no rule but opening writes the number of controllers
 loggedTo-size : (σ : State) (c k : ℕ) → loggedTo σ c k Size ≡ σ Size
@@ -113,21 +114,30 @@ module _ {L : Limits} (σ : State) (f : Form L σ) (m : ℕ) (l : recordOf σ m 
   was-sent : m ≤ image σ .sent
   was-sent = omega (arith, sent-is σ, present-given σ m l)
 
-  -- message m can be let out, where its filtered vector has this mask
-  release-found : let v = filtered σ (σ (Sender r)) (messageVector σ r) in
-      mayGo σ r (mask v) ≡ true → LetsOut (image σ) m (mask v)
-  release-found goes =
-      let g = messageForm f r l in
+  -- what is at most the degree of its sender is so in the model
+  pub within-degree : (k : ℕ) → k ≤ σ (Degree (σ (Sender r))) → k ≤ image σ .controller (image σ .message m .from .owner) .degree
+  within-degree k few =
       let sender = σ (Sender r) in
-      let v = filtered σ sender (messageVector σ r) in
+      let g = messageForm f r l in
       let owner : sender ≡ image σ .message m .from .owner = sym (ap (λ (x : Interval). x .owner) (from-is σ m l)) in
+      subst (λ b. k ≤ image σ .controller b .degree) owner (omega (arith, degree-is σ sender (omega arith)))
+
+  -- whom its mask names, in terms of the model
+  pub own-names : (a : ℕ) → named (mask (ownVector σ r)) a ≡ M.full (M.releasedVec (image σ) m a)
+  unfolding ownVector
+  own-names a =
+      let v = filtered σ (σ (Sender r)) (messageVector σ r) in
+      named-is v (length-filtered σ (σ (Sender r)) (messageVector σ r)) a ∙ ap (λ (w : M.Vec). M.full (w a)) (released-is σ f m l)
+
+  -- message m can be let out, where its filtered vector has this mask
+  pub release-found : mayGo σ r (mask (ownVector σ r)) ≡ true → LetsOut (image σ) m (mask (ownVector σ r))
+  release-found goes =
       record {
         pos = present-pos σ m l;
         sent = was-sent;
-        within = subst (λ b. ones (mask v) ≤ image σ .controller b .degree) owner (omega (arith, degree-is σ sender (omega arith), go-few σ r (mask v) goes));
-        names = λ owner.
-            named-is v (length-filtered σ sender (messageVector σ r)) owner ∙ ap (λ (w : M.Vec). M.full (w owner)) (released-is σ f m l);
-        desk-none = λ e. go-none σ r (mask v) goes (sym (to-is σ m l) ∙ e);
+        within = within-degree (ones (mask (ownVector σ r))) (go-few σ r (mask (ownVector σ r)) goes);
+        names = own-names;
+        desk-none = λ e. go-none σ r (mask (ownVector σ r)) goes (sym (to-is σ m l) ∙ e);
       }
 
   -- the receiver of message m
@@ -217,7 +227,7 @@ module _ (L : Limits) (σ : State) (f : Form L σ) where
   stepped-degree c k =
       stepped-refusing σ (SetDegree c k) (degreeRefusals σ c k) _
       (λ e. let d = degreeAllowed σ c k e in
-      outcome-as _ _ (asks (SetDegree c k)) refl refl (image-degree σ c k (omega arith)) (O.degree-set c k (d .controller-lt) (d .degree-le)))
+      outcome-as _ _ (SetDegree c k) refl refl (image-degree σ c k (omega arith)) (O.degree-set c k (d .controller-lt) (d .degree-le)))
 
   -- S
   stepped-send : (sender receiver payload : ℕ) → Stepped σ (Send sender receiver payload) (stepSend L σ sender receiver payload)
@@ -226,23 +236,21 @@ module _ (L : Limits) (σ : State) (f : Form L σ) where
       stepped-refusing σ (Send sender receiver payload) (sendRefusals L σ sender receiver) _
       (λ e. let d = sendAllowed L σ sender receiver e in
       let q = sent-is σ in
-      outcome-as _ _ (asks (Send sender receiver payload)) (ap (λ m. Sent (m + 1)) (sym q)) (posted-size σ _)
+      outcome-as _ _ (Send sender receiver payload) (ap (λ m. Sent (m + 1)) (sym q)) (posted-size σ _)
       (image-sent σ f sender receiver payload (d .sender-lt) ∙ ap (λ m. M.sendMessage (image σ) (m + 1) sender receiver) (sym q))
       (O.sent sender receiver payload (d .sender-lt) (receives σ receiver (d .receiver-ok)) (d .differ)))
 
   -- R: held, let out or published, or no room for an entry
   stepped-release : (g : List ℕ) (m : ℕ) → SteppedBoth σ (Release m) (stepRelease L σ g m)
-  unfolding stepRelease release letOut put same putPart
+  unfolding stepRelease ownVector letOut put same putPart
   stepped-release g m =
       stepped-refusing-both σ g (Release m) (releaseRefusals L σ g (recordOf σ m)) _
       (λ e. let r = recordOf σ m in
       let l = releaseAllowed L σ g r e .0 .record-used in
-      let v = filtered σ (σ (Sender r)) (messageVector σ r) in
-      cond-ind (SteppedBoth σ (Release m)) (not (mayGo σ r (mask v))) (λ q. O.held m (mask v))
-      (λ q. let out = O.released m (mask v) (release-found σ f m l (not-false _ q)) (λ c h. let k = controllerForm f c h in omega (arith, incarnation-is σ c (omega arith))) in
-      cond-ind (SteppedBoth σ (Release m)) (not (forDesk σ r)) (λ _. outcome-as _ _ (asks (Release m)) refl refl (image-letOut σ f m stateReleased l) out)
-      (λ _. cond-ind (SteppedBoth σ (Release m)) (L .entries ≤? countOf g) (λ _. O.refused (asks (Release m)) LEDGER-USED-UP)
-      (λ _. outcome-as _ _ (asks (Release m)) refl refl (image-letOut σ f m statePublished l) out))))
+      let low : (c : ℕ) → c < σ Size → image σ .controller c .incarnation < incarnations = λ c h. let k = controllerForm f c h in omega (arith, incarnation-is σ c (omega arith)) in
+      release-cases L σ g m r (SteppedBoth σ (Release m)) (λ _. O.held m _)
+      (λ may _. outcome-as _ _ (Release m) refl refl (image-letOut σ f m stateReleased l) (O.released m _ (release-found σ f m l may) low)) (λ _ _. O.refused (Release m) LEDGER-USED-UP)
+      (λ may _ _. outcome-as _ _ (Release m) refl refl (image-letOut σ f m statePublished l) (O.released m _ (release-found σ f m l may) low)))
 
   -- D
   stepped-deliver : Fresh σ → (m : ℕ) → Stepped σ (Deliver m) (stepDeliver L σ m)
@@ -259,12 +267,12 @@ module _ (L : Limits) (σ : State) (f : Form L σ) where
       let theirs = filtered σ c (messageVector σ r) in
       let x = number-next σ c (σ (LiveCount c)) ∙ ap (λ n. n + 1) (sym (live-is σ c cl)) in
       cond-ind (Stepped σ (Deliver m)) (condemned σ c (messageVector σ r))
-      (λ q. outcome-as _ _ (asks (Deliver m)) refl refl (image-state σ r stateDropped)
+      (λ q. outcome-as _ _ (Deliver m) refl refl (image-state σ r stateDropped)
       (O.dropped m (present-pos σ m l) (was-sent σ f m l) (subst (λ c. c < σ Size) (receiver-is σ f m l) h) (drop-found σ f m l h q)))
       (λ q. cond-ind (Stepped σ (Deliver m)) (conflict c ours theirs) (λ q′. O.waits m)
-      (λ q′. cond-ind (Stepped σ (Deliver m)) (chainFull L σ c) (λ _. O.refused (asks (Deliver m)) PLACES-USED-UP)
+      (λ q′. cond-ind (Stepped σ (Deliver m)) (chainFull L σ c) (λ _. O.refused (Deliver m) PLACES-USED-UP)
       (λ w. let v = merged ours theirs in
-      outcome-as _ _ (asks (Deliver m)) (ap₂ (Delivered m) (sym (incarnation-is σ c cl)) x) (capped-size (intervalAdded σ c m r v) c)
+      outcome-as _ _ (Deliver m) (ap₂ (Delivered m) (sym (incarnation-is σ c cl)) x) (capped-size (intervalAdded σ c m r v) c)
       (image-capped (intervalAdded σ c m r v) c (counted-added σ f c h m r v) (fresh-kept σ _ (numbers-added σ c m r v) z)
       ∙ ap (λ (μ : M.Model). M.capModel μ c) (image-begun σ f c m h l))
       (O.delivered m c (receiver-is σ f m l) (deliver-found σ f m l h q q′))))))
@@ -279,7 +287,7 @@ module _ (L : Limits) (σ : State) (f : Form L σ) where
       let cl : c < controllers = omega arith in
       let stable = σ (StableCount c) in
       let x : numberOf σ c (stable + q) ≡ image σ .controller c .stable + q = number-add σ c stable q ∙ ap (λ n. n + q) (sym (stable-is σ c cl)) in
-      outcome-as _ _ (asks (Log c q)) refl refl
+      outcome-as _ _ (Log c q) refl refl
       (image-logged σ c (stable + q) cl (omega arith) ∙ ap (λ x. M.putController (image σ) c (M.logController c (image σ .controller c) x)) x)
       (O.logged c q (d .controller-lt) (d .number-pos)
       (omega (arith, live-is σ c cl, number-from σ c (σ (LiveCount c)), number-from σ c (stable + q), d .number-le))))
@@ -290,7 +298,7 @@ module _ (L : Limits) (σ : State) (f : Form L σ) where
   stepped-checkpoint z c =
       stepped-refusing σ (Checkpoint c) (checkpointRefusals σ c) _
       (λ e. let h = checkpointAllowed σ c e in
-      outcome-as _ _ (asks (Checkpoint c)) refl (loggedTo-size σ c (σ (LiveCount c))) (image-checkpointed σ c (counted σ f c h) z) (O.checkpointed c h))
+      outcome-as _ _ (Checkpoint c) refl (loggedTo-size σ c (σ (LiveCount c))) (image-checkpointed σ c (counted σ f c h) z) (O.checkpointed c h))
 
   -- T
   stepped-tell : (owner holder : ℕ) → Stepped σ (Tell owner holder) (stepTell σ owner holder)
@@ -298,7 +306,7 @@ module _ (L : Limits) (σ : State) (f : Form L σ) where
   stepped-tell owner holder =
       stepped-refusing σ (Tell owner holder) (tellRefusals σ owner holder) _
       (λ e. let d = tellAllowed σ owner holder e in
-      outcome-as _ _ (asks (Tell owner holder)) refl refl (image-told σ owner holder (omega arith) (omega arith)) (O.told owner holder (d .owner-lt) (d .holder-lt) (d .differ)))
+      outcome-as _ _ (Tell owner holder) refl refl (image-told σ owner holder (omega arith) (omega arith)) (O.told owner holder (d .owner-lt) (d .holder-lt) (d .differ)))
 
   -- X
   stepped-crash : Fresh σ → (c : ℕ) → Stepped σ (Crash c) (stepCrash L σ c)
@@ -311,7 +319,7 @@ module _ (L : Limits) (σ : State) (f : Form L σ) where
       let j = σ (StableCount c) in
       let s = sym (stable-is σ c cl) in
       let model = image σ .controller c in
-      outcome-as _ _ (asks (Crash c))
+      outcome-as _ _ (Crash c)
       (ap (Crashed c (σ (Incarnation c)) (numberOf σ c j) (σ (LiveCount c) - j)) (replayed-is σ c (counted σ f c (d .controller-lt)) z j (k .stable-le))
       ∙ ap₂ (λ i x. Crashed c i x (σ (LiveCount c) - j) (M.aboveLatest model x)) (sym (incarnation-is σ c cl)) s)
       (capped-size _ c)
@@ -349,12 +357,12 @@ module _ (L : Limits) (σ : State) (f : Form L σ) where
       ap (λ (μ : M.Model). μ .controller hearer) model ∙ putController-own (image σ) hearer (notedController (image σ) hearer owner i) in
       let low = lowest τ hearer (c .live-pos) in
       cond-ind (Stepped σ (Hear hearer owner i)) (σ (LiveCount hearer) ≤? k)
-      (λ l. outcome-as _ _ (asks (Hear hearer owner i)) refl refl model
+      (λ l. outcome-as _ _ (Hear hearer owner i) refl refl model
       (O.heard hearer owner i h (subst (NoneCondemned (σ Size)) controller (none-condemned τ hearer s z′ (leb-true (σ (LiveCount hearer)) k l)))))
       (λ l. let l′ = leb-false (σ (LiveCount hearer)) k l in
-      cond-ind (Stepped σ (Hear hearer owner i)) (lastIncarnation ≤? σ (Incarnation hearer)) (λ w. O.refused (asks (Hear hearer owner i)) INCARNATIONS-USED-UP)
+      cond-ind (Stepped σ (Hear hearer owner i)) (lastIncarnation ≤? σ (Incarnation hearer)) (λ w. O.refused (Hear hearer owner i) INCARNATIONS-USED-UP)
       (λ w. let w′ = leb-false lastIncarnation (σ (Incarnation hearer)) w in
-      outcome-as _ _ (asks (Hear hearer owner i))
+      outcome-as _ _ (Hear hearer owner i)
       (ap (Rolled hearer (numberOf σ hearer k) (σ (LiveCount hearer) - k)) (replayed-is σ hearer (counted σ f hearer (d .hearer-lt)) z k (omega arith)))
       (capped-size _ hearer ∙ loggedTo-size τ hearer k)
       (image-heard-rolled σ hearer owner i k (starting σ f hearer (d .hearer-lt) k (low .pos) (omega arith) w′) z (omega arith) (omega arith))
@@ -365,14 +373,14 @@ module _ (L : Limits) (σ : State) (f : Form L σ) where
   -- W4: the gap
   stepped-gap : (q : ℕ) → Stepped σ (SetGap q) (stepGap σ q)
   unfolding stepGap put same
-  stepped-gap q = stepped-refusing σ (SetGap q) (gapRefusals q) _ (λ e. outcome-as _ _ (asks (SetGap q)) refl refl (image-gap σ q) (O.gap-set q (gapAllowed q e)))
+  stepped-gap q = stepped-refusing σ (SetGap q) (gapRefusals q) _ (λ e. outcome-as _ _ (SetGap q) refl refl (image-gap σ q) (O.gap-set q (gapAllowed q e)))
 
 -- after the host's look at the form, in a house from which nothing is discarded; one that is not in form need not say so
 module _ (L : Limits) (σ : State) (g : List ℕ) (whole : inForm L σ ≡ true → Fresh σ) where
   looked : (x : Command) → looksAtForm x ≡ true → (Form L σ → Fresh σ → SteppedBoth σ x (perform L σ g x)) → SteppedBoth σ x (stepOn L σ g x)
   unfolding stepOn
   looked x q h =
-      cond-ind (SteppedBoth σ x) (looksAtForm x && not (inForm L σ)) (λ e. O.refused (asks x) FORM)
+      cond-ind (SteppedBoth σ x) (looksAtForm x && not (inForm L σ)) (λ e. O.refused x FORM)
       (λ e. let good = not-false (inForm L σ) (subst (λ b. (b && not (inForm L σ)) ≡ false) q e) in h (form L σ good) (whole good))
 
   -- every step on a state and a ledger

@@ -15,7 +15,7 @@ use Rattle.rules.specs.Limits.{house}
 use Rattle.rules.specs.Refusal.{LENGTH}
 use Rattle.rules.specs.Ledger.{blankLedger}
 use Rattle.rules.specs.Steps.{AfterBoth, refusingBoth, openHouse, openRefusals, stepOpen}
-use Rattle.rules.specs.Step.{perform, stepOn, OutBoth, writtenBoth, lent, step, Call, asks, stepCall}
+use Rattle.rules.specs.Step.{perform, stepOn, OutBoth, writtenBoth, lent, step}
 use Rattle.rules.specs.declared.Answer.the-variants.{Done}
 use Rattle.rules.specs.declared.Command.{Command}
 use Rattle.rules.specs.declared.Command.the-variants.{Open}
@@ -49,15 +49,14 @@ image-left : (t g : List ℕ) (x : Command) → length t ≡ tableWords → let 
 image-left t g x long =
     ⊎-elim (λ e. ap (λ σ. modelOf (words σ)) e ∙ ap modelOf (sym (words-state t long)) ∙ ap image (sym e)) (image-words _) (step-bounded (state t) g x)
 
--- Every call over a lent table and a lent ledger, whatever stands in them.
-pub stepped : (t g : List ℕ) (x : Call) →
-    Outcome (sizeOf t) (modelOf t) x (stepCall t g x .answer) (sizeOf (stepCall t g x .table)) (modelOf (stepCall t g x .table))
-unfolding stepCall step lent
-stepped t g (asks x) =
-    cond-ind (λ (o : OutBoth). Outcome (sizeOf t) (modelOf t) (asks x) (o .answer) (sizeOf (o .table)) (modelOf (o .table))) (length t == tableWords)
+-- Every step over a lent table and a lent ledger, whatever stands in them.
+pub stepped : (t g : List ℕ) (x : Command) → Outcome (sizeOf t) (modelOf t) x (step t g x .answer) (sizeOf (step t g x .table)) (modelOf (step t g x .table))
+unfolding step lent
+stepped t g x =
+    cond-ind (λ (o : OutBoth). Outcome (sizeOf t) (modelOf t) x (o .answer) (sizeOf (o .table)) (modelOf (o .table))) (length t == tableWords)
     (λ e. let o = stepOn house (state t) g x in
-    outcome-as _ _ (asks x) refl (word-at (o .left) Size (omega arith)) (image-left t g x (eqb-true (length t) tableWords e)) (stepped-state house (state t) g (λ q. fresh (form house (state t) q)) x))
-    (λ e. O.refused (asks x) LENGTH)
+    outcome-as _ _ x refl (word-at (o .left) Size (omega arith)) (image-left t g x (eqb-true (length t) tableWords e)) (stepped-state house (state t) g (λ q. fresh (form house (state t) q)) x))
+    (λ e. O.refused x LENGTH)
 
 -- a house just opened, whatever stood in the table and in the ledger before
 pub record Opened (n k : ℕ) (o : OutBoth) : Type 0 where

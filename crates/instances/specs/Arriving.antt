@@ -16,7 +16,7 @@ use Rattle.rules.specs.Limits.{house, lastEntry}
 use Rattle.rules.specs.Refusal.{STATE, LEDGER-USED-UP}
 use Rattle.rules.specs.Ledger.{ledgerWords}
 use Rattle.rules.specs.Report.{report}
-use Rattle.rules.specs.Step.{Call}
+use Rattle.rules.specs.Step.{Call, asks}
 use Rattle.rules.specs.declared.Answer.the-variants.{Done, Released, Held, Delivered, Dropped, Waits, Crashed, Heard, Rolled, Refused}
 use Rattle.rules.specs.declared.Command.the-variants.{Release, Deliver, Checkpoint, Crash, Hear}
 use Rattle.history.specs.History.{Interval, interval, History, newest, member}
@@ -28,7 +28,7 @@ use Rattle.model.specs.Model.{Model}
 use Rattle.model.specs.Tests.{contrary}
 use Rattle.model.specs.Vectors.{Condemned}
 use Rattle.model.specs.Paper.{vectorOf}
-use Rattle.image.specs.Mask.{count}
+use Rattle.base.specs.Ranges.{count}
 use Rattle.image.specs.Reads.{present-sent}
 use Rattle.image.specs.Tables.{modelOf}
 use Rattle.testers.specs.Refused.{answers-differ}
@@ -37,7 +37,7 @@ use Rattle.demand.specs.Demanded.{table-inv}
 use Rattle.paper.specs.Ready.{ready, sent-there}
 use Rattle.paper.specs.Theorems as T
 use Rattle.instances.specs.Lists.{unheard, loss, waiting, deliveredSooner, callsOf, unheard-run, loss-run, waiting-run, delivered-sooner-run}
-use Rattle.instances.specs.Shown.{three, Shown, shown, shown-to, told, no-orphan, not-let-out, has-heard, answer-in, deliverable-by, crash-by, sent-by, release-by, own-asked-by, asked-by}
+use Rattle.instances.specs.Shown.{three, Shown, shown, shown-to, told, no-orphan, not-let-out, has-heard, answer-in, deliverable-by, crash-by, sent-by, goes-by, out-by, own-asked-by, asked-by}
 use Rattle.instances.specs.Told.{sampleTo, unheardTo, lossTo, waitingTo, sample-told, unheard-told, loss-told, waiting-told}
 
 module _ (t g : List ℕ) (long : length t ≡ tableWords) (wide : length g ≡ ledgerWords house) where
@@ -88,8 +88,7 @@ module _ (t g : List ℕ) (long : length t ≡ tableWords) (wide : length g ≡ 
   pub theorem-A-3 : (count controllers (named 2) ≤ 1) × (named 2 1 ≡ true)
   theorem-A-3 =
       let sample-4 = shown-to t g sample sampled 4 in
-      let said = T.theorem-A-3 t g 3 1 s (sampled .from) (callsOf (take 4 sample)) (callsOf (drop 5 sample)) 2 2 2 refl
-      (answer-in t g sample sampled (take 4 sample) (line (Release 2) (Released 2 2)) (drop 5 sample) refl) in (
+      let said = T.theorem-A-3 t g 3 1 s (sampled .from) (callsOf (take 4 sample)) (callsOf (drop 5 sample)) (asks (Release 2)) 2 2 refl (goes-by t g sample sampled 4 2 2 refl) in (
         omega (arith, said .0, told t g (take 4 sample) sample-4 (λ h. h .degree (h .sending 2 .owner) ≡ 1) (sample-told .degree)),
         said .1 (interval 1 0 2) 0 (sample-says (λ h. h .rests (h .sending 2) (interval 1 0 2) ≡ true) (sample-told .sending-rests))
             (sample-says (λ h. h .lost (interval 1 0 2) 0 ≡ true) (sample-told .lost)),
@@ -100,7 +99,7 @@ module _ (t g : List ℕ) (long : length t ≡ tableWords) (wide : length g ≡ 
   unfolding allLook
   one-rollback-a-failure =
       let again = sample ++ line (Hear 2 1 0) (Heard 2) ∷ [] in
-      T.one-rollback-a-failure t g 3 1 (callsOf again) (from-opening t g long wide again refl) (callsOf (take 10 sample)) (callsOf (drop 11 sample)) [] 2 1 0 refl
+      T.one-rollback-a-failure t g 3 1 (callsOf again) (from-opening t g long wide (callsOf again) refl) (callsOf (take 10 sample)) (callsOf (drop 11 sample)) [] 2 1 0 refl
       (subst Accepted (sym (answer-in t g sample sampled (take 10 sample) (line (Hear 2 1 0) (Rolled 2 1 1 0)) (drop 11 sample) refl)) (answersRolled 2 1 1 0))
 
   -- A MESSAGE RESTS ON LOST WORK, AND ITS SENDER HAS NOT HEARD
@@ -270,7 +269,7 @@ module _ (t g : List ℕ) (long : length t ≡ tableWords) (wide : length g ≡ 
 
   lost-arrives : Arrives t g 3 1 q 2
   lost-arrives =
-      T.theorem-A-2-delivery t g 3 1 q (loss-12 .from) 2 lost-deliverable 2 (release-by t g (take 12 loss) loss-12 Released 4 2 2 refl)
+      T.theorem-A-2-delivery t g 3 1 q (loss-12 .from) 2 lost-deliverable 2 (out-by t g (take 12 loss) loss-12 4 2 2 refl)
       (subst (AllAsked t g 3 1 q 2 2) (sym lost-receiver) lost-asked)
       (subst (HasHeard t g 3 1 q) (sym lost-receiver) (has-heard t g (take 12 loss) loss-12 2 (loss-told .all-heard)))
 
@@ -291,7 +290,7 @@ module _ (t g : List ℕ) (long : length t ≡ tableWords) (wide : length g ≡ 
   theorem-A-2-let-out = decided (T.theorem-A-2 t g 3 1 q (loss-12 .from) 2 lost-sent)
     where
       out : LetOutIn t g 3 1 q 2 2
-      out = release-by t g (take 12 loss) loss-12 Released 4 2 2 refl
+      out = out-by t g (take 12 loss) loss-12 4 2 2 refl
 
       decided : Fate t g 3 1 q 2 → (mask : ℕ) × LetOutIn t g 3 1 q 2 mask
       decided (was-let-out mask z) = (mask, z)
@@ -359,7 +358,7 @@ module _ (t g : List ℕ) (long : length t ≡ tableWords) (wide : length g ≡ 
       let receiver = waiting-says 17 (λ h. h .receiver 2 ≡ 2) (waiting-told .to) in
       arrives 17 (waiting-told .to) (waiting-told .incarnation) (waiting-told .newest-number)
       (T.theorem-A-2-delivery t g 3 1 (w 17) (waited-to 17 .from) 2 (deliverable-by t g waiting waited 17 2 (Delivered 2 0 3) refl refl) 2
-      (release-by t g (take 17 waiting) (waited-to 17) Released 4 2 2 refl)
+      (out-by t g (take 17 waiting) (waited-to 17) 4 2 2 refl)
       (subst (AllAsked t g 3 1 (w 17) 2 2) (sym receiver)
       (three (λ c. named 2 c ≡ true → Asked t g 3 1 (w 17) 2 2 c) (λ e. absurd (true≢false (sym e)))
       (λ _. asked-by t g (take 17 waiting) (waited-to 17) 2 2 1 14 (line (Checkpoint 1) Done) refl checkpoints
@@ -376,7 +375,7 @@ module _ (t g : List ℕ) (long : length t ≡ tableWords) (wide : length g ≡ 
   unfolding report
   theorem-A-2-useful-delivery =
       let receiver = waiting-says 16 (λ h. h .receiver 2 ≡ 2) (waiting-told .early-to) in
-      let out = release-by t g (take 16 waiting) (waited-to 16) Released 4 2 2 refl in (
+      let out = out-by t g (take 16 waiting) (waited-to 16) 4 2 2 refl in (
         arrives 16 (waiting-told .early-to) (waiting-told .early-incarnation) (waiting-told .early-number)
             (T.theorem-A-2-useful-delivery t g 3 1 (w 16) (waited-to 16 .from) 2 (deliverable-by t g deliveredSooner sooner 16 2 (Delivered 2 0 3) refl refl)
             (subst (AllCleared t g 3 1 (w 16) 2) (sym receiver)

@@ -29,7 +29,7 @@ use Rattle.model.specs.Model.{intervalOf, Model}
 use Rattle.model.specs.Tests.{contrary, fails}
 use Rattle.model.specs.Vectors.{pos-full}
 use Rattle.model.specs.Paper.{Useful, vectorOf}
-use Rattle.image.specs.Mask.{count}
+use Rattle.base.specs.Ranges.{count}
 use Rattle.image.specs.Tables.{modelOf}
 use Rattle.testers.specs.Refused.{answers-differ}
 use Rattle.testers.specs.Sample.{allLook}
@@ -37,7 +37,7 @@ use Rattle.testers.specs.Along.{citations-after}
 use Rattle.paper.specs.Ready.{modelIn}
 use Rattle.paper.specs.Theorems as T
 use Rattle.instances.specs.Lists.{woven, allButOne, unrevoked, callsOf, woven-run, all-but-one-run, unrevoked-run}
-use Rattle.instances.specs.Shown.{three, Shown, shown, shown-to, told, no-orphan, not-let-out, has-heard, answer-in, sent-by, release-by, own-asked-by, asked-by}
+use Rattle.instances.specs.Shown.{three, Shown, shown, shown-to, told, no-orphan, not-let-out, has-heard, answer-in, sent-by, held-by, goes-by, own-asked-by, asked-by}
 use Rattle.instances.specs.Told.{wovenTo, woven-told, unrevoked-told}
 
 module _ (t g : List ℕ) (long : length t ≡ tableWords) (wide : length g ≡ ledgerWords house) where
@@ -158,7 +158,7 @@ module _ (t g : List ℕ) (long : length t ≡ tableWords) (wide : length g ≡ 
 
       cleared : AllCleared t g 3 1 (upto 16) 3 (h 16 .sending 3 .owner)
       cleared =
-          mask-cleared t g 3 1 (upto 16) 3 6 (release-by t g (take 16 woven) (first 16) Held 7 3 6 refl)
+          mask-cleared t g 3 1 (upto 16) 3 6 (held-by t g (take 16 woven) (first 16) 7 3 6 refl)
           (subst (AllAsked t g 3 1 (upto 16) 3 6) (sym sender)
           (asked-16 3 (sent-by t g (take 10 woven) (first 10) 6 3 2 desk 5 refl) (sent-by t g (take 13 woven) (first 13) 6 3 2 desk 5 refl)))
 
@@ -174,7 +174,7 @@ module _ (t g : List ℕ) (long : length t ≡ tableWords) (wide : length g ≡ 
       goes 15 3 (woven-told .early-published)
       (T.theorem-A-2-useful t g 3 1 (upto 15) (first 15 .from) 3 (sent-by t g (take 15 woven) (first 15) 6 3 2 desk 5 refl)
       (not-let-out t g (take 15 woven) (first 15) 3 (woven-told .early-inside)) (no-orphan t g (take 15 woven) (first 15) (woven-told .early-lost) (h 15 .sending 3))
-      (mask-cleared t g 3 1 (upto 15) 3 6 (release-by t g (take 15 woven) (first 15) Held 7 3 6 refl)
+      (mask-cleared t g 3 1 (upto 15) 3 6 (held-by t g (take 15 woven) (first 15) 7 3 6 refl)
       (subst (AllAsked t g 3 1 (upto 15) 3 6) (sym (by-2 15 3 (woven-told .early-from)))
       (asked-15 3 (sent-by t g (take 10 woven) (first 10) 6 3 2 desk 5 refl) (sent-by t g (take 13 woven) (first 13) 6 3 2 desk 5 refl)))))
 
@@ -188,7 +188,7 @@ module _ (t g : List ℕ) (long : length t ≡ tableWords) (wide : length g ≡ 
   theorem-A-2-mask =
       let sender = by-2 16 4 (woven-told .second-from) in
       ⊎-elim (λ z. absurd (is-held (upto 16) 4 0 (answer-in t g woven wove (take 16 woven) (line (Release 4) (Released 4 0)) [] refl) z)) (λ z. z)
-      (T.theorem-A-2-mask t g 3 1 (upto 16) (first 16 .from) 4 6 (release-by t g (take 16 woven) (first 16) Held 9 4 6 refl)
+      (T.theorem-A-2-mask t g 3 1 (upto 16) (first 16 .from) 4 6 (held-by t g (take 16 woven) (first 16) 9 4 6 refl)
       (subst (AllAsked t g 3 1 (upto 16) 4 6) (sym sender)
       (asked-16 4 (sent-by t g (take 10 woven) (first 10) 8 4 2 0 6 refl) (sent-by t g (take 13 woven) (first 13) 8 4 2 0 6 refl)))
       (subst (HasHeard t g 3 1 (upto 16)) (sym sender) all-heard))
@@ -206,7 +206,7 @@ module _ (t g : List ℕ) (long : length t ≡ tableWords) (wide : length g ≡ 
   all-but-K =
       let sender = by-2 12 4 (woven-told .asked-from) in
       ⊎-elim (λ z. absurd (is-held (upto 12) 4 2 (answer-in t g allButOne butOne (take 12 woven) (line (Release 4) (Released 4 2)) [] refl) z)) (λ z. z)
-      (T.theorem-A-2-all-but-K t g 3 1 (upto 12) (first 12 .from) 4 6 (release-by t g (take 12 woven) (first 12) Held 9 4 6 refl)
+      (T.theorem-A-2-all-but-K t g 3 1 (upto 12) (first 12 .from) 4 6 (held-by t g (take 12 woven) (first 12) 9 4 6 refl)
       (subst (HasHeard t g 3 1 (upto 12)) (sym sender) (has-heard t g (take 12 woven) (first 12) 2 (woven-told .asked-heard)))
       (says 12 (λ h. h .receiver 4 ≢ desk) (subst (λ c. c ≢ desk) (sym (woven-told .asked-to)) (λ e. omega arith))) the-first
       (subst (λ c. count controllers the-first ≤ h 12 .degree c) (sym sender) (says 12 (λ h. count controllers the-first ≤ h .degree 2) (omega (arith, woven-told .asked-degree))))
@@ -222,7 +222,7 @@ module _ (t g : List ℕ) (long : length t ≡ tableWords) (wide : length g ≡ 
   -- The second mask of message 3 names nobody whom the first didn't name.
   pub theorem-A-2-masks : (c : ℕ) → named 6 c ≡ false → named 2 c ≡ false
   theorem-A-2-masks =
-      T.theorem-A-2-masks t g 3 1 (upto 11) (first 11 .from) 3 6 2 (release-by t g (take 11 woven) (first 11) Held 7 3 6 refl) (names-held 3 2)
+      T.theorem-A-2-masks t g 3 1 (upto 11) (first 11 .from) 3 6 2 (held-by t g (take 11 woven) (first 11) 7 3 6 refl) (names-held 3 2)
       (answer-in t g (take 12 woven) (first 12) (take 11 woven) (line (Release 3) (Held 3 2)) [] refl)
 
   -- The first named controller 1: its (0,2), on which message 3 rests, was not stable,
@@ -271,6 +271,5 @@ module _ (t g : List ℕ) (long : length t ≡ tableWords) (wide : length g ≡ 
   -- It is never revoked.
   pub optimism-0 : let e = end t g 3 1 (callsOf unrevoked) in Orphan e (e .sending 1) → ⊥
   optimism-0 =
-      T.optimism-0 t g 3 1 (callsOf unrevoked) (sure .from) (callsOf (take 2 unrevoked)) [] 1 1 0 refl
-      (answer-in t g unrevoked sure (take 2 unrevoked) (line (Release 1) (Released 1 0)) [] refl)
+      T.optimism-0 t g 3 1 (callsOf unrevoked) (sure .from) (callsOf (take 2 unrevoked)) [] (asks (Release 1)) 1 0 refl (goes-by t g unrevoked sure 2 1 0 refl)
       (told t g (take 2 unrevoked) (shown-to t g unrevoked sure 2) (λ h. h .degree (h .sending 1 .owner) ≡ 0) (unrevoked-told .degree))

@@ -3,3 +3,4 @@ pub mod Shown
 pub mod Told
 pub mod GoingOut
 pub mod Arriving
+pub mod Reels

@@ -15,14 +15,14 @@ use Rattle.rules.specs.Limits.{house}
 use Rattle.rules.specs.Refusal.{MESSAGE, STATE}
 use Rattle.rules.specs.Ledger.{ledgerWords}
 use Rattle.rules.specs.Report.{report}
-use Rattle.rules.specs.Step.{Call, asks, stepCall}
+use Rattle.rules.specs.Step.{Call, asks, releaseSet, stepCall}
 use Rattle.rules.specs.declared.Answer.{Answer}
-use Rattle.rules.specs.declared.Answer.the-variants.{Done, Sent, Released, Crashed, Refused}
+use Rattle.rules.specs.declared.Answer.the-variants.{Done, Sent, Released, Held, Crashed, Refused}
 use Rattle.rules.specs.declared.Command.{Command}
 use Rattle.rules.specs.declared.Command.the-variants.{Open, SetDegree, Send, Release, Deliver, Log, Checkpoint, Tell, Crash, Hear, SetGap}
 use Rattle.history.specs.History.{Interval, History, member, losing, opening, answers, valueAt}
-use Rattle.history.specs.Demand.{Run, stepIn, next, runs, justOpened, FromOpening, upTo, end}
-use Rattle.history.specs.Progress.{Orphan, SentIn, ReleaseIn, NotLetOut, Deliverable, CrashIn, HasHeard}
+use Rattle.history.specs.Demand.{Run, callIn, stepIn, next, runs, justOpened, LetsGo, alone, together, FromOpening, upTo, end}
+use Rattle.history.specs.Progress.{Orphan, SentIn, HoldsBack, held-alone, HeldIn, LetOutIn, NotLetOut, Deliverable, CrashIn, HasHeard}
 use Rattle.history.specs.Asked.{Secures, SecuredIn, Asked}
 use Rattle.history.specs.Examples.{ListingLine, line, all}
 use Rattle.model.specs.Tests.{Is, fails, contrary}
@@ -87,6 +87,13 @@ each-call p r (y ∷ l) a o (b ∷ before) after x e =
     subst (λ z. p x (stepIn (runs (next z r) before) x .answer) ≡ true) (sym first)
     (each-call p (next (asks (y .asked)) r) l (tail-answered r y l a) (and-right (p (y .asked) (y .answered)) (passes p l) o) before after x rest)
 
+-- such a list has no set
+only-steps : (l : List ListingLine) (before : List Call) (messages : List ℕ) (after : List Call) → callsOf l ≡ before ++ releaseSet messages ∷ after → ⊥
+only-steps [] [] messages after e = absurd (let z : _≡_ {A = ℕ} 0 1 = cc in omega arith)
+only-steps [] (b ∷ before) messages after e = absurd (let z : _≡_ {A = ℕ} 0 1 = cc in omega arith)
+only-steps (y ∷ l) [] messages after e = absurd (let z : _≡_ {A = ℕ} 0 1 = cc in omega arith)
+only-steps (y ∷ l) (b ∷ before) messages after e = only-steps l before messages after (let rest : callsOf l ≡ before ++ releaseSet messages ∷ after = cc in rest)
+
 -- the test that no release lets out m, and the one that b has heard each crash by the history h
 abbrev pub holding : ℕ → Command → Answer → Bool
 holding m = judged (λ i a. not ((i == m) && answers a (Released 0 0))) (λ c a. true)
@@ -138,7 +145,7 @@ module _ (t g : List ℕ) where
 
   -- one that was computed on states
   pub shown : length t ≡ tableWords → length g ≡ ledgerWords house → (l : List ListingLine) → allLook (callsOf l) ≡ true → Computed l → Shown l
-  shown long wide l looks run = record { from = from-opening t g long wide l looks; answers = run-answered t g long wide l run }
+  shown long wide l looks run = record { from = from-opening t g long wide (callsOf l) looks; answers = run-answered t g long wide l run }
 
   -- its first part is another
   pub first-shown : (l l′ : List ListingLine) → Shown (l ++ l′) → Shown l
@@ -172,11 +179,16 @@ module _ (t g : List ℕ) where
     no-orphan none y o = contrary (o .lost) (ap (λ h. h .lost (o .on) (o .crash)) history-is ∙ none (o .on) (o .crash))
 
     -- lets out no message that the first test finds held,
+    none-goes : (before after : List Call) {x : Call} {a : Answer} {m mask : ℕ} → LetsGo x a m mask → passes (holding m) l ≡ true → callsOf l ≡ before ++ x ∷ after →
+        callIn (upTo t g 3 1 before) x .answer ≡ a → ⊥
+    unfolding judged answers report stepCall
+    none-goes before after (alone m echoed mask) o e answer =
+        let q = each-call (holding m) (justOpened t g 3 1) l (s .answers) o before after (Release m) e in
+        true≢false (sym (rw (answer, eq-eqb m m refl) at q))
+    none-goes before after (together messages i mask below) o e answer = only-steps l before messages after e
+
     pub not-let-out : (m : ℕ) → passes (holding m) l ≡ true → NotLetOut t g 3 1 (callsOf l) m
-    unfolding judged answers report
-    not-let-out m o mask out =
-        let q = each-call (holding m) (justOpened t g 3 1) l (s .answers) o (out .before) (out .after) (Release m) (out .is-in) in
-        true≢false (sym (rw (out .answer, eq-eqb m m refl) at q))
+    not-let-out m o mask out = none-goes (out .before) (out .after) (out .lets-go) o (out .is-in) refl
 
     -- and has no crash that b has not heard, if it passes the second
     pub has-heard : (b : ℕ) → passes (hears (historyOf l) b) l ≡ true → HasHeard t g 3 1 (callsOf l) b
@@ -232,16 +244,34 @@ module _ (t g : List ℕ) where
           answer = answer-in (take j l) x (drop (suc j) l) e;
         }
 
-    -- a release
-    pub release-by : (word : ℕ → ℕ → Answer) (j m mask : ℕ) → l ≡ take j l ++ line (Release m) (word m mask) ∷ drop (suc j) l → ReleaseIn t g 3 1 (callsOf l) word m mask
-    release-by word j m mask e =
-        let x = line (Release m) (word m mask) in
+    -- a release that was held,
+    pub held-by : (j m mask : ℕ) → l ≡ take j l ++ line (Release m) (Held m mask) ∷ drop (suc j) l → HeldIn t g 3 1 (callsOf l) m mask
+    unfolding stepCall
+    held-by j m mask e =
+        let x = line (Release m) (Held m mask) in
         record {
           before = callsOf (take j l);
+          call = asks (Release m);
           after = callsOf (drop (suc j) l);
-          echoed = m;
           is-in = calls-in (take j l) x (drop (suc j) l) e;
-          answer = answer-in (take j l) x (drop (suc j) l) e;
+          holds-back = subst (λ a. HoldsBack (asks (Release m)) a m mask) (sym (answer-in (take j l) x (drop (suc j) l) e)) (held-alone m m mask);
+        }
+
+    -- and one that let its message out
+    pub goes-by : (j m mask : ℕ) → l ≡ take j l ++ line (Release m) (Released m mask) ∷ drop (suc j) l →
+        LetsGo (asks (Release m)) (callIn (upTo t g 3 1 (callsOf (take j l))) (asks (Release m)) .answer) m mask
+    unfolding stepCall
+    goes-by j m mask e =
+        subst (λ a. LetsGo (asks (Release m)) a m mask) (sym (answer-in (take j l) (line (Release m) (Released m mask)) (drop (suc j) l) e)) (alone m m mask)
+
+    pub out-by : (j m mask : ℕ) → l ≡ take j l ++ line (Release m) (Released m mask) ∷ drop (suc j) l → LetOutIn t g 3 1 (callsOf l) m mask
+    out-by j m mask e =
+        record {
+          before = callsOf (take j l);
+          call = asks (Release m);
+          after = callsOf (drop (suc j) l);
+          is-in = calls-in (take j l) (line (Release m) (Released m mask)) (drop (suc j) l) e;
+          lets-go = goes-by j m mask e;
         }
 
     -- a step that secures c, when message m had been sent,

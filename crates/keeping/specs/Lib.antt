@@ -7,3 +7,5 @@ pub mod Opening
 pub mod Steps
 pub mod Kept
 pub mod Unrefused
+pub mod StepSame
+pub mod Sets

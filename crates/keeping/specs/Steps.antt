@@ -5,7 +5,7 @@ use mathlib.Core.Bool.{true, false, not, _&&_, _||_, or-true}
 use mathlib.Core.List.{List}
 use Prim.Native.Nat.{ℕ, _+_, _≤_, _<_, max}
 use native.Mathlib.Omega.{arith}
-use borrow.Author.Tests.{eqb-true, leb-false, not-true, not-false, lt-ltb, le-leb}
+use borrow.Author.Tests.{eqb-true, leb-false, not-false, lt-ltb, le-leb}
 use Rattle.base.specs.Choice.{_==_, _≤?_, _<?_, cond-ind, le?}
 use Rattle.base.specs.Lists.{length-tab, getD-tab}
 use Rattle.base.specs.Cases.{Case, firstOf}
@@ -16,9 +16,8 @@ use Rattle.table.specs.Numbering.{recordOf, present-given, number-from, numbers
 use Rattle.rules.specs.Limits.{Limits, lastIncarnation}
 use Rattle.rules.specs.Vector.{condemned, conflict}
 use Rattle.rules.specs.Form.{stateHeld, stateReleased, stateDropped, statePublished, forDesk, stateOk, inForm}
-use Rattle.rules.specs.Ledger.{countOf}
 use Rattle.rules.specs.Shared.{newestPlace, loggedTo, causesIn, causes, placed, entered, restarted, startAnew, removed}
-use Rattle.rules.specs.Steps.{After, AfterBoth, refusing, refusingBoth, openRefusals, stepOpen, stepDegree, sent, stepSend, mayGo, release, stepRelease, intervalAdded, intervalBegins, chainFull, deliver, stepDeliver, stepLog, stepCheckpoint, toldRow, told, stepTell, crashed, stepCrash, noted, lowestCondemned, rolledBack, hear, stepHear, stepGap}
+use Rattle.rules.specs.Steps.{After, AfterBoth, refusing, refusingBoth, openRefusals, stepOpen, stepDegree, sent, stepSend, ownVector, stepRelease, intervalAdded, intervalBegins, chainFull, deliver, stepDeliver, stepLog, stepCheckpoint, toldRow, told, stepTell, crashed, stepCrash, noted, lowestCondemned, rolledBack, hear, stepHear, stepGap}
 use Rattle.rules.specs.Step.{perform, looksAtForm, stepOn}
 use Rattle.rules.specs.declared.Answer.the-variants.{Done}
 use Rattle.rules.specs.declared.Command.{Command}
@@ -27,6 +26,7 @@ use Rattle.laws.specs.Facts.{Fitting, Form, form, below-8, controllerForm, plac
 use Rattle.laws.specs.Allowed.{openAllowed, degreeAllowed, sendAllowed, messageAllowed, releaseAllowed, logAllowed, checkpointAllowed, tellAllowed, crashAllowed, hearAllowed, gapAllowed, Room, room-left}
 use Rattle.laws.specs.Numbers.{numbers-loggedTo, numbers-causes, numbers-noted, room-live, room-same}
 use Rattle.laws.specs.Chain.{logged-word}
+use Rattle.laws.specs.Releasing.{release-cases}
 use Rattle.laws.specs.Records.{length-merged}
 use Rattle.laws.specs.Answering.{not-done}
 use Rattle.keeping.specs.InRange.{held-ok, dropped-ok, filtered-ok, merged-ok}
@@ -85,14 +85,14 @@ module _ (L : Limits) where
 
       -- R
       kept-stepRelease : (g : List ℕ) (m : ℕ) → In (stepRelease L σ g m .left)
-      unfolding stepRelease release stateOk
+      unfolding stepRelease stateOk ownVector
       kept-stepRelease g m =
           kept-refusingBoth _ σ g _ e (λ q. let r = recordOf σ m in
           let a = releaseAllowed L σ g r q .0 in
           let ok = filtered-ok L (σ Size) σ _ _ (messageForm facts r (a .record-used) .vector-ok) in
-          cond-ind (λ (o : AfterBoth). In (o .left)) (not (mayGo σ r _)) (λ _. e)
-          (λ _. cond-ind (λ (o : AfterBoth). In (o .left)) (not (forDesk σ r)) (λ d. kept-letOut L σ r _ stateReleased (a .record-used) ok (ap (λ b. stateOk b stateReleased) (not-true (forDesk σ r) d)) e)
-          (λ d. cond-ind (λ (o : AfterBoth). In (o .left)) (L .entries ≤? countOf g) (λ _. e) (λ _. kept-letOut L σ r _ statePublished (a .record-used) ok (ap (λ b. stateOk b statePublished) (not-false (forDesk σ r) d)) e))))
+          release-cases L σ g m r (λ o. In (o .left)) (λ _. e)
+          (λ _ d. kept-letOut L σ r _ stateReleased (a .record-used) ok (ap (λ b. stateOk b stateReleased) d) e) (λ _ _. e)
+          (λ _ d _. kept-letOut L σ r _ statePublished (a .record-used) ok (ap (λ b. stateOk b statePublished) d) e))
 
       -- D
       kept-stepDeliver : (m : ℕ) → In (stepDeliver L σ m .left)

@@ -6,7 +6,7 @@ use mathlib.Core.List.{List, [], _∷_}
 use mathlib.Core.Logic.{_≢_}
 use Prim.Native.Nat.{ℕ}
 use lib.ListN.{length}
-use borrow.Author.Tests.{eq-eqb, eqb-true, eqb-false, leb-false, not-true}
+use borrow.Author.Tests.{eq-eqb, eqb-true, eqb-false, not-true}
 use Rattle.base.specs.Choice.{_==_, _≤?_, and-left, and-right, or-left, or-right, cond-ind}
 use Rattle.base.specs.Cases.{Case, _⇒_, firstOf}
 use Rattle.table.specs.Field.{State, Incarnation, LiveCount}
@@ -16,16 +16,17 @@ use Rattle.table.specs.Numbering.{recordOf}
 use Rattle.rules.specs.Limits.{Limits, house, lastIncarnation}
 use Rattle.rules.specs.Refusal.{LENGTH, FORM, LEDGER}
 use Rattle.rules.specs.Vector.{condemned, conflict}
-use Rattle.rules.specs.Form.{forDesk, inForm}
-use Rattle.rules.specs.Ledger.{ledgerWords, countOf, ledgerOk}
-use Rattle.rules.specs.Steps.{After, refuse, AfterBoth, beside, refusing, refusingBoth, openRefusals, stepOpen, stepDegree, stepSend, mayGo, releaseRefusals, release, stepRelease, intervalBegins, chainFull, deliver, stepDeliver, stepLog, stepCheckpoint, stepTell, stepCrash, hear, stepHear, stepGap}
+use Rattle.rules.specs.Form.{inForm}
+use Rattle.rules.specs.Ledger.{ledgerWords, ledgerOk}
+use Rattle.rules.specs.Steps.{After, refuse, AfterBoth, beside, refusing, refusingBoth, openRefusals, stepOpen, stepDegree, stepSend, releaseRefusals, stepRelease, intervalBegins, chainFull, deliver, stepDeliver, stepLog, stepCheckpoint, stepTell, stepCrash, hear, stepHear, stepGap}
 use Rattle.rules.specs.Step.{perform, looksAtForm, stepOn, OutBoth, lent, step}
 use Rattle.rules.specs.declared.Answer.{Answer}
-use Rattle.rules.specs.declared.Answer.the-variants.{Done, Sent, Released, Held, Delivered, Dropped, Waits, Crashed, Heard, Rolled, Refused}
+use Rattle.rules.specs.declared.Answer.the-variants.{Done, Sent, Released, Held, Delivered, Dropped, Waits, Crashed, Heard, Rolled, Refused, SetReleased, SetHeld}
 use Rattle.rules.specs.declared.Command.{Command}
 use Rattle.rules.specs.declared.Command.the-variants.{Open, SetDegree, Send, Release, Deliver, Log, Checkpoint, Tell, Crash, Hear, SetGap}
 use Rattle.laws.specs.Answering.{not-done, Lent}
 use Rattle.laws.specs.Ledger.{ledgerForm, blank-sound, appended-sound}
+use Rattle.laws.specs.Releasing.{release-cases}
 use Rattle.keeping.specs.Kept.{kept, opened}
 
 -- THE LEDGER
@@ -35,14 +36,11 @@ module _ (L : Limits) where
   kept-open σ g n k e = cond-ind (λ (o : AfterBoth). ledgerOk L (o .ledger) ≡ true) (firstOf (openRefusals L g n k) == 0) (λ _. blank-sound L) (λ _. e)
 
   kept-release : (σ : State) (g : List ℕ) (m : ℕ) → ledgerOk L g ≡ true → ledgerOk L (stepRelease L σ g m .ledger) ≡ true
-  unfolding stepRelease refusingBoth release
+  unfolding stepRelease refusingBoth
   kept-release σ g m e =
       let sound : AfterBoth → Type 0 = λ o. ledgerOk L (o .ledger) ≡ true in
       cond-ind sound (firstOf (releaseRefusals L σ g (recordOf σ m)) == 0)
-      (λ _. cond-ind sound (not (mayGo σ _ _)) (λ _. e)
-      (λ _. cond-ind sound (not (forDesk σ _)) (λ _. e)
-      (λ _. cond-ind sound (L .entries ≤? countOf g) (λ _. e) (λ q. appended-sound L g m _ e (leb-false (L .entries) (countOf g) q)))))
-      (λ _. e)
+      (λ _. release-cases L σ g m (recordOf σ m) sound (λ _. e) (λ _ _. e) (λ _ _. e) (λ _ _ room. appended-sound L g m _ e room)) (λ _. e)
 
   -- every step leaves a ledger in form in form
   pub ledger-kept : (σ : State) (g : List ℕ) (x : Command) → ledgerOk L g ≡ true → ledgerOk L (stepOn L σ g x .ledger) ≡ true
@@ -64,10 +62,10 @@ module _ (L : Limits) where
 
 -- REFUSALS
 -- "1 length is not 15,152"; "2 table not in form"; "14 when the ledger's length is not 257 .."
-abbrev byBuffer : ℕ → Bool
+abbrev pub byBuffer : ℕ → Bool
 byBuffer number = (number == LENGTH) || ((number == FORM) || (number == LEDGER))
 
-abbrev refusedByBuffer : Answer → Bool
+abbrev pub refusedByBuffer : Answer → Bool
 refusedByBuffer Done = false
 refusedByBuffer (Sent m) = false
 refusedByBuffer (Released m mask) = false
@@ -79,6 +77,8 @@ refusedByBuffer (Crashed c i k lost replayed) = false
 refusedByBuffer (Heard b) = false
 refusedByBuffer (Rolled b k undone replayed) = false
 refusedByBuffer (Refused number) = byBuffer number
+refusedByBuffer (SetReleased mask) = false
+refusedByBuffer (SetHeld mask) = false
 
 -- none of the cases is one of these
 abbrev others : List Case → Bool
@@ -93,20 +93,20 @@ first-other (x ∷ xs) e =
     (λ _. first-other xs (and-right (not (byBuffer (x .number))) (others xs) e))
 
 -- the first does not apply, and the others are none of these
-past-first : (b : Bool) (number : ℕ) (xs : List Case) → b ≡ false → others xs ≡ true → byBuffer (firstOf ((b ⇒ number) ∷ xs)) ≡ false
+pub past-first : (b : Bool) (number : ℕ) (xs : List Case) → b ≡ false → others xs ≡ true → byBuffer (firstOf ((b ⇒ number) ∷ xs)) ≡ false
 unfolding firstOf
 past-first b number xs e h = rw e (first-other xs h)
 
 module _ (L : Limits) (σ : State) (g : List ℕ) where
   -- the answer is no refusal for a buffer
-  abbrev Let : Answer → Type 0
+  abbrev pub Let : Answer → Type 0
   Let a = refusedByBuffer a ≡ false
 
   let-refusing : (cases : List Case) (o : After) → others cases ≡ true → Let (o .answer) → Let (refusing cases σ o .answer)
   unfolding refusing
   let-refusing cases o e h = cond-ind (λ (o : After). Let (o .answer)) (firstOf cases == 0) (λ _. h) (λ _. first-other cases e)
 
-  let-refusingBoth : (cases : List Case) (o : AfterBoth) → byBuffer (firstOf cases) ≡ false → Let (o .answer) → Let (refusingBoth cases σ g o .answer)
+  pub let-refusingBoth : (cases : List Case) (o : AfterBoth) → byBuffer (firstOf cases) ≡ false → Let (o .answer) → Let (refusingBoth cases σ g o .answer)
   unfolding refusingBoth
   let-refusingBoth cases o e h = cond-ind (λ (o : AfterBoth). Let (o .answer)) (firstOf cases == 0) (λ _. h) (λ _. e)
 
@@ -115,12 +115,10 @@ module _ (L : Limits) (σ : State) (g : List ℕ) where
   let-open n k e = let-refusingBoth _ _ (past-first _ LEDGER _ (ap not (eq-eqb (length g) (ledgerWords L) (ledgerForm L g e .long))) refl) refl
 
   let-release : (m : ℕ) → ledgerOk L g ≡ true → Let (stepRelease L σ g m .answer)
-  unfolding stepRelease release
+  unfolding stepRelease
   let-release m e =
       let-refusingBoth _ _ (past-first _ LEDGER _ (ap not e) refl)
-      (cond-ind (λ (o : AfterBoth). Let (o .answer)) (not (mayGo σ _ _)) (λ _. refl)
-      (λ _. cond-ind (λ (o : AfterBoth). Let (o .answer)) (not (forDesk σ _)) (λ _. refl)
-      (λ _. cond-ind (λ (o : AfterBoth). Let (o .answer)) (L .entries ≤? countOf g) (λ _. refl) (λ _. refl))))
+      (release-cases L σ g m (recordOf σ m) (λ o. Let (o .answer)) (λ _. refl) (λ _ _. refl) (λ _ _. refl) (λ _ _ _. refl))
 
   let-deliver : (m : ℕ) → Let (stepDeliver L σ m .answer)
   unfolding stepDeliver deliver intervalBegins
@@ -186,11 +184,15 @@ sound-opened t g n k e = record { table = opened t g n k (long e) e; ledger = bl
         (λ _. cond-ind (λ (o : AfterBoth). o .answer ≡ Done → ledgerOk house (o .ledger) ≡ true) (firstOf (openRefusals house g n k) == 0) (λ _ _. blank-sound house)
         (λ _. not-done (firstOf (openRefusals house g n k)))) (λ _. not-done LENGTH)
 
+-- a refusal that is none for a buffer
+pub buffers-fit : {a : Answer} {number : ℕ} → a ≡ Refused number → refusedByBuffer a ≡ false → (number ≢ LENGTH) × (number ≢ FORM) × (number ≢ LEDGER)
+buffers-fit {number = number} q through =
+    let none : byBuffer number ≡ false = ap refusedByBuffer (sym q) ∙ through in
+    let more = or-right (number == LENGTH) _ none in
+    (eqb-false number LENGTH (or-left (number == LENGTH) _ none), eqb-false number FORM (or-left (number == FORM) _ more), eqb-false number LEDGER (or-right (number == FORM) _ more))
+
 -- and no step is refused for one of them
 pub sound-let : (t g : List ℕ) (x : Command) (number : ℕ) → Sound t g → step t g x .answer ≡ Refused number → (number ≢ LENGTH) × (number ≢ FORM) × (number ≢ LEDGER)
 unfolding step lent
 sound-let t g x number s q =
-    let let-through : refusedByBuffer (step t g x .answer) ≡ false = rw (eq-eqb (length t) tableWords (s .table .long)) (let-step house (state t) g x (s .table .good) (s .ledger)) in
-    let none : byBuffer number ≡ false = ap refusedByBuffer (sym q) ∙ let-through in
-    let more = or-right (number == LENGTH) _ none in
-    (eqb-false number LENGTH (or-left (number == LENGTH) _ none), eqb-false number FORM (or-left (number == FORM) _ more), eqb-false number LEDGER (or-right (number == FORM) _ more))
+    buffers-fit q (rw (eq-eqb (length t) tableWords (s .table .long)) (let-step house (state t) g x (s .table .good) (s .ledger)))

@@ -295,9 +295,8 @@ pub record Releasable (σ : State) (r : ℕ) : Type 0 where
   pub sender-lt : σ (Sender r) < controllers
   pub near : Near (messageVector σ r)
 
+pub releasable-there : {σ : State} {r : ℕ} → Form house σ → r < used σ → Releasable σ r
+releasable-there {σ} {r} f l = let k = messageForm f r l in record { record-lt = omega (arith, f .used-le); sender-lt = below-8 f _ (k .sender-lt); near = k .vector .near }
+
 pub releasable : (t g : List ℕ) (r : ℕ) → Lent t → 0 ≡ firstOf (releaseRefusals house (state t) g r) → Releasable (state t) r
-releasable t g r l e =
-    let f = form house (state t) (l .good) in
-    let a = releaseAllowed house (state t) g r e .0 in
-    let k = messageForm f r (a .record-used) in
-    record { record-lt = omega (arith, f .used-le, a .record-used); sender-lt = below-8 f _ (k .sender-lt); near = k .vector .near }
+releasable t g r l e = releasable-there (form house (state t) (l .good)) (releaseAllowed house (state t) g r e .0 .record-used)

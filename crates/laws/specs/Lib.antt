@@ -7,8 +7,12 @@ pub mod Chain
 pub mod Found
 pub mod Answering
 pub mod Mask
+pub mod Bits
 pub mod Kept
+pub mod Releasing
 pub mod StepWords
 pub mod Fixed
 pub mod Beside
 pub mod Ledger
+pub mod Sets
+pub mod Together

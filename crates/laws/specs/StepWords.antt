@@ -10,14 +10,14 @@ use Rattle.base.specs.Choice.{_==_, _≤?_, _<?_, cond-ind}
 use Rattle.base.specs.Cases.{Case, firstOf}
 use Rattle.table.specs.Field.{Field, State, OfController, OfPlace, OfMessage, Known, End, Gap, Degree, Incarnation, LiveCount, StableCount, Flag, MessageState, wordOf, messageHead}
 use Rattle.table.specs.Change.{put, putPart, clearPlaces, putStates, put-ind, part-ind, clear-ind, states-ind}
-use Rattle.table.specs.Numbering.{numberOf}
+use Rattle.table.specs.Numbering.{numberOf, recordOf}
 use Rattle.rules.specs.Limits.{Limits, lastIncarnation}
 use Rattle.rules.specs.Vector.{Vector, messageVector, flat, condemned, conflict}
-use Rattle.rules.specs.Form.{inForm, forDesk, stateReleased, stateDelivered, stateDropped, statePublished}
-use Rattle.rules.specs.Ledger.{countOf}
+use Rattle.rules.specs.Form.{inForm, stateReleased, stateDelivered, stateDropped, statePublished}
 use Rattle.rules.specs.Shared.{logged, loggedTo, checkpointed, forced, capped, causedIn, offeredAgain, causesIn, causes, placed, entered, restarted, orphaned, heldOrDropped, dropHeld, startAnew, removed}
-use Rattle.rules.specs.Steps.{After, AfterBoth, refusing, refusingBoth, openHouse, stepOpen, stepDegree, sent, stepSend, letOut, mayGo, release, stepRelease, intervalAdded, intervalBegins, chainFull, deliver, stepDeliver, stepLog, stepCheckpoint, told, stepTell, crashed, stepCrash, noted, rolledBack, hear, stepHear, stepGap}
+use Rattle.rules.specs.Steps.{After, AfterBoth, refusing, refusingBoth, openHouse, stepOpen, stepDegree, sent, stepSend, letOut, stepRelease, intervalAdded, intervalBegins, chainFull, deliver, stepDeliver, stepLog, stepCheckpoint, told, stepTell, crashed, stepCrash, noted, rolledBack, hear, stepHear, stepGap}
 use Rattle.rules.specs.Step.{perform, looksAtForm, stepOn}
+use Rattle.laws.specs.Releasing.{release-cases}
 use Rattle.rules.specs.declared.Command.{Command}
 use Rattle.rules.specs.declared.Command.the-variants.{Open, SetDegree, Send, Release, Deliver, Log, Checkpoint, Tell, Crash, Hear, SetGap}
 
@@ -122,13 +122,11 @@ module _ (P : Field → ℕ → Type 0) (w : Writable P) where
 
     -- R
     every-release : (L : Limits) (g : List ℕ) (m : ℕ) → Every (stepRelease L σ g m .left)
-    unfolding stepRelease release
+    unfolding stepRelease
     every-release L g m =
         every-refusingBoth _ g _
-        (let kept : AfterBoth → Type 0 = λ o. Every (o .left) in
-        cond-ind kept (not (mayGo σ _ _)) (λ _. h)
-        (λ _. cond-ind kept (not (forDesk σ _)) (λ _. every-letOut _ stateReleased _ (w .released _) h)
-        (λ _. cond-ind kept (L .entries ≤? countOf g) (λ _. h) (λ _. every-letOut _ statePublished _ (w .published _) h))))
+        (release-cases L σ g m (recordOf σ m) (λ o. Every (o .left)) (λ _. h) (λ _ _. every-letOut _ stateReleased _ (w .released _) h) (λ _ _. h)
+        (λ _ _ _. every-letOut _ statePublished _ (w .published _) h))
 
     -- D
     every-deliver : (L : Limits) (m : ℕ) → Every (stepDeliver L σ m .left)

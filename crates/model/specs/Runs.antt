@@ -9,26 +9,20 @@ use native.Mathlib.Omega.{arith}
 use lib.Count.{ones}
 use lib.Pow.{shr-le}
 use Rattle.rules.specs.Step.{step, Call, asks, stepCall}
-use Rattle.rules.specs.declared.Answer.{Answer}
-use Rattle.rules.specs.declared.Answer.the-variants.{Done, Released}
-use Rattle.rules.specs.declared.Command.the-variants.{Open, Release, Hear}
+use Rattle.rules.specs.declared.Answer.the-variants.{Done}
+use Rattle.rules.specs.declared.Command.{Command}
+use Rattle.rules.specs.declared.Command.the-variants.{Open, Hear}
 use Rattle.history.specs.History.{member}
-use Rattle.history.specs.Demand.{Run, callIn, stepIn, next, runs, justOpened, Accepted, RestsOnLost, named, FromOpening, Demand3}
+use Rattle.history.specs.Demand.{Run, callIn, stepIn, next, runs, justOpened, Accepted, RestsOnLost, named, LetsGo, FromOpening, Demand3}
+use Rattle.calls.specs.Sets.{runs-append}
+use Rattle.calls.specs.Made.{NoDoneOpening, NotDone, PartOf, call-ind, part-not-done}
 use Rattle.model.specs.Model.{Model, openModel}
-use Rattle.model.specs.Tests.{Is}
+use Rattle.model.specs.Tests.{Is, contrary, fails}
 use Rattle.model.specs.Invariant.{Inv}
 use Rattle.model.specs.Keeping.{Keeps, keeps-refl, keeps-trans}
-use Rattle.model.specs.Steps.{LetsOut}
+use Rattle.model.specs.Steps.{LetUnder}
 use Rattle.model.specs.Opening.{inv-opened}
 use Rattle.model.specs.Consequences.{live-clean, hearing-exact, release-degree, release-covers, unnamed-stays}
-
--- a call with this answer is not an opening that is done
-abbrev pub NoDoneOpening : Call → Answer → Type 0
-NoDoneOpening x a = (size degree : ℕ) → x ≡ asks (Open size degree) → a ≢ Done
-
--- nor is call x in a run
-abbrev pub NotDone : Run → Call → Type 0
-NotDone r x = NoDoneOpening x (callIn r x .answer)
 
 -- A run of a house of n controllers is read as a model: `Reads` tells which.
 module _ (n : ℕ) (Reads : Run → Model → Type 0) where
@@ -43,18 +37,12 @@ module _ (n : ℕ) (Reads : Run → Model → Type 0) where
     pub holds : Holds r′
     pub keeps : Keeps n (s .model) (r .history) (holds .model) (r′ .history)
 
-  -- A house just opened is read as the model just opened, and one call leads on, unless it is an opening that is done.
+  -- A house just opened is read as the model just opened, and one step leads on, unless it is an opening that is done.
   pub record Follows : Type 0 where
     pub open-reads : (t g : List ℕ) (k : ℕ) → step t g (Open n k) .answer ≡ Done → Reads (justOpened t g n k) (openModel n k)
-    pub call-keeps : {r : Run} (s : Holds r) (x : Call) → NotDone r x → Later s (next x r)
+    pub step-keeps : {r : Run} (s : Holds r) (x : Command) → NoDoneOpening x (stepIn r x .answer) → Later s (next (asks x) r)
     pub hearer-below : {r : Run} (s : Holds r) (hearer crashed i : ℕ) → Accepted (stepIn r (Hear hearer crashed i) .answer) → hearer < n
-    pub lets-out : {r : Run} (s : Holds r) (m echoed mask : ℕ) → stepIn r (Release m) .answer ≡ Released echoed mask → LetsOut (s .model) m mask
-
--- runs of a list in two parts
-pub runs-append : (r : Run) (l l′ : List Call) → runs r (l ++ l′) ≡ runs (runs r l) l′
-unfolding runs
-runs-append r [] l′ = refl
-runs-append r (x ∷ l) l′ = runs-append (next x r) l l′
+    pub lets-out : {r : Run} (s : Holds r) (x : Call) (m mask : ℕ) → LetsGo x (callIn r x .answer) m mask → LetUnder (s .model) m mask
 
 -- no opening in a list is done
 abbrev pub NoOpening : Run → List Call → Type 0
@@ -91,17 +79,25 @@ runs-ind P (x ∷ l) r p s = runs-ind P l (next x r) (s [] x l refl p) (λ befor
 unnamed : (mask a : ℕ) → mask ≡ 0 → named mask a ≡ false
 unnamed mask a e = let z : mask / 2 ^ a ≡ 0 = omega (arith, shr-le mask a) in rw z
 
--- what is later than a later run
+-- a run is later than itself, and what is later than a later run is later
+later-refl : {n : ℕ} {Reads : Run → Model → Type 0} {r : Run} (s : Holds n Reads r) → Later n Reads s r
+later-refl s = record { holds = s; keeps = keeps-refl (s .inv) }
+
 later-trans : {n : ℕ} {Reads : Run → Model → Type 0} {r r′ r″ : Run} {s : Holds n Reads r} (p : Later n Reads s r′) → Later n Reads (p .holds) r″ → Later n Reads s r″
 later-trans p q = record { holds = q .holds; keeps = keeps-trans (p .keeps) (q .keeps) }
 
 module _ {n : ℕ} {Reads : Run → Model → Type 0} (F : Follows n Reads) where
+  -- a call, which is made of steps
+  pub call-keeps : {r : Run} (s : Holds n Reads r) (x : Call) → NotDone r x → Later n Reads s (next x r)
+  call-keeps {r} s x unopened =
+      call-ind (Later n Reads s) r x (later-refl s) (λ q y p l. later-trans l (F .step-keeps (l .holds) y (part-not-done p unopened)))
+
   -- a list of calls
   pub runs-keep : (l : List Call) {r : Run} (s : Holds n Reads r) → NoOpening r l → Later n Reads s (runs r l)
   unfolding runs
-  runs-keep [] s unopened = record { holds = s; keeps = keeps-refl (s .inv) }
+  runs-keep [] s unopened = later-refl s
   runs-keep (x ∷ l) {r} s unopened =
-      let one = F .call-keeps s x (not-done r x l unopened) in
+      let one = call-keeps s x (not-done r x l unopened) in
       later-trans one (runs-keep l (one .holds) (λ before after size degree e. unopened (x ∷ before) after size degree (ap (λ z. x ∷ z) e)))
 
   module _ (t g : List ℕ) (k : ℕ) where
@@ -117,6 +113,13 @@ module _ {n : ℕ} {Reads : Run → Model → Type 0} (F : Follows n Reads) wher
       pub rest : Later n Reads (one .holds) (runs start (before ++ x ∷ after))
       pub all : Later n Reads holds (runs start (before ++ x ∷ after))
 
+    -- step y, in the run q, is one of those of call x in the list: the invariant holds of q, and what the step keeps
+    pub record AtStep (before : List Call) (x : Call) (q : Run) (y : Command) : Type 0 where
+      pub part : PartOf (runs start before) x q y
+      pub holds : Holds n Reads q
+      pub unopened : NoDoneOpening y (stepIn q y .answer)
+      pub one : Later n Reads holds (next (asks y) q)
+
     module _ (done : step t g (Open n k) .answer ≡ Done) where
       -- the invariant holds of it
       pub start-holds : Holds n Reads start
@@ -130,7 +133,7 @@ module _ {n : ℕ} {Reads : Run → Model → Type 0} (F : Follows n Reads) wher
           let s = runs-keep before start-holds (no-opening-before start before (x ∷ after) unopened) .holds in
           let after-unopened = no-opening-after start before (x ∷ after) unopened in
           let first = not-done (runs start before) x after after-unopened in
-          let one = F .call-keeps s x first in
+          let one = call-keeps s x first in
           let rest = runs-keep after (one .holds) (λ p q size degree e. after-unopened (x ∷ p) q size degree (ap (λ z. x ∷ z) e)) in
           let rest′ = subst (Later n Reads (one .holds)) (sym (runs-append start before (x ∷ after))) rest in
           record { holds = s; unopened = first; one = one; rest = rest′; all = later-trans one rest′ }
@@ -151,16 +154,19 @@ module _ {n : ℕ} {Reads : Run → Model → Type 0} (F : Follows n Reads) wher
           subst (Later n Reads (part before rest e)) (sym (ap (runs start) e ∙ runs-append start before rest))
           (runs-keep rest (part before rest e) (no-opening-after start before rest (subst (NoOpening start) e (O .no-opening))))
 
-      -- A fact that holds of the house just opened, and that each call of the list keeps, holds after each first part of the list.
-      -- At a call its invariant is at hand, that it is no done opening, and what it keeps (`AtCall`).
+      -- A fact that holds of the house just opened, and that each step of each call of the list keeps, holds after each first part of the list.
+      -- At a step its invariant is at hand, that it is no done opening, and what it keeps (`AtStep`).
       pub along : (P : Run → Type 0) → P start →
-          ((before : List Call) (x : Call) (after : List Call) → l ≡ before ++ x ∷ after → AtCall before x after →
-          P (runs start before) → P (next x (runs start before))) →
+          ((before : List Call) (x : Call) (after : List Call) → l ≡ before ++ x ∷ after → (q : Run) (y : Command) → AtStep before x q y → P q → P (next (asks y) q)) →
           (before rest : List Call) → l ≡ before ++ rest → P (runs start before)
       along P p keeps before rest e =
           runs-ind P before start p
-          (λ first x after d. let f : l ≡ first ++ x ∷ (after ++ rest) = e ∙ ap (λ z. z ++ rest) d ∙ append-assoc first (x ∷ after) rest in
-          keeps first x (after ++ rest) f (in-list first x (after ++ rest) f))
+          (λ first x after d w. let f : l ≡ first ++ x ∷ (after ++ rest) = e ∙ ap (λ z. z ++ rest) d ∙ append-assoc first (x ∷ after) rest in
+          let c = in-list first x (after ++ rest) f in
+          call-ind (λ q. Later n Reads (c .holds) q × P q) (runs start first) x (later-refl (c .holds), w)
+          (λ q y part so-far. let unopened = part-not-done part (c .unopened) in
+          let one = F .step-keeps (so-far .0 .holds) y unopened in
+          (later-trans (so-far .0) one, keeps first x (after ++ rest) f q y (record { part = part; holds = so-far .0 .holds; unopened = unopened; one = one }) (so-far .1))) .1)
 
       -- at its end
       pub at-end : Holds n Reads (runs start l)
@@ -178,23 +184,23 @@ module _ {n : ℕ} {Reads : Run → Model → Type 0} (F : Follows n Reads) wher
               subst (λ z. (member y (then .chain hearer) ≡ false) ↔ RestsOnLost (runs start z .history) then hearer y) (sym e)
               (hearing-exact (s .holds .inv) (s .one .keeps) (s .rest .keeps .ext) hearer below y live);
           live = λ c below y. live-clean (at-end l O .inv) c below y;
-          degrees = λ before after m echoed mask e released.
-              let s = in-list l O before (asks (Release m)) after e .holds in
-              let o = F .lets-out s m echoed mask released in
+          degrees = λ before after x m mask e goes.
+              let s = in-list l O before x after e .holds in
+              let o = F .lets-out s x m mask goes in
               subst (λ d. ones mask ≤ d) (sym (release-degree (s .inv) m (o .pos) (o .sent))) (o .within);
-          releases = λ before after m echoed mask e released y crash rests unstable lost.
-              let s = in-list l O before (asks (Release m)) after e in
-              let o = F .lets-out (s .holds) m echoed mask released in
+          releases = λ before after x m mask e goes y crash rests unstable lost.
+              let s = in-list l O before x after e in
+              let o = F .lets-out (s .holds) x m mask goes in
               let r = subst (λ z. Is (runs start z .history .rests (runs start z .history .sending m) y)) e rests in
               let c = release-covers (s .holds .inv) m (o .pos) (o .sent) (s .all .keeps .ext) (s .all .keeps .sending-same m (o .sent)) y r unstable in
-              o .names (y .owner) ∙ c .1;
-          published = λ before after m echoed mask e released desk.
-              let s = in-list l O before (asks (Release m)) after e in
+              o .covers (y .owner) (c .1);
+          published = λ before after x m mask e goes desk.
+              let s = in-list l O before x after e in
               let v = s .holds .inv in
-              let o = F .lets-out (s .holds) m echoed mask released in
+              let o = F .lets-out (s .holds) x m mask goes in
               let zero = o .desk-none (sym (v .message-ok m (o .pos) (o .sent) .receiver-is) ∙ desk) in
               let y = runs start before .history .sending m in
-              let (live, kept) = unnamed-stays v m (o .pos) (o .sent) (λ a. sym (o .names a) ∙ unnamed mask a zero) (s .all .keeps) in
+              let (live, kept) = unnamed-stays v m (o .pos) (o .sent) (λ a. fails _ (λ is. contrary (o .covers a is) (unnamed mask a zero))) (s .all .keeps) in
               subst (λ z. (mask ≡ 0) × Is (member y (runs start z .history .chain (y .owner))) × ((crash : ℕ) → runs start z .history .lost y crash ≡ false)) (sym e)
               (zero, live, kept);
         }

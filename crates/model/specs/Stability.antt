@@ -7,9 +7,10 @@ use mathlib.Core.Logic.{_⊎_, inl, inr, ⊎-elim}
 use Prim.Native.Nat.{ℕ, zero, suc, _-_}
 use lib.ListN.{length, drop}
 use Rattle.base.specs.Choice.{_≤?_, cond-ind}
-use Rattle.rules.specs.Step.{Call, asks}
+use Rattle.rules.specs.Step.{Call}
 use Rattle.rules.specs.declared.Answer.{Answer}
 use Rattle.rules.specs.declared.Answer.the-variants.{Done, Sent, Delivered, Crashed, Heard, Rolled}
+use Rattle.rules.specs.declared.Command.{Command}
 use Rattle.rules.specs.declared.Command.the-variants.{Open, SetDegree, Send, Release, Deliver, Log, Checkpoint, Tell, Crash, Hear, SetGap}
 use Rattle.history.specs.History.{Interval, interval, History, changedAt, member, those, oldest, degreeSet, sentFrom, joined, leaving, stabilized, hearing, losing, gapSet, flagging, opening, logging, checkpointing, forcedAt, capping, beginning, delivering, restarting, crashing, rollingBack, answers, fedStep, fed}
 use Rattle.history.specs.Demand.{Run, next, justOpened, FromOpening, upTo}
@@ -221,21 +222,21 @@ unfolding hearing
 hearing-secures h b crashed i k own = let s = rolling-secures (hearing h b crashed i) b own k in record { newly = s .newly; owned = s .owned }
 
 -- What becomes stable in a step is live after it, whatever the step and its answer.
-pub fed-secures : (x : Call) (a : Answer) (h : History) → ((c : ℕ) → Owned h c) → Secures h (fed x a h)
-unfolding fed fedStep degreeSet sentFrom hearing gapSet
-fed-secures (asks (Open n k)) a h own = secures-if (answers a Done) (opening-secures h n k)
-fed-secures (asks (SetDegree c k)) a h own = secures-if (answers a Done) (secures-same h _ refl refl)
-fed-secures (asks (Send s r p)) a h own = secures-if (answers a (Sent 0)) (secures-same h _ refl refl)
-fed-secures (asks (Release m)) a h own = secures-same h h refl refl
-fed-secures (asks (Deliver m)) a h own = secures-if (answers a (Delivered 0 0 0)) (delivering-secures h m (own (h .receiver m)))
-fed-secures (asks (Log c q)) a h own = secures-if (answers a Done) (logging-secures h c (own c) q)
-fed-secures (asks (Checkpoint c)) a h own = secures-if (answers a Done) (checkpointing-secures h c (own c))
-fed-secures (asks (Tell teller told)) a h own = secures-same h h refl refl
-fed-secures (asks (Crash c)) a h own = secures-if (answers a (Crashed 0 0 0 0 0)) (crashing-secures h c (own c))
-fed-secures (asks (Hear b crashed i)) a h own =
+pub fed-secures : (x : Command) (a : Answer) (h : History) → ((c : ℕ) → Owned h c) → Secures h (fedStep x a h)
+unfolding fedStep degreeSet sentFrom hearing gapSet
+fed-secures (Open n k) a h own = secures-if (answers a Done) (opening-secures h n k)
+fed-secures (SetDegree c k) a h own = secures-if (answers a Done) (secures-same h _ refl refl)
+fed-secures (Send s r p) a h own = secures-if (answers a (Sent 0)) (secures-same h _ refl refl)
+fed-secures (Release m) a h own = secures-same h h refl refl
+fed-secures (Deliver m) a h own = secures-if (answers a (Delivered 0 0 0)) (delivering-secures h m (own (h .receiver m)))
+fed-secures (Log c q) a h own = secures-if (answers a Done) (logging-secures h c (own c) q)
+fed-secures (Checkpoint c) a h own = secures-if (answers a Done) (checkpointing-secures h c (own c))
+fed-secures (Tell teller told) a h own = secures-same h h refl refl
+fed-secures (Crash c) a h own = secures-if (answers a (Crashed 0 0 0 0 0)) (crashing-secures h c (own c))
+fed-secures (Hear b crashed i) a h own =
     cond-ind (Secures h) (answers a (Heard 0)) (λ e. secures-same h _ refl refl)
     (λ e. secures-if (answers a (Rolled 0 0 0 0)) (hearing-secures h b crashed i _ (own b)))
-fed-secures (asks (SetGap q)) a h own = secures-if (answers a Done) (secures-same h _ refl refl)
+fed-secures (SetGap q) a h own = secures-if (answers a Done) (secures-same h _ refl refl)
 
 -- "Lemma A.1. (s → w ∧ s.p = w.p ∧ stable(w)) ⇒ stable(s)." Of every w, live or not:
 abbrev pub StableDown : History → Type 0
@@ -259,9 +260,9 @@ stable-down-keeps {n} {μ} {μ′} {h} {h′} v keeps newly down w s z r e = ⊎
 -- and so it holds at all times in a list from an opening: after each first part of it
 module _ {n : ℕ} {Reads : Run → Model → Type 0} (F : Follows n Reads) (t g : List ℕ) (k : ℕ) (l : List Call) (O : FromOpening t g n k l) where
   pub lemma-A-1-always : (before rest : List Call) → l ≡ before ++ rest → StableDown (upTo t g n k before .history)
-  unfolding justOpened next
+  unfolding justOpened next fed
   lemma-A-1-always before rest e =
       along F t g k l O (λ r. ((c : ℕ) → Owned (r .history) c) × StableDown (r .history)) (opening-owned n k, stable-down-opened n k)
-      (λ first x after f s p. let step = fed-secures x _ _ (p .0) in
+      (λ first x after f q y s p. let step = fed-secures y _ _ (p .0) in
       (λ c. step .owned c (p .0 c), stable-down-keeps (s .holds .inv) (s .one .keeps) (step .newly) (p .1)))
       before rest e .1

@@ -35,6 +35,18 @@ pub record LetsOut (μ : Model) (m mask : ℕ) : Type 0 where
   pub names : (a : ℕ) → named mask a ≡ full (releasedVec μ m a)
   pub desk-none : μ .message m .to ≡ desk → mask ≡ 0
 
+-- What a call counts on that lets message m out and shows this mask, be it a release, which names just those whose pairs are left, or a set, which
+-- names all of these.
+pub record LetUnder (μ : Model) (m mask : ℕ) : Type 0 where
+  pub pos : 1 ≤ m
+  pub sent : m ≤ μ .sent
+  pub within : ones mask ≤ μ .controller (μ .message m .from .owner) .degree
+  pub covers : (a : ℕ) → Is (full (releasedVec μ m a)) → Is (named mask a)
+  pub desk-none : μ .message m .to ≡ desk → mask ≡ 0
+
+pub let-under : {μ : Model} {m mask : ℕ} → LetsOut μ m mask → LetUnder μ m mask
+let-under o = record { pos = o .pos; sent = o .sent; within = o .within; covers = λ a e. o .names a ∙ e; desk-none = o .desk-none }
+
 module _ {n : ℕ} {μ : Model} {h : History} (v : Inv n μ h) where
   -- K: only the degree of c changes
   pub keeps-degree : (c d : ℕ) → c < n → Keeps n μ h (putController μ c (degreeController (μ .controller c) d)) (degreeSet h c d)

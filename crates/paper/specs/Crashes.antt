@@ -1,8 +1,8 @@
 -- The crashes of a list: what is lost at its end was lost in one of them, so that a controller that has heard them all has heard of every
 -- loss; and those that it hasn't heard it can hear.
-use mathlib.Core.Path.{_≡_, refl, sym, _∙_, subst}
+use mathlib.Core.Path.{_≡_, refl, sym, ap, _∙_, subst}
 use mathlib.Core.Bool.{Bool}
-use mathlib.Core.Logic.{_⊎_, inl, inr, ⊎-elim}
+use mathlib.Core.Logic.{_≢_, _⊎_, inl, inr, ⊎-elim}
 use mathlib.Core.List.{List, [], _∷_, _++_, append-nil}
 use Prim.Native.Nat.{ℕ, _≤_, _<_}
 use native.Mathlib.Omega.{arith}
@@ -13,16 +13,18 @@ use Rattle.rules.specs.Report.{report}
 use Rattle.rules.specs.Step.{Call, asks, stepCall}
 use Rattle.rules.specs.declared.Answer.{Answer}
 use Rattle.rules.specs.declared.Answer.the-variants.{Crashed}
-use Rattle.rules.specs.declared.Command.the-variants.{Crash, Hear}
+use Rattle.rules.specs.declared.Command.{Command}
+use Rattle.rules.specs.declared.Command.the-variants.{Release, Crash, Hear}
 use Rattle.history.specs.History.{Interval, History, member, joined, leaving, stabilized, hearing, losing, flagging, degreeSet, sentFrom, gapSet, delivering, logging, checkpointing, beginning, restarting, crashing, rollingBack, opening, answers, fedStep, fed}
-use Rattle.history.specs.Demand.{callIn, stepIn, next, justOpened, RestsOnLost, FromOpening, upTo, end}
+use Rattle.history.specs.Demand.{stepIn, next, justOpened, RestsOnLost, FromOpening, upTo, end}
 use Rattle.history.specs.Progress.{Orphan, CrashIn, HasHeard, CanHear}
 use Rattle.model.specs.Model.{Model, aboveLatest}
 use Rattle.model.specs.Tests.{Is, contrary}
 use Rattle.model.specs.Invariant.{Inv}
 use Rattle.model.specs.Hearing.{hearing-cases, hearing-new}
 use Rattle.model.specs.Recovery.{HearsOf, hears-other}
-use Rattle.model.specs.Runs.{NoDoneOpening, in-list, along, at-end}
+use Rattle.calls.specs.Made.{NoDoneOpening, part-itself}
+use Rattle.model.specs.Runs.{in-list, along, at-end}
 use Rattle.model.specs.Consequences.{unheard-end}
 use Rattle.image.specs.Reads.{incarnation-is, ends-is}
 use Rattle.image.specs.Outcome as O
@@ -43,18 +45,18 @@ restarted-heard h c = capped-heard _ c
 heard-in : {f f′ : ℕ → ℕ → ℕ → Bool} (c i : ℕ) → f ≡ f′ → Is (f c c i) → Is (f′ c c i)
 heard-in c i e = subst (λ (f : ℕ → ℕ → ℕ → Bool). Is (f c c i)) e
 
--- the call is the crash that ended incarnation i of c
-data Ended : Call → Answer → ℕ → ℕ → Type 0 where
-  ended : (c echoed i kept lost replayed : ℕ) → Ended (asks (Crash c)) (Crashed echoed i kept lost replayed) c i
+-- the step is the crash that ended incarnation i of c
+data Ended : Command → Answer → ℕ → ℕ → Type 0 where
+  ended : (c echoed i kept lost replayed : ℕ) → Ended (Crash c) (Crashed echoed i kept lost replayed) c i
 
 -- a hearing is of another controller's crash
 not-own : {n : ℕ} {μ : Model} (h : History) {b a i′ : ℕ} → HearsOf n μ b a i′ → (c i : ℕ) → Is (hearing h b a i′ .heard c c i) → Is (h .heard c c i)
 not-own h {b} {a} {i′} w c i z = ⊎-elim (λ g. g) (λ g. absurd (hears-other w (sym (g .0) ∙ g .1))) (hearing-cases h b a i′ c c i z)
 
--- a call marks a crash as heard by its own controller only if it is that crash
-heard-own : {n : ℕ} {μ : Model} {h : History} {x : Call} {y : Answer} {j : ℕ} {μ′ : Model} → Inv n μ h → Outcome n μ x y j μ′ → NoDoneOpening x y →
-    (c i : ℕ) → Is (fed x y h .heard c c i) → Is (h .heard c c i) ⊎ Ended x y c i
-unfolding fed fedStep answers report joined stabilized flagging degreeSet sentFrom gapSet delivering beginning logging checkpointing crashing leaving losing rollingBack
+-- a step marks a crash as heard by its own controller only if it is that crash
+heard-own : {n : ℕ} {μ : Model} {h : History} {x : Command} {y : Answer} {j : ℕ} {μ′ : Model} → Inv n μ h → Outcome n μ x y j μ′ → NoDoneOpening x y →
+    (c i : ℕ) → Is (fedStep x y h .heard c c i) → Is (h .heard c c i) ⊎ Ended x y c i
+unfolding fedStep answers report joined stabilized flagging degreeSet sentFrom gapSet delivering beginning logging checkpointing crashing leaving losing rollingBack
 heard-own {h = h} v (O.refused x number) o c i z = inl (subst (λ (q : History). Is (q .heard c c i)) (fed-refused x number h) z)
 heard-own v (O.opened j k p q r) o c i z = absurd (o j k refl refl)
 heard-own v (O.degree-set d k p q) o c i z = inl z
@@ -72,8 +74,8 @@ heard-own {μ = μ} {h} v (O.crashed d lost l) o c i z =
     (λ g. let k = μ .controller d in
     let answer : ℕ → Answer = λ u. Crashed d u (k .stable) lost (aboveLatest k (k .stable)) in
     let is : i ≡ k .incarnation = g .2 ∙ v .controller-ok d l .shape .incarnation-is in
-    inr (subst (λ b. Ended (asks (Crash d)) (answer (k .incarnation)) b i) (sym (g .0))
-    (subst (λ u. Ended (asks (Crash d)) (answer (k .incarnation)) d u) (sym is) (ended d d (k .incarnation) (k .stable) lost (aboveLatest k (k .stable))))))
+    inr (subst (λ b. Ended (Crash d) (answer (k .incarnation)) b i) (sym (g .0))
+    (subst (λ u. Ended (Crash d) (answer (k .incarnation)) d u) (sym is) (ended d d (k .incarnation) (k .stable) lost (aboveLatest k (k .stable))))))
     (hearing-cases (losing h d) d d (h .incarnation d) c c i (heard-in c i (restarted-heard _ d) z))
 heard-own {h = h} v (O.heard b a u w y) o c i z = inl (not-own h w c i z)
 heard-own {h = h} v (O.rolled b a u j undone w y) o c i z = inl (not-own h w c i (heard-in c i (restarted-heard _ b) z))
@@ -81,28 +83,33 @@ heard-own v (O.gap-set q l) o c i z = inl z
 
 -- and that crash marks it
 crash-marks : {n : ℕ} {μ : Model} {h : History} {c echoed i kept lost replayed j : ℕ} {μ′ : Model} → Inv n μ h →
-    Outcome n μ (asks (Crash c)) (Crashed echoed i kept lost replayed) j μ′ → (c < n) × Is (fed (asks (Crash c)) (Crashed echoed i kept lost replayed) h .heard c c i)
-unfolding fed fedStep answers report crashing leaving
+    Outcome n μ (Crash c) (Crashed echoed i kept lost replayed) j μ′ → (c < n) × Is (fedStep (Crash c) (Crashed echoed i kept lost replayed) h .heard c c i)
+unfolding fedStep answers report crashing leaving
 crash-marks {h = h} v (O.crashed c lost l) =
     let marked = heard-in c (h .incarnation c) (sym (restarted-heard _ c)) (hearing-new (losing h c) c c (h .incarnation c)) in
     (l, subst (λ i. Is (crashing h c .heard c c i)) (v .controller-ok c l .shape .incarnation-is) marked)
 
 module _ (t g : List ℕ) (n k : ℕ) (l : List Call) where
-  -- a call of the list that is a crash
-  crash-in : (before after : List Call) {x : Call} {a : Answer} {c i : ℕ} → Ended x a c i → l ≡ before ++ x ∷ after → callIn (upTo t g n k before) x .answer ≡ a →
+  -- a step of the list that is a crash
+  crash-in : (before after : List Call) {x : Command} {a : Answer} {c i : ℕ} → Ended x a c i → l ≡ before ++ asks x ∷ after → stepIn (upTo t g n k before) x .answer ≡ a →
       CrashIn t g n k l c i
-  unfolding stepCall
   crash-in before after (ended c echoed i kept lost replayed) e answer =
       record { before = before; after = after; echoed = echoed; kept = kept; lost = lost; replayed = replayed; is-in = e; answer = answer }
+
+  -- it releases nothing
+  no-release : {x : Command} {a : Answer} {c i : ℕ} → Ended x a c i → (m : ℕ) → x ≢ Release m
+  no-release (ended c echoed i kept lost replayed) m e = absurd (let z : _≡_ {A = ℕ} 0 1 = cc in omega arith)
 
   module _ (O : FromOpening t g n k l) where
     -- a crash that its own controller has heard is in the list
     own-crash : (c i : ℕ) → Is (end t g n k l .heard c c i) → CrashIn t g n k l c i
-    unfolding justOpened opening next
+    unfolding justOpened opening next stepCall fed
     own-crash =
         along (follows n) t g k l O (λ r. (c i : ℕ) → Is (r .history .heard c c i) → CrashIn t g n k l c i) (λ c i z. contrary z refl)
-        (λ before x after e s all c i z.
-        ⊎-elim (all c i) (λ d. crash-in before after d e refl) (heard-own (s .holds .inv) (outcome x (s .holds .reads)) (s .unopened) c i z))
+        (λ before x after e q y s all c i z.
+        ⊎-elim (all c i) (λ d. let (call-is, here) = part-itself (s .part) (no-release d) in
+        crash-in before after d (e ∙ ap (λ x. before ++ x ∷ after) call-is) (ap (λ r. stepIn r y .answer) (sym here)))
+        (heard-own (s .holds .inv) (outcome y (s .holds .reads)) (s .unopened) c i z))
         l [] (sym (append-nil l))
 
     -- so what is lost at the end was lost in a crash of the list
@@ -124,15 +131,15 @@ module _ (t g : List ℕ) (n k : ℕ) (l : List Call) where
 
     -- a crash in the list is heard at its end by its own controller, which is one of the house
     crash-noted : (c i : ℕ) → CrashIn t g n k l c i → (c < n) × Is (end t g n k l .heard c c i)
-    unfolding next stepCall
+    unfolding next stepCall fed
     crash-noted c i d =
-        let x = asks (Crash c) in
+        let x = Crash c in
         let r = upTo t g n k (d .before) in
-        let s = in-list (follows n) t g k l O (d .before) x (d .after) (d .is-in) in
-        let u = callIn r x .table in
+        let s = in-list (follows n) t g k l O (d .before) (asks x) (d .after) (d .is-in) in
+        let u = stepIn r x .table in
         let (below, marked) = crash-marks (s .holds .inv) (subst (λ a. Outcome n (s .holds .model) x a (sizeOf u) (modelOf u)) (d .answer) (outcome x (s .holds .reads))) in
-        let now : Is (next x r .history .heard c c i) =
-        subst (λ a. Is (fed x a (r .history) .heard c c i)) (sym (d .answer)) marked in
+        let now : Is (next (asks x) r .history .heard c c i) =
+        subst (λ a. Is (fedStep x a (r .history) .heard c c i)) (sym (d .answer)) marked in
         (below, subst (λ z. Is (end t g n k z .heard c c i)) (sym (d .is-in)) (s .rest .keeps .ext .heard-stays c c i now))
 
     -- so b can hear it, unless it must undo in the last incarnation

@@ -2,7 +2,7 @@
 -- discarded as an orphan, or let out before, and its release is refused for its state.
 use mathlib.Core.Path.{_≡_, refl, sym, _∙_, ap, subst}
 use mathlib.Core.List.{List, [], _∷_, _++_, append-nil}
-use mathlib.Core.Logic.{_≢_, inl, inr, ⊎-elim}
+use mathlib.Core.Logic.{inl, inr, ⊎-elim}
 use Prim.Native.Nat.{ℕ, _+_, _≤_, _<_}
 use native.Mathlib.Omega.{arith}
 use Rattle.base.specs.Choice.{_<?_, cond-ind, le?}
@@ -14,10 +14,11 @@ use Rattle.rules.specs.Refusal.{STATE}
 use Rattle.rules.specs.Form.{stateHeld}
 use Rattle.rules.specs.Step.{step, Call, asks, stepCall}
 use Rattle.rules.specs.declared.Answer.{Answer}
-use Rattle.rules.specs.declared.Answer.the-variants.{Done, Refused}
-use Rattle.rules.specs.declared.Command.the-variants.{Open, Release}
-use Rattle.history.specs.History.{Interval, interval, History}
-use Rattle.history.specs.Demand.{Run, stepIn, next, FromOpening, upTo}
+use Rattle.rules.specs.declared.Answer.the-variants.{Refused}
+use Rattle.rules.specs.declared.Command.{Command}
+use Rattle.rules.specs.declared.Command.the-variants.{Release}
+use Rattle.history.specs.History.{Interval, interval, History, fed}
+use Rattle.history.specs.Demand.{Run, stepIn, next, justOpened, FromOpening, upTo}
 use Rattle.history.specs.Progress.{SentIn, SendingLive}
 use Rattle.model.specs.Model.{Controller, Message, Model, degreeController, logController, loggedController, tellController, endController, noteController, anewController, gapModel, sendMessage, putMessage, releaseMessage}
 use Rattle.model.specs.Tests.{changedAt-same}
@@ -25,7 +26,8 @@ use Rattle.model.specs.Invariant.{Inv, some-live}
 use Rattle.model.specs.Consequences.{chain-live}
 use Rattle.model.specs.Recovery.{notedController}
 use Rattle.model.specs.Lasting.{Lasts, LastsIn, lasts-same, unchanged, lasts-checkpoint, lasts-begun, lasts-anew, lasts-put, lasts-capped, LiveIn, SparedIn, stays-live}
-use Rattle.model.specs.Runs.{NoDoneOpening, AtCall, along}
+use Rattle.calls.specs.Made.{NoDoneOpening}
+use Rattle.model.specs.Runs.{AtStep, along}
 use Rattle.image.specs.Reads.{present-sent, incarnation-is, live-is}
 use Rattle.image.specs.Outcome as O
 use Rattle.image.specs.Outcome.{Outcome}
@@ -34,12 +36,13 @@ use Rattle.progress.specs.Held.{Spared}
 use Rattle.progress.specs.Tables.{same-record, held-before}
 use Rattle.progress.specs.Answers.{release-refused}
 use Rattle.demand.specs.Demanded.{table-inv, table-outcome, follows}
-use Rattle.demand.specs.InForm.{sound-after}
+use Rattle.keeping.specs.Unrefused.{Sound, sound-opened}
+use Rattle.demand.specs.InForm.{sound-next, sound-after}
 use Rattle.paper.specs.Ready.{stateOfMessage, sent-there}
 use Rattle.paper.specs.Holding.{Sends, sends, just-sent, same-sending, sending-is, begun, none-there}
 
--- a call leaves the live intervals of a controller whose incarnation stays, and those below its new one where it starts anew
-lasts : {n : ℕ} {μ : Model} {x : Call} {a : Answer} {j : ℕ} {μ′ : Model} → Outcome n μ x a j μ′ → NoDoneOpening x a → LastsIn μ μ′
+-- a step leaves the live intervals of a controller whose incarnation stays, and those below its new one where it starts anew
+lasts : {n : ℕ} {μ : Model} {x : Command} {a : Answer} {j : ℕ} {μ′ : Model} → Outcome n μ x a j μ′ → NoDoneOpening x a → LastsIn μ μ′
 unfolding degreeController logController tellController endController noteController anewController gapModel sendMessage putMessage releaseMessage
 lasts {μ = μ} (O.refused x number) o = unchanged μ
 lasts (O.opened j k p q r) o = absurd (o j k refl refl)
@@ -67,7 +70,7 @@ record FromNewest (n : ℕ) (μ : Model) (m : ℕ) : Type 0 where
   below : sender < n
   from-is : let k = μ .controller sender in μ .message m .from ≡ interval sender (k .begunIn (k .live)) (k .live)
 
-from-newest : {n : ℕ} {μ : Model} {x : Call} {a : Answer} {m j : ℕ} {μ′ : Model} → Sends x a m → Outcome n μ x a j μ′ → FromNewest n μ′ m
+from-newest : {n : ℕ} {μ : Model} {x : Command} {a : Answer} {m j : ℕ} {μ′ : Model} → Sends x a m → Outcome n μ x a j μ′ → FromNewest n μ′ m
 unfolding sendMessage
 from-newest {μ = μ} (sends _ _ _ _) (O.sent s r p below receiver ne) =
     record { sender = s; below = below; from-is = ap (λ (g : Message). g .from) (changedAt-same (μ .message) (μ .sent + 1) _) }
@@ -92,52 +95,53 @@ spared-is t t′ v m l fits low =
     (λ q. inr (omega (arith, q, live-is (state t′) c owner))) low)
 
 module _ (t g : List ℕ) (n k : ℕ) (l : List Call) (O : FromOpening t g n k l) (m : ℕ) where
-  -- in a run: where m is there and held, its sending interval is live
-  abbrev HeldLive : Run → Type 0
-  HeldLive r =
-      recordOf (state (r .table)) m < used (state (r .table)) → stateOfMessage (r .table) m ≡ stateHeld → LiveIn (r .history) (r .history .sending m)
+  -- in a run: where m is there and held, its sending interval is live; and the buffers are in form
+  record HeldLive (r : Run) : Type 0 where
+    sound : Sound (r .table) (r .ledger)
+    live : recordOf (state (r .table)) m < used (state (r .table)) → stateOfMessage (r .table) m ≡ stateHeld → LiveIn (r .history) (r .history .sending m)
 
-  -- each call keeps it: m was there and held, or the call sent it
-  live-next : (before : List Call) (x : Call) (after : List Call) → l ≡ before ++ x ∷ after → AtCall (follows n) t g k before x after →
-      HeldLive (upTo t g n k before) → HeldLive (next x (upTo t g n k before))
-  unfolding next stepCall
-  live-next before (asks x) after e s w here held = le? (used σ) (recordOf σ m) new old
+  -- at the opening
+  live-opened : HeldLive (justOpened t g n k)
+  unfolding justOpened
+  live-opened = record { sound = sound-opened t g n k (O .done); live = λ here. absurd (none-there t g n k (O .done) m here) }
+
+  -- each step keeps it: m was there and held, or the step sent it
+  live-next : (before : List Call) (x : Call) (after : List Call) → l ≡ before ++ x ∷ after → (r : Run) (y : Command) → AtStep (follows n) t g k before x r y →
+      HeldLive r → HeldLive (next (asks y) r)
+  unfolding next stepCall fed
+  live-next before x after e r y s w =
+      record { sound = sound-next r (asks y) (w .sound); live = λ here held. le? (used σ) (recordOf σ m) (λ gone. new here gone) (λ there. old held there) }
     where
-      r : Run
-      r = upTo t g n k before
-
       σ : State
       σ = state (r .table)
 
       u : List ℕ
-      u = step (r .table) (r .ledger) x .table
+      u = step (r .table) (r .ledger) y .table
 
       later : History
-      later = next (asks x) r .history
+      later = next (asks y) r .history
 
-      new : used σ ≤ recordOf σ m → LiveIn later (later .sending m)
-      new gone =
+      new : recordOf (state u) m < used (state u) → used σ ≤ recordOf σ m → LiveIn later (later .sending m)
+      new here gone =
           new-live (table-inv (s .one .holds)) (present-pos (state u) m here) (present-sent (state u) m here)
-          (from-newest (just-sent (s .holds) (asks x) (s .unopened) m gone here) (table-outcome (s .holds) (asks x)))
+          (from-newest (just-sent (s .holds) y (s .unopened) m gone here) (table-outcome (s .holds) y))
 
-      old : recordOf σ m < used σ → LiveIn later (later .sending m)
-      old there =
+      old : stateOfMessage u m ≡ stateHeld → recordOf σ m < used σ → LiveIn later (later .sending m)
+      old held there =
           let v = table-inv (s .holds) in
-          let lent = sound-after t g n k (O .done) before .table in
-          let unopened : (size degree : ℕ) → x ≡ Open size degree → step (r .table) (r .ledger) x .answer ≢ Done =
-          λ size degree is. s .unopened size degree (ap asks is) in
-          let place = same-record (r .table) (r .ledger) x lent unopened m there in
-          let kept = held-before (r .table) (r .ledger) x lent unopened m there (ap (λ i. state u (MessageState i)) (sym place) ∙ held) in
+          let lent = w .sound .table in
+          let place = same-record (r .table) (r .ledger) y lent (s .unopened) m there in
+          let kept = held-before (r .table) (r .ledger) y lent (s .unopened) m there (ap (λ i. state u (MessageState i)) (sym place) ∙ held) in
           let low = spared-is (r .table) u v m there (opening-done t g n k (O .done) .size-le) (kept .low) in
           let owner = v .history .owner-below _ (begun (r .table) v m there) in
-          let last = lasts (table-outcome (s .holds) (asks x)) (s .unopened) in
+          let last = lasts (table-outcome (s .holds) y) (s .unopened) in
           subst (LiveIn later) (sym (same-sending (s .holds) (s .one) m there))
-          (stays-live v (table-inv (s .one .holds)) last (r .history .sending m) owner low (w there (kept .was)))
+          (stays-live v (table-inv (s .one .holds)) last (r .history .sending m) owner low (w .live there (kept .was)))
 
   -- so where it is held at the end of the list, its sending interval is live
   pub held-live : let r = upTo t g n k l in
       recordOf (state (r .table)) m < used (state (r .table)) → stateOfMessage (r .table) m ≡ stateHeld → SendingLive t g n k l m
-  held-live = along (follows n) t g k l O HeldLive (λ here. absurd (none-there t g n k (O .done) m here)) live-next l [] (sym (append-nil l))
+  held-live = along (follows n) t g k l O HeldLive live-opened live-next l [] (sym (append-nil l)) .live
 
   -- Where the sending interval of a message that was sent in the list is not live at its end, its release is refused for its state.
   pub discarded : SentIn t g n k l m → (SendingLive t g n k l m → ⊥) → stepIn (upTo t g n k l) (Release m) .answer ≡ Refused STATE

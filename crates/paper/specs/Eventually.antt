@@ -15,15 +15,15 @@ use Rattle.rules.specs.Form.{stateReleased}
 use Rattle.rules.specs.Step.{Call, asks, stepCall}
 use Rattle.rules.specs.declared.Answer.{Answer}
 use Rattle.rules.specs.declared.Answer.the-variants.{Done}
-use Rattle.rules.specs.declared.Command.{Command}
-use Rattle.rules.specs.declared.Command.the-variants.{Open, Send, Release, Checkpoint, Tell, Crash}
+use Rattle.rules.specs.declared.Command.the-variants.{Open, Send, Checkpoint, Tell, Crash}
 use Rattle.history.specs.History.{Interval, History, member, stabilized, flagging, checkpointing, answers, fedStep, fed}
-use Rattle.history.specs.Demand.{Run, callIn, stepIn, next, runs, FromOpening, upTo, end}
+use Rattle.history.specs.Demand.{Run, callIn, stepIn, next, runs, LetsGo, FromOpening, upTo, end}
 use Rattle.history.specs.Progress.{SentIn, SendingLive, NotLetOut, HasHeard, Deliverable}
 use Rattle.history.specs.Asked.{Spreads, by-checkpoint, by-telling, Secures, checkpoints, SecuredIn, TellAfter, Asked, was-asked, AllCleared, GoesOut, Arrives, Eventually}
 use Rattle.model.specs.Tests.{eq?}
 use Rattle.model.specs.Consequences.{live-begun, sending-begun}
-use Rattle.model.specs.Runs.{NotDone, runs-append}
+use Rattle.calls.specs.Sets.{runs-append}
+use Rattle.calls.specs.Made.{NotDone}
 use Rattle.image.specs.Reads.{sent-is, present-sent}
 use Rattle.progress.specs.Tables.{checkpoint-leaves, tell-leaves, state-same}
 use Rattle.progress.specs.Answers.{deliverable-is, released-deliverable}
@@ -140,9 +140,9 @@ no-opening : {n b : ℕ} (x : Call) → Informs n b x → (size degree : ℕ) �
 no-opening _ (by-C c below) size degree e = absurd (let z : _≡_ {A = ℕ} 0 1 = cc in omega arith)
 no-opening _ (by-T c below ne) size degree e = absurd (let z : _≡_ {A = ℕ} 0 1 = cc in omega arith)
 
-no-release : {n b : ℕ} (x : Call) → Informs n b x → (m : ℕ) → x ≢ asks (Release m)
-no-release _ (by-C c below) m e = absurd (let z : _≡_ {A = ℕ} 0 1 = cc in omega arith)
-no-release _ (by-T c below ne) m e = absurd (let z : _≡_ {A = ℕ} 0 1 = cc in omega arith)
+lets-none-out : {n b : ℕ} {x : Call} {a : Answer} {m mask : ℕ} → Informs n b x → LetsGo x a m mask → ⊥
+lets-none-out (by-C c below) o = elim o [ ]
+lets-none-out (by-T c below ne) o = elim o [ ]
 
 no-crash : {n b : ℕ} (x : Call) → Informs n b x → (c : ℕ) → x ≢ asks (Crash c)
 no-crash _ (by-C a below) c e = absurd (let z : _≡_ {A = ℕ} 0 1 = cc in omega arith)
@@ -216,12 +216,10 @@ module _ (t g : List ℕ) (n k : ℕ) (l : List Call) (O : FromOpening t g n k l
   abbrev h : History
   h = end t g n k l
 
-  -- an opening, a release or a crash in it is in the list
-  in-first : (x : Command) → ((y : Call) → Informs n b y → y ≢ asks x) → (before after : List Call) → longer ≡ before ++ asks x ∷ after →
-      (rest : List Call) × (l ≡ before ++ asks x ∷ rest)
+  -- a call in it that is none of them is in the list
+  in-first : (x : Call) → (Informs n b x → ⊥) → (before after : List Call) → longer ≡ before ++ x ∷ after → (rest : List Call) × (l ≡ before ++ x ∷ rest)
   in-first x none before after e =
-      ⊎-elim (λ q. q) (λ q. absurd (none (asks x) (each-at (Informs n b) (informing n b) (q .0) (asks x) after (all-inform n b) (q .2)) refl))
-      (in-append l (informing n b) before (asks x) after e)
+      ⊎-elim (λ q. q) (λ q. absurd (none (each-at (Informs n b) (informing n b) (q .0) x after (all-inform n b) (q .2)))) (in-append l (informing n b) before x after e)
 
   -- so it is from the opening
   from : FromOpening t g n k longer
@@ -229,7 +227,7 @@ module _ (t g : List ℕ) (n k : ℕ) (l : List Call) (O : FromOpening t g n k l
       record {
         done = O .done;
         no-opening = λ before after size degree e.
-            let (rest, is) = in-first (Open size degree) (λ y p. no-opening y p size degree) before after e in
+            let (rest, is) = in-first (asks (Open size degree)) (λ p. no-opening _ p size degree refl) before after e in
             O .no-opening before rest size degree is;
       }
 
@@ -262,7 +260,7 @@ module _ (t g : List ℕ) (n k : ℕ) (l : List Call) (O : FromOpening t g n k l
   -- b has heard no less
   still-heard : HasHeard t g n k l b → HasHeard t g n k longer b
   still-heard heard c i crash =
-      let (rest, is) = in-first (Crash c) (λ y p. no-crash y p c) (crash .before) (crash .after) (crash .is-in) in
+      let (rest, is) = in-first (asks (Crash c)) (λ p. no-crash _ p c refl) (crash .before) (crash .after) (crash .is-in) in
       ap (λ f. f b c i) (same-end .heard-is)
       ∙ heard c i (record { before = crash .before; after = rest; echoed = crash .echoed; kept = crash .kept; lost = crash .lost; replayed = crash .replayed; is-in = is; answer = crash .answer })
 
@@ -342,8 +340,8 @@ module _ (t g : List ℕ) (n k : ℕ) (l : List Call) (O : FromOpening t g n k l
 
       inside′ : NotLetOut t g n k longer m
       inside′ mask out =
-          let (rest, is) = in-first (Release m) (λ y p. no-release y p m) (out .before) (out .after) (out .is-in) in
-          inside mask (record { before = out .before; after = rest; echoed = out .echoed; is-in = is; answer = out .answer })
+          let (rest, is) = in-first (out .call) (λ p. lets-none-out p (out .lets-go)) (out .before) (out .after) (out .is-in) in
+          inside mask (record { before = out .before; call = out .call; after = rest; is-in = is; lets-go = out .lets-go })
 
   -- THE DELIVERY: what was released to b doesn't wait, where b has heard every crash
   eventually-arrives : (m : ℕ) → h .receiver m ≡ b → Deliverable t g n k l m → HasHeard t g n k l b → Eventually t g n k l (λ l. Arrives t g n k l m)

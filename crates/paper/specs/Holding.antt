@@ -1,7 +1,7 @@
--- A message that was sent in a list, that no release in it let out, and whose sending interval is live at its end, is held there.
+-- A message that was sent in a list, that no release and no set in it let out, and whose sending interval is live at its end, is held there.
 use mathlib.Core.Path.{_≡_, refl, sym, _∙_, ap, subst}
 use mathlib.Core.List.{List, [], _∷_, _++_, append-nil}
-use mathlib.Core.Logic.{_≢_, ⊎-elim}
+use mathlib.Core.Logic.{⊎-elim}
 use Prim.Native.Nat.{ℕ, _+_, _≤_, _<_}
 use native.Mathlib.Omega.{arith}
 use Rattle.base.specs.Choice.{cond-ind, le?}
@@ -15,15 +15,16 @@ use Rattle.rules.specs.declared.Answer.{Answer}
 use Rattle.rules.specs.declared.Answer.the-variants.{Done, Sent, Released}
 use Rattle.rules.specs.declared.Command.{Command}
 use Rattle.rules.specs.declared.Command.the-variants.{Open, Send, Release}
-use Rattle.history.specs.History.{Interval, interval, History, member}
-use Rattle.history.specs.Demand.{Run, callIn, next, justOpened, FromOpening, upTo}
+use Rattle.history.specs.History.{Interval, interval, History, member, fed}
+use Rattle.history.specs.Demand.{Run, stepIn, next, justOpened, FromOpening, upTo}
 use Rattle.history.specs.Progress.{SendingLive, NotLetOut}
 use Rattle.model.specs.Model.{Model, openModel, putController, putMessage, gapModel, loggedController, endController, beginController, anewController, forcedModel, capModel, sendMessage, releaseMessage}
 use Rattle.model.specs.Tests.{Is}
 use Rattle.model.specs.Invariant.{Inv, Ext, spoilt-on}
 use Rattle.model.specs.Consequences.{on-chain, live-clean, live-or-lost, sending-begun}
 use Rattle.model.specs.Recovery.{notedController}
-use Rattle.model.specs.Runs.{NoDoneOpening, NotDone, Holds, Later, AtCall, along}
+use Rattle.calls.specs.Made.{NoDoneOpening, part-out}
+use Rattle.model.specs.Runs.{Holds, Later, AtStep, along}
 use Rattle.image.specs.Reads.{sent-is, incarnation-is, live-is, from-is, present-sent}
 use Rattle.image.specs.Outcome as O
 use Rattle.image.specs.Outcome.{Outcome}
@@ -37,17 +38,17 @@ use Rattle.demand.specs.Demanded.{ReadOff, table-inv, table-outcome, follows}
 use Rattle.demand.specs.InForm.{sound-next}
 use Rattle.paper.specs.Ready.{stateOfMessage}
 
--- the call sent message m
-pub data Sends : Call → Answer → ℕ → Type 0 where
-  sends : (sender receiver payload m : ℕ) → Sends (asks (Send sender receiver payload)) (Sent m) m
+-- the step sent message m
+pub data Sends : Command → Answer → ℕ → Type 0 where
+  sends : (sender receiver payload m : ℕ) → Sends (Send sender receiver payload) (Sent m) m
 
 -- a forced checkpoint sends none
 capped-sent : (μ : Model) (c : ℕ) → capModel μ c .sent ≡ μ .sent
 unfolding capModel putController
 capped-sent μ c = cond-ind (λ (ν : Model). ν .sent ≡ μ .sent) (forcedModel μ c) (λ e. refl) (λ e. refl)
 
--- a message that was not there before a call was sent by it
-newly-sent : {n : ℕ} {μ : Model} {x : Call} {a : Answer} {j : ℕ} {μ′ : Model} → Outcome n μ x a j μ′ → NoDoneOpening x a →
+-- a message that was not there before a step was sent by it
+newly-sent : {n : ℕ} {μ : Model} {x : Command} {a : Answer} {j : ℕ} {μ′ : Model} → Outcome n μ x a j μ′ → NoDoneOpening x a →
     (m : ℕ) → μ .sent < m → m ≤ μ′ .sent → Sends x a m
 unfolding putController putMessage gapModel sendMessage releaseMessage
 newly-sent (O.refused x number) o m l u = absurd (omega arith)
@@ -55,7 +56,7 @@ newly-sent (O.opened j k p q r) o m l u = absurd (o j k refl refl)
 newly-sent (O.degree-set d k p q) o m l u = absurd (omega arith)
 newly-sent {μ = μ} (O.sent s r payload sender receiver ne) o m l u =
     let e : μ .sent + 1 ≡ m = omega arith in
-    subst (λ z. Sends (asks (Send s r payload)) (Sent (μ .sent + 1)) z) e (sends s r payload (μ .sent + 1))
+    subst (λ z. Sends (Send s r payload) (Sent (μ .sent + 1)) z) e (sends s r payload (μ .sent + 1))
 newly-sent (O.released i mask h w) o m l u = absurd (omega arith)
 newly-sent (O.held i mask) o m l u = absurd (omega arith)
 newly-sent (O.dropped i p h w y) o m l u = absurd (omega arith)
@@ -73,12 +74,12 @@ newly-sent {μ = μ} (O.rolled b a i j gone w y) o m l u =
 newly-sent (O.gap-set q h) o m l u = absurd (omega arith)
 
 -- so was one that is in a record after it and was in none before
-pub just-sent : {n : ℕ} {r : Run} → Holds n (ReadOff n) r → (x : Call) → NotDone r x → (m : ℕ) → let σ = state (r .table) in
-    let τ = state (callIn r x .table) in
-    used σ ≤ recordOf σ m → recordOf τ m < used τ → Sends x (callIn r x .answer) m
+pub just-sent : {n : ℕ} {r : Run} → Holds n (ReadOff n) r → (x : Command) → NoDoneOpening x (stepIn r x .answer) → (m : ℕ) → let σ = state (r .table) in
+    let τ = state (stepIn r x .table) in
+    used σ ≤ recordOf σ m → recordOf τ m < used τ → Sends x (stepIn r x .answer) m
 just-sent {r = r} s x unopened m gone here =
     let σ = state (r .table) in
-    let τ = state (callIn r x .table) in
+    let τ = state (stepIn r x .table) in
     let more : modelOf (r .table) .sent < m =
     le? m (lastGiven σ) (λ z. absurd (let q = given-present σ m (present-pos τ m here) z in omega arith)) (λ z. omega (arith, sent-is σ)) in
     newly-sent (table-outcome s x) unopened m more (present-sent τ m here)
@@ -90,7 +91,7 @@ same-sending {r = r} s q m there =
     let size = ap (λ (μ : Model). μ .sent) (s .reads .model-is) in
     q .keeps .sending-same m (omega (arith, present-sent (state (r .table)) m there))
 
--- one call, in a run with model μ and history h, whose message m is there: its sending interval is begun
+-- one step, in a run with model μ and history h, whose message m is there: its sending interval is begun
 module _ {n : ℕ} {h : History} (t : List ℕ) (v : Inv n (modelOf t) h) (m : ℕ) (l : recordOf (state t) m < used (state t)) where
   pos : 1 ≤ m
   pos = present-pos (state t) m l
@@ -137,9 +138,8 @@ module _ {n : ℕ} {h : History} (t : List ℕ) (v : Inv n (modelOf t) h) (m : �
       let is = ap (λ (z : Interval). z .incarnation) (on .is) in
       omega arith
 
--- what a call has just sent is held
-sent-is-held : (t g : List ℕ) → Lent t → {x : Call} {a : Answer} {m : ℕ} → Sends x a m → stepCall t g x .answer ≡ a → stateOfMessage (stepCall t g x .table) m ≡ stateHeld
-unfolding stepCall
+-- what a step has just sent is held
+sent-is-held : (t g : List ℕ) → Lent t → {x : Command} {a : Answer} {m : ℕ} → Sends x a m → step t g x .answer ≡ a → stateOfMessage (step t g x .table) m ≡ stateHeld
 sent-is-held t g lent (sends sender receiver payload m) e = sent-held t g sender receiver payload m lent e .1
 
 -- what ends the holding of a message is a release that lets it out, or that its sending interval is live no more
@@ -180,48 +180,42 @@ module _ (t g : List ℕ) (n k : ℕ) (l : List Call) (O : FromOpening t g n k l
         held = λ here live. absurd (none-there t g n k (O .done) m here);
       }
 
-  -- each call keeps it: m was there and held, or the call sent it
-  held-next : (before : List Call) (x : Call) (after : List Call) → l ≡ before ++ x ∷ after → AtCall (follows n) t g k before x after →
-      Held (upTo t g n k before) → Held (next x (upTo t g n k before))
-  unfolding next stepCall
-  held-next before (asks x) after e s w =
+  -- each step keeps it: m was there and held, or the step sent it
+  held-next : (before : List Call) (x : Call) (after : List Call) → l ≡ before ++ x ∷ after → (r : Run) (y : Command) → AtStep (follows n) t g k before x r y →
+      Held r → Held (next (asks y) r)
+  unfolding next stepCall fed
+  held-next before x after e r y s w =
       record {
-        sound = sound-next r (asks x) (w .sound);
-        none = none-causes-step (r .table) (r .ledger) x (w .sound .table) (w .none);
+        sound = sound-next r (asks y) (w .sound);
+        none = none-causes-step (r .table) (r .ledger) y (w .sound .table) (w .none);
         held = λ here live. le? (used σ) (recordOf σ m) (λ gone. new here gone) (λ there. old there live);
       }
     where
-      r : Run
-      r = upTo t g n k before
-
       σ : State
       σ = state (r .table)
 
       u : List ℕ
-      u = step (r .table) (r .ledger) x .table
+      u = step (r .table) (r .ledger) y .table
 
       later : History
-      later = next (asks x) r .history
+      later = next (asks y) r .history
 
       old : recordOf σ m < used σ → let y = later .sending m in Is (member y (later .chain (y .owner))) → stateOfMessage u m ≡ stateHeld
       old there live =
           let v = table-inv (s .holds) in
           let v′ = table-inv (s .one .holds) in
-          let h = r .history in
           let keeps = s .one .keeps in
           let live′ = subst (λ (y : Interval). Is (member y (later .chain (y .owner)))) (same-sending (s .holds) (s .one) m there) live in
-          let unopened : (size degree : ℕ) → x ≡ Open size degree → step (r .table) (r .ledger) x .answer ≢ Done =
-          λ size degree is. s .unopened size degree (ap asks is) in
           let lent = w .sound .table in
-          ap (λ i. state u (MessageState i)) (same-record (r .table) (r .ledger) x lent unopened m there)
+          ap (λ i. state u (MessageState i)) (same-record (r .table) (r .ledger) y lent (s .unopened) m there)
           ∙ ⊎-elim (λ z. z .is)
-          (λ q. let (mask, is, answer) = left (r .table) u v v′ m there (opening-done t g n k (O .done) .size-le) (q .0) live′ in
-          absurd (inside mask
-          (record { before = before; after = after; echoed = m; is-in = e ∙ ap (λ x. before ++ asks x ∷ after) is; answer = subst (λ x. step (r .table) (r .ledger) x .answer ≡ Released m mask) is answer })))
-          (held-step (r .table) (r .ledger) x lent unopened m there (w .none) (w .held there (live-before (r .table) v m there v′ (keeps .ext) live′)))
+          (λ q. let (own, is, answer) = left (r .table) u v v′ m there (opening-done t g n k (O .done) .size-le) (q .0) live′ in
+          let (mask, goes, _) = part-out m m own (s .part) is answer in
+          absurd (inside mask (record { before = before; call = x; after = after; is-in = e; lets-go = goes })))
+          (held-step (r .table) (r .ledger) y lent (s .unopened) m there (w .none) (w .held there (live-before (r .table) v m there v′ (keeps .ext) live′)))
 
       new : recordOf (state u) m < used (state u) → used σ ≤ recordOf σ m → stateOfMessage u m ≡ stateHeld
-      new here gone = sent-is-held (r .table) (r .ledger) (w .sound .table) (just-sent (s .holds) (asks x) (s .unopened) m gone here) refl
+      new here gone = sent-is-held (r .table) (r .ledger) (w .sound .table) (just-sent (s .holds) y (s .unopened) m gone here) refl
 
   -- so it is held at the end of the list
   pub is-held : recordOf (state (upTo t g n k l .table)) m < used (state (upTo t g n k l .table)) → SendingLive t g n k l m → stateOfMessage (upTo t g n k l .table) m ≡ stateHeld

@@ -20,11 +20,11 @@ use Rattle.rules.specs.declared.Answer.the-variants.{Done, Released, Crashed, R
 use Rattle.rules.specs.declared.Command.{Command}
 use Rattle.rules.specs.declared.Command.the-variants.{Release, Checkpoint, Tell, Crash, Hear}
 use Rattle.history.specs.History.{Interval, History, member}
-use Rattle.history.specs.Demand.{Run, callIn, stepIn, next, named, FromOpening, upTo, end}
+use Rattle.history.specs.Demand.{Run, stepIn, next, named, FromOpening, upTo, end}
 use Rattle.history.specs.Progress.{HeldIn, LetOutIn}
 use Rattle.history.specs.Asked.{Learned, its-own, was-told, has-heard, Secures, checkpoints, crashes, undoes, SecuredIn, TellAfter, Cleared, held-without, out-without, was-asked, each-learned, Names, names-held, names-out, GoesOut}
 use Rattle.model.specs.Model.{intervalOf, Controller, Message, Model, full, filtered, putController, loggedController, forcedModel, capModel, endController, anewController, putMessage, releasedVec, releaseMessage}
-use Rattle.model.specs.Tests.{Is, contrary, changedAt-same}
+use Rattle.model.specs.Tests.{Is, contrary, fails, changedAt-same}
 use Rattle.model.specs.Invariant.{MessageOk, Inv, Ext, spoilt-on, rests-back}
 use Rattle.model.specs.Vectors.{pos-full, filtered-ind}
 use Rattle.model.specs.Consequences.{spoilt-orphan, orphan-up, on-chain, live-or-lost, sending-begun}
@@ -33,7 +33,8 @@ use Rattle.model.specs.Steps.{LetsOut}
 use Rattle.model.specs.Securing.{Secured, secured-here, toldModel, tell-tells}
 use Rattle.model.specs.Recovery.{notedController}
 use Rattle.model.specs.Informed.{Sure}
-use Rattle.model.specs.Runs.{NotDone, in-list, part, later}
+use Rattle.calls.specs.Made.{NotDone, out-part, part-ind, part-on}
+use Rattle.model.specs.Runs.{in-list, part, later}
 use Rattle.image.specs.Reads.{sent-is, present-sent, to-is}
 use Rattle.image.specs.Outcome as O
 use Rattle.image.specs.Outcome.{Outcome}
@@ -42,10 +43,10 @@ use Rattle.progress.specs.Answers.{release-answers}
 use Rattle.testers.specs.Ledgers.{count-ledger}
 use Rattle.demand.specs.Demanded.{table-inv, table-outcome, follows}
 use Rattle.demand.specs.Beyond.{ledger-cites}
-use Rattle.paper.specs.Ready.{Ready, modelIn, stateOfMessage, there-ok, done-outcome, ready}
+use Rattle.paper.specs.Ready.{Ready, modelIn, stateOfMessage, there-ok, ready-kept, done-outcome, ready}
 use Rattle.paper.specs.Holding.{same-sending}
-use Rattle.paper.specs.Spreading.{Grown, grown-next, first, ready-at, grown-from, grown-after}
-use Rattle.paper.specs.Named.{held-names}
+use Rattle.paper.specs.Spreading.{Grown, grown-self, grown-trans, ReadyFrom, grown-kept, grown-next, first, ready-at, grown-from, grown-after}
+use Rattle.paper.specs.Named.{held-names, held-covers}
 
 -- ONE RUN
 -- the controller of a stable live interval knows it
@@ -59,7 +60,7 @@ knows-own s z below stable live =
     rw (ap (λ (j : Interval). j .incarnation) (on .is)) (s .informed c below .own (z .number) (on .pos) upto)
 
 -- a telling that is done
-tell-done : {n : ℕ} {μ : Model} {a b : ℕ} {j : ℕ} {μ′ : Model} → Outcome n μ (asks (Tell a b)) Done j μ′ → (a < n) × (a ≢ b) × (μ′ ≡ toldModel μ a b)
+tell-done : {n : ℕ} {μ : Model} {a b : ℕ} {j : ℕ} {μ′ : Model} → Outcome n μ (Tell a b) Done j μ′ → (a < n) × (a ≢ b) × (μ′ ≡ toldModel μ a b)
 tell-done (O.told a b p q ne) = (p, ne, refl)
 
 -- after it, who was told knows each stable live interval of the teller
@@ -71,13 +72,13 @@ telling-knows {r = r} s z b done stable live =
     let c = z .owner in
     let i = z .incarnation in
     let x = asks (Tell c b) in
-    let (below, ne, is) = tell-done (done-outcome s x done) in
+    let (below, ne, is) = tell-done (done-outcome s (Tell c b) done) in
     let told = subst (λ (ν : Model). ν .controller c .known c i ≤ ν .controller b .known c i) (sym is) (tell-tells (modelIn r) c b ne i) in
     let unopened : NotDone r x = λ size degree e. absurd (let q : _≡_ {A = ℕ} 0 1 = cc in omega arith) in
     omega (arith, knows-own s z below stable live, told, grown-next s x unopened .known-le c c i)
 
 -- a release that lets its message out
-out-found : {n : ℕ} {μ : Model} {m echoed mask j : ℕ} {μ′ : Model} → Outcome n μ (asks (Release m)) (Released echoed mask) j μ′ → LetsOut μ m mask × (μ′ ≡ releaseMessage μ m)
+out-found : {n : ℕ} {μ : Model} {m echoed mask j : ℕ} {μ′ : Model} → Outcome n μ (Release m) (Released echoed mask) j μ′ → LetsOut μ m mask × (μ′ ≡ releaseMessage μ m)
 out-found (O.released m mask l w) = (l, refl)
 
 -- a step that secures c leaves all stable that is live there
@@ -90,16 +91,16 @@ unfolding putController anewController
 anew-secured μ c k j =
     capped-secured (putController μ c (anewController c k j)) c (rw (changedAt-same (μ .controller) c (anewController c k j)))
 
-by-checkpoint : {n : ℕ} {μ : Model} {h : History} {c : ℕ} {j : ℕ} {μ′ : Model} → Inv n μ h → Outcome n μ (asks (Checkpoint c)) Done j μ′ → (c < n) × Secured μ′ c
+by-checkpoint : {n : ℕ} {μ : Model} {h : History} {c : ℕ} {j : ℕ} {μ′ : Model} → Inv n μ h → Outcome n μ (Checkpoint c) Done j μ′ → (c < n) × Secured μ′ c
 by-checkpoint {μ = μ} v (O.checkpointed c below) = (below, secured-here μ c (v .controller-ok c below .shape .stable-le))
 
-by-crash : {n : ℕ} {μ : Model} {c echoed i kept lost replayed : ℕ} {j : ℕ} {μ′ : Model} → Outcome n μ (asks (Crash c)) (Crashed echoed i kept lost replayed) j μ′ → (c < n) × Secured μ′ c
+by-crash : {n : ℕ} {μ : Model} {c echoed i kept lost replayed : ℕ} {j : ℕ} {μ′ : Model} → Outcome n μ (Crash c) (Crashed echoed i kept lost replayed) j μ′ → (c < n) × Secured μ′ c
 by-crash {μ = μ} (O.crashed c lost below) = (below, anew-secured μ c (endController c (μ .controller c)) (μ .controller c .stable))
 
-by-hearing : {n : ℕ} {μ : Model} {c a i echoed kept undone replayed : ℕ} {j : ℕ} {μ′ : Model} → Outcome n μ (asks (Hear c a i)) (Rolled echoed kept undone replayed) j μ′ → (c < n) × Secured μ′ c
+by-hearing : {n : ℕ} {μ : Model} {c a i echoed kept undone replayed : ℕ} {j : ℕ} {μ′ : Model} → Outcome n μ (Hear c a i) (Rolled echoed kept undone replayed) j μ′ → (c < n) × Secured μ′ c
 by-hearing {μ = μ} (O.rolled c a i x undone w y) = (w .hearer-below, anew-secured μ c (loggedController c (notedController μ c a i) x) x)
 
-secured-after : {n : ℕ} {μ : Model} {h : History} (c : ℕ) {x : Command} {a : Answer} {j : ℕ} {μ′ : Model} → Inv n μ h → Outcome n μ (asks x) a j μ′ → Secures c x a → (c < n) × Secured μ′ c
+secured-after : {n : ℕ} {μ : Model} {h : History} (c : ℕ) {x : Command} {a : Answer} {j : ℕ} {μ′ : Model} → Inv n μ h → Outcome n μ x a j μ′ → Secures c x a → (c < n) × Secured μ′ c
 secured-after c v o checkpoints = by-checkpoint v o
 secured-after c v o (crashes echoed i kept lost replayed) = by-crash o
 secured-after c v o (undoes crashed i echoed kept undone replayed) = by-hearing o
@@ -191,42 +192,50 @@ module _ (t g : List ℕ) (n k : ℕ) (l : List Call) (O : FromOpening t g n k l
   unfolding releasedVec
   held-clear m b c mask held unnamed sender =
       let before = held .before in
-      let rest = asks (Release m) ∷ held .after in
+      let rest = held .call ∷ held .after in
       let e = held .is-in in
       let q = upTo t g n k before in
       let s′ = ready-at t g n k l O before rest e in
       let v′ = table-inv (s′ .holds) in
-      let (there, names) = held-names (q .table) (q .ledger) (s′ .sound) m (held .echoed) mask (held .answer) in
+      let (there, covers) = held-covers (q .table) (q .ledger) (s′ .sound) (held .holds-back) refl in
       let from : modelIn q .message m .from ≡ h .sending m = sym (there-ok (q .table) v′ m there .sending-is) ∙ sym (sending-then before rest e m there) in
       let owner : modelIn q .message m .from .owner ≡ b = ap (λ (y : Interval). y .owner) from ∙ sym sender in
-      let empty = subst (λ d. full (filtered (modelIn q .controller d) (modelIn q .message m .vec) c) ≡ false) owner (sym (names c) ∙ unnamed) in
+      let none : full (releasedVec (modelIn q) m c) ≡ false = fails _ (λ is. contrary (covers c is) unnamed) in
+      let empty = subst (λ d. full (filtered (modelIn q .controller d) (modelIn q .message m .vec) c) ≡ false) owner none in
       clear-on (grown-from t g n k l O before rest e) m b c (present-sent _ m there) (emptied-clear (modelIn q) m b c empty)
 
-  -- and was emptied for everybody where m was let out
+  -- and was emptied for everybody where m was let out: its own release there names nobody whom the call doesn't name
   out-clear : (m b c mask : ℕ) → LetOutIn t g n k l m mask → named mask c ≡ false → Clear μ m b c
   unfolding stepCall releaseMessage putMessage next
   out-clear m b c mask let-out unnamed =
       let before = let-out .before in
-      let x = asks (Release m) in
+      let x = let-out .call in
       let e = let-out .is-in in
-      let q = upTo t g n k before in
-      let s′ = ready-at t g n k l O before (x ∷ let-out .after) e in
-      let u = callIn q x .table in
-      let (out, is) = out-found (subst (λ a. Outcome n (modelIn q) x a (sizeOf u) (modelOf u)) (let-out .answer) (table-outcome (s′ .holds) x)) in
+      let r₀ = upTo t g n k before in
+      let p = out-part r₀ x m mask (let-out .lets-go) in
+      let q = p .at in
+      let q′ = next (asks (Release m)) q in
+      let unopened = in-list (follows n) t g k l O before x (let-out .after) e .unopened in
+      let s′ : Ready n q = part-ind (Ready n) r₀ (p .part) (ready-at t g n k l O before (x ∷ let-out .after) e) (ready-kept unopened) in
+      let u = stepIn q (Release m) .table in
+      let (out, is) = out-found (subst (λ a. Outcome n (modelIn q) (Release m) a (sizeOf u) (modelOf u)) (p .answer) (table-outcome (s′ .holds) (Release m))) in
+      let own : named (p .own) c ≡ false = fails (named (p .own) c) (λ z. contrary (p .within c z) unnamed) in
       let empty : full (modelOf u .message m .vec c) ≡ false =
       subst (λ (ν : Model). full (ν .message m .vec c) ≡ false) (sym is)
-      (ap (λ (w : Message). full (w .vec c)) (changedAt-same (modelIn q .message) m _) ∙ sym (out .names c) ∙ unnamed) in
+      (ap (λ (w : Message). full (w .vec c)) (changedAt-same (modelIn q .message) m _) ∙ sym (out .names c) ∙ own) in
       let sent : m ≤ modelOf u .sent = subst (λ (ν : Model). m ≤ ν .sent) (sym is) (out .sent) in
       let none : modelOf u .message m .vec c .number ≤ 0 = le? 1 (modelOf u .message m .vec c .number) (λ pos. contrary (pos-full _ pos) empty) (λ z. omega arith) in
-      clear-on (grown-after t g n k l O before x (let-out .after) e) m b c sent (omega arith)
+      let on : Grown (modelIn q′) (modelIn (next x r₀)) =
+      part-on (ReadyFrom n (modelIn q′)) r₀ (p .part) (ready-kept unopened q (Release m) (p .part) s′, grown-self (modelIn q′)) (grown-kept unopened) .1 in
+      clear-on (grown-trans on (grown-after t g n k l O before x (let-out .after) e)) m b c sent (omega arith)
 
   -- a release at the end, held or let out: the message is there, and each that it names has its pair left full
   pub names-full : (m mask : ℕ) {a : Answer} → Names mask a → stepIn r (Release m) .answer ≡ a → (recordOf (state (r .table)) m < used (state (r .table))) × ((c : ℕ) → named mask c ≡ full (releasedVec μ m c))
   unfolding stepCall
   names-full m _ (names-held echoed mask) e = held-names (r .table) (r .ledger) (s .sound) m echoed mask e
   names-full m _ (names-out echoed mask) e =
-      let u = callIn r (asks (Release m)) .table in
-      let (out, is) = out-found (subst (λ a. Outcome n μ (asks (Release m)) a (sizeOf u) (modelOf u)) e (table-outcome (s .holds) (asks (Release m)))) in
+      let u = stepIn r (Release m) .table in
+      let (out, is) = out-found (subst (λ a. Outcome n μ (Release m) a (sizeOf u) (modelOf u)) e (table-outcome (s .holds) (Release m))) in
       (given-present (state (r .table)) m (out .pos) (omega (arith, out .sent, sent-is (state (r .table)))), out .names)
 
   -- a message that is there at the end
@@ -263,7 +272,7 @@ module _ (t g : List ℕ) (n k : ℕ) (l : List Call) (O : FromOpening t g n k l
           let begun₁ = at .one .keeps .ext .begun-stays z (v₀ .history .rests-begun _ z (point .began) rests₀) in
           let on : Ext (next x q .history) h = subst (λ p. Ext (next x q .history) (end t g n k p)) (sym e) (at .rest .keeps .ext) in
           let live = live-in v₁ on z begun₁ (resting-sure z rests) in
-          let (below, secured) = secured-after c v₀ (table-outcome (at .holds) x) (point .secures) in
+          let (below, secured) = secured-after c v₀ (table-outcome (at .holds) (point .step)) (point .secures) in
           secured-stable v₁ c below secured z (subst (λ d. Is (member z (next x q .history .chain d))) mine live)
 
       -- so c has word of it

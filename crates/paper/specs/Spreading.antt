@@ -7,8 +7,9 @@ use Prim.Native.Nat.{ℕ, _+_, _≤_, _<_}
 use native.Mathlib.Omega.{arith}
 use borrow.Author.Tests.{ltb-true}
 use Rattle.base.specs.Choice.{_<?_, cond-ind, le?}
-use Rattle.rules.specs.Step.{Call}
+use Rattle.rules.specs.Step.{Call, asks, stepCall}
 use Rattle.rules.specs.declared.Answer.{Answer}
+use Rattle.rules.specs.declared.Command.{Command}
 use Rattle.history.specs.History.{interval, History}
 use Rattle.history.specs.Demand.{Run, next, runs, FromOpening, upTo}
 use Rattle.model.specs.Model.{pair, Vec, Controller, Message, Model, putController, putMessage, degreeController, logController, loggedController, flagController, checkpointController, forcedModel, capModel, gapModel, tellController, endController, noteController, beginController, anewController, sendMessage, releasedVec, releaseMessage}
@@ -17,11 +18,13 @@ use Rattle.model.specs.Invariant.{ControllerOk, Inv}
 use Rattle.model.specs.Vectors.{filtered-ind}
 use Rattle.model.specs.Keeping.{putController-twice}
 use Rattle.model.specs.Recovery.{hears-other, notedController}
-use Rattle.model.specs.Runs.{NoDoneOpening, NotDone, NoOpening, runs-append, no-opening-after, not-done, first-part}
+use Rattle.calls.specs.Sets.{runs-append}
+use Rattle.calls.specs.Made.{NoDoneOpening, NotDone, PartOf, call-ind, part-not-done}
+use Rattle.model.specs.Runs.{NoOpening, no-opening-after, not-done, first-part}
 use Rattle.image.specs.Outcome as O
 use Rattle.image.specs.Outcome.{Outcome}
 use Rattle.demand.specs.Demanded.{table-inv, table-outcome}
-use Rattle.paper.specs.Ready.{Ready, modelIn, ready-next, ready}
+use Rattle.paper.specs.Ready.{Ready, modelIn, ready-next, ready, ready-kept}
 
 -- KNOWN WORDS
 -- no known word is lowered
@@ -130,10 +133,10 @@ pub record Grown (μ μ′ : Model) : Type 0 where
   pub sent-le : μ .sent ≤ μ′ .sent
   pub pair-kept : (m : ℕ) → m ≤ μ .sent → (a : ℕ) → (μ′ .message m .vec a ≡ μ .message m .vec a) ⊎ (μ′ .message m .vec a ≡ pair 0 0)
 
-grown-self : (μ : Model) → Grown μ μ
+pub grown-self : (μ : Model) → Grown μ μ
 grown-self μ = record { known-le = λ b. grows-self (μ .controller b); sent-le = omega arith; pair-kept = λ m l a. inl refl }
 
-grown-trans : {μ μ′ μ″ : Model} → Grown μ μ′ → Grown μ′ μ″ → Grown μ μ″
+pub grown-trans : {μ μ′ μ″ : Model} → Grown μ μ′ → Grown μ′ μ″ → Grown μ μ″
 grown-trans p q =
     let l = p .sent-le in
     record {
@@ -156,8 +159,8 @@ grown-capped μ c k l o =
     (λ e. subst (Grown μ) (sym (putController-twice μ c k (checkpointController c))) (grown-put μ c _ (grows-trans (μ .controller c) k (checkpointController c k) l (grows-checkpoint c k o))))
     (λ e. grown-put μ c k l)
 
--- every call but a done opening
-grown : {n : ℕ} {μ : Model} {x : Call} {a : Answer} {j : ℕ} {μ′ : Model} {h : History} → Outcome n μ x a j μ′ → NoDoneOpening x a → Inv n μ h → Grown μ μ′
+-- every step but a done opening
+grown : {n : ℕ} {μ : Model} {x : Command} {a : Answer} {j : ℕ} {μ′ : Model} {h : History} → Outcome n μ x a j μ′ → NoDoneOpening x a → Inv n μ h → Grown μ μ′
 unfolding degreeController beginController endController gapModel sendMessage putMessage releasedVec releaseMessage
 grown {μ = μ} (O.refused x number) o v = grown-self μ
 grown (O.opened j k p q r) o v = absurd (o j k refl refl)
@@ -202,10 +205,18 @@ grown {μ = μ} (O.rolled b a i j undone w y) o v =
 grown {μ = μ} (O.gap-set q h) o v = record { known-le = λ b. grows-self (μ .controller b); sent-le = omega arith; pair-kept = λ m l a. inl refl }
 
 -- RUNS
--- one call
+-- ready, and grown from an earlier model: each step of a call keeps that
+abbrev pub ReadyFrom : ℕ → Model → Run → Type 0
+ReadyFrom n μ q = Ready n q × Grown μ (modelIn q)
+
+pub grown-kept : {n : ℕ} {μ : Model} {r : Run} {x : Call} → NotDone r x → (q : Run) (y : Command) → PartOf r x q y → ReadyFrom n μ q → ReadyFrom n μ (next (asks y) q)
+unfolding next stepCall
+grown-kept unopened q y part w =
+    (ready-kept unopened q y part (w .0), grown-trans (w .1) (grown (table-outcome (w .0 .holds) y) (part-not-done part unopened) (table-inv (w .0 .holds))))
+
+-- so one call does
 pub grown-next : {n : ℕ} {r : Run} → Ready n r → (x : Call) → NotDone r x → Grown (modelIn r) (modelIn (next x r))
-unfolding next
-grown-next s x unopened = grown (table-outcome (s .holds) x) unopened (table-inv (s .holds))
+grown-next {n} {r} s x unopened = call-ind (ReadyFrom n (modelIn r)) r x (s, grown-self (modelIn r)) (grown-kept unopened) .1
 
 -- a list of calls
 grown-runs : (l : List Call) {n : ℕ} {r : Run} → Ready n r → NoOpening r l → Grown (modelIn r) (modelIn (runs r l))

@@ -12,10 +12,10 @@ use Rattle.table.specs.Field.{desk}
 use Rattle.table.specs.Layout.{controllers}
 use Rattle.rules.specs.Step.{Call, asks}
 use Rattle.rules.specs.declared.Answer.{Answer}
-use Rattle.rules.specs.declared.Answer.the-variants.{Done, Released, Held, Dropped}
+use Rattle.rules.specs.declared.Answer.the-variants.{Done, Held, Dropped}
 use Rattle.rules.specs.declared.Command.the-variants.{Release, Deliver, Checkpoint, Tell, Hear}
 use Rattle.history.specs.History.{Interval, interval, History, member}
-use Rattle.history.specs.Demand.{stepIn, next, Accepted, RestsOnLost, named, FromOpening, upTo, end}
+use Rattle.history.specs.Demand.{callIn, stepIn, next, Accepted, RestsOnLost, named, LetsGo, FromOpening, upTo, end}
 use Rattle.history.specs.Progress.{Orphan, SentIn, SendingLive, HeldIn, LetOutIn, NotLetOut, HasHeard, CanHear, Deliverable}
 use Rattle.history.specs.Asked.{Asked, AllAsked, AllCleared, Names, Unlearned, GoesOut, GoesOutWithin, NotHeld, Begins, Arrives, Eventually, Fate}
 use Rattle.model.specs.Model.{intervalOf, Model, full}
@@ -27,7 +27,7 @@ use Rattle.model.specs.Paper as P
 use Rattle.model.specs.Paper.{Useful, vectorOf}
 use Rattle.model.specs.Informed.{ended-known}
 use Rattle.model.specs.Stability.{lemma-A-1-always}
-use Rattle.image.specs.Mask.{count}
+use Rattle.base.specs.Ranges.{count}
 use Rattle.image.specs.Tables.{modelOf}
 use Rattle.demand.specs.Demanded.{table-inv, follows, demand-3}
 use Rattle.demand.specs.Beyond.{lost-unstable}
@@ -204,21 +204,20 @@ module _ (t g : List ℕ) (n k : ℕ) (l : List Call) (O : FromOpening t g n k l
   theorem-A-2-hearing = can-hear t g n k l O
 
   -- Theorem A.3. "Given any message m released by its sender, the number of processes that can make the message orphan on their failure is
-  -- at most K." Those that a release names are at most K, and they own all that the sending interval rests on and that is lost anywhere in
+  -- at most K." Those that a release or a set names are at most K, and they own all that the sending interval rests on and that is lost anywhere in
   -- the list.
-  pub theorem-A-3 : (before after : List Call) (m echoed mask : ℕ) → l ≡ before ++ asks (Release m) ∷ after → stepIn (upTo t g n k before) (Release m) .answer ≡ Released echoed mask →
+  pub theorem-A-3 : (before after : List Call) (x : Call) (m mask : ℕ) → l ≡ before ++ x ∷ after → LetsGo x (callIn (upTo t g n k before) x .answer) m mask →
       let then = upTo t g n k before .history in
       (count controllers (named mask) ≤ then .degree (then .sending m .owner))
       × ((y : Interval) (crash : ℕ) → h .rests (h .sending m) y ≡ true → h .lost y crash ≡ true → named mask (y .owner) ≡ true)
-  theorem-A-3 before after m echoed mask e released = (
-    at-most-K-named t g n k l O before after m echoed mask e released,
-    λ y crash rests lost. demand-3 t g n k l O .releases before after m echoed mask e released y crash rests
-        (lost-unstable t g n k l O before (asks (Release m) ∷ after) e y crash lost) lost,
+  theorem-A-3 before after x m mask e goes = (
+    at-most-K-named t g n k l O before after x m mask e goes,
+    λ y crash rests lost. demand-3 t g n k l O .releases before after x m mask e goes y crash rests (lost-unstable t g n k l O before (x ∷ after) e y crash lost) lost,
   )
 
   -- Section 1. "Pessimistic logging corresponds to 0-optimistic logging because messages can never be revoked by any process failures": what was
   -- let out under the degree 0 is no orphan.
-  pub optimism-0 : (before after : List Call) (m echoed mask : ℕ) → l ≡ before ++ asks (Release m) ∷ after → stepIn (upTo t g n k before) (Release m) .answer ≡ Released echoed mask →
+  pub optimism-0 : (before after : List Call) (x : Call) (m mask : ℕ) → l ≡ before ++ x ∷ after → LetsGo x (callIn (upTo t g n k before) x .answer) m mask →
       (let then = upTo t g n k before .history in then .degree (then .sending m .owner) ≡ 0) → Orphan h (h .sending m) → ⊥
   optimism-0 = never-revoked t g n k l O
 

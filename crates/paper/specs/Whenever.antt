@@ -30,7 +30,7 @@ use Rattle.model.specs.Invariant.{MessageOk, Inv, newest-is, ext-refl}
 use Rattle.model.specs.Vectors.{Condemned}
 use Rattle.model.specs.Consequences.{orphan-up, sending-begun, release-degree, release-covers, release-named}
 use Rattle.model.specs.Paper.{useful-live, theorem-3-message}
-use Rattle.image.specs.Mask.{count}
+use Rattle.base.specs.Ranges.{count, count-le}
 use Rattle.image.specs.Reads.{sent-is, incarnation-is, live-is, present-sent, to-is}
 use Rattle.image.specs.Tables.{sizeOf, opening-done}
 use Rattle.progress.specs.Answers.{checkpoint-answers, tell-answers, recordIn, receiverIn, deliverable-is, receiver-below, delivery-drops, dropped-condemned, delivery-goes, release-refused}
@@ -40,7 +40,7 @@ use Rattle.paper.specs.Crashes.{heard-loss, live-sure}
 use Rattle.paper.specs.Holding.{is-held}
 use Rattle.paper.specs.Discarded.{held-live}
 use Rattle.paper.specs.Spreading.{first, ready-at, grown-from}
-use Rattle.paper.specs.Named.{held-names, count-le, few-go}
+use Rattle.paper.specs.Named.{held-covers, few-go}
 use Rattle.paper.specs.Interleaved.{clear-emptied, sending-then, learned-known, held-clear, names-full, cleared-clear, all-emptied, held-goes-out}
 
 -- what rests on one lost in a crash that was heard is an orphan
@@ -96,12 +96,12 @@ module _ (t g : List ℕ) (n k : ℕ) (l : List Call) (O : FromOpening t g n k l
       let size : sizeOf u ≡ n = s .holds .reads .size-is in
       tell-answers u (r .ledger) (s .sound) a b (subst (λ j. a < j) (sym size) p) (subst (λ j. b < j) (sym size) q) ne
 
-  -- a message whose release was held is there at the end
+  -- a message that was held, by its release or in a set, is there at the end
   held-there : (m mask : ℕ) → HeldIn t g n k l m mask → recordOf (state u) m < used (state u)
   held-there m mask held =
-      let rest = asks (Release m) ∷ held .after in
+      let rest = held .call ∷ held .after in
       let q = upTo t g n k (held .before) in
-      let (there, names) = held-names (q .table) (q .ledger) (ready-at t g n k l O (held .before) rest (held .is-in) .sound) m (held .echoed) mask (held .answer) in
+      let (there, covers) = held-covers (q .table) (q .ledger) (ready-at t g n k l O (held .before) rest (held .is-in) .sound) (held .holds-back) refl in
       given-present (state u) m (present-pos _ m there)
       (omega (arith, present-sent _ m there, grown-from t g n k l O (held .before) rest (held .is-in) .sent-le, sent-is (state u)))
 
@@ -119,7 +119,7 @@ module _ (t g : List ℕ) (n k : ℕ) (l : List Call) (O : FromOpening t g n k l
     held-sure : (here : recordOf (state u) m < used (state u)) → stateOfMessage u m ≡ stateHeld → HasHeard t g n k l sender → Orphan h (h .sending m) → ⊥
     held-sure here held heard = live-sure t g n k l O sender (sender-below here) heard (h .sending m) (held-live t g n k l O m here held)
 
-    -- By the mask: let a release of m in the list have been held, and each controller that it names have been asked. Where the sender has heard
+    -- By the mask: let a release of m in the list, or a set with m, have been held, and each controller that it names have been asked. Where the sender has heard
     -- every crash, the release of m at the end answers `released m 0` (or 18), unless it is refused with 7.
     pub mask-asked : (mask : ℕ) → HeldIn t g n k l m mask → AllAsked t g n k l m mask sender → HasHeard t g n k l sender → NotHeld t g n k l m ⊎ GoesOut t g n k l m
     mask-asked mask held asked heard =

@@ -92,6 +92,8 @@ pub fn write_answer(out: &mut [u8], at: usize, a: Answer) -> usize
             write_line(out, at, b"rolled", &[b, k, undone, replayed])
         }
         Answer::Refused(number) => write_line(out, at, b"refused", &[number]),
+        Answer::SetReleased(mask) => write_line(out, at, b"released", &[mask]),
+        Answer::SetHeld(mask) => write_line(out, at, b"held", &[mask]),
     }
 }
 

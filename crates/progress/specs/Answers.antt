@@ -20,7 +20,7 @@ use Rattle.rules.specs.Vector.{Vector, empty, pairOf, placeVector, messageVecto
 use Rattle.rules.specs.Form.{stateHeld, stateReleased, forDesk, inForm}
 use Rattle.rules.specs.Ledger.{countOf, ledgerOk}
 use Rattle.rules.specs.Shared.{newestPlace}
-use Rattle.rules.specs.Steps.{After, AfterBoth, beside, refuse, refusing, refusingBoth, mayGo, messageRefusals, release, releaseRefusals, stepRelease, intervalBegins, chainFull, deliver, stepDeliver, checkpointRefusals, stepCheckpoint, tellRefusals, stepTell}
+use Rattle.rules.specs.Steps.{After, AfterBoth, beside, refuse, refusing, refusingBoth, mayGo, messageRefusals, ownVector, release, releaseRefusals, stepRelease, intervalBegins, chainFull, deliver, stepDeliver, checkpointRefusals, stepCheckpoint, tellRefusals, stepTell}
 use Rattle.rules.specs.Step.{perform, stepOn, step}
 use Rattle.rules.specs.declared.Answer.{Answer}
 use Rattle.rules.specs.declared.Answer.the-variants.{Done, Released, Delivered, Dropped, Refused}
@@ -71,12 +71,10 @@ unrefused-both : (cases : List Case) (σ : State) (g : List ℕ) (o : AfterBoth)
 unfolding refusingBoth
 unrefused-both cases σ g o e = rw (eq-eqb (firstOf cases) 0 (sym e))
 
--- what is let out is published where it is for the desk, and the ledger may be full then
-published : (b full : Bool) (letting refused publishing : AfterBoth) → publishing .answer ≡ letting .answer →
-    cond (not b) letting (cond full refused publishing) .answer ≡ cond (b && full) (refused .answer) (letting .answer)
-published true true _ _ _ e = refl
-published true false _ _ _ e = e
-published false _ _ _ _ e = refl
+-- the answer of a choice
+chosen : (b : Bool) (o p : AfterBoth) → cond b o p .answer ≡ cond b (o .answer) (p .answer)
+chosen true o p = refl
+chosen false o p = refl
 
 -- neither refusal by its message applies
 message-let : (σ : State) (r wanted : ℕ) → r < used σ → σ (MessageState r) ≡ wanted → 0 ≡ firstOf (messageRefusals σ r wanted)
@@ -122,14 +120,14 @@ module _ (L : Limits) (σ : State) (g : List ℕ) (good : inForm L σ ≡ true) 
     -- R: a held message whose filtered vector is empty is let out, unless it is for the desk and the ledger is full
     release-out : ledgerOk L g ≡ true → r < used σ → σ (MessageState r) ≡ stateHeld → ((a : ℕ) → full (releasedVec (image σ) m a) ≡ false) →
         stepOn L σ g (Release m) .answer ≡ cond (forDesk σ r && (L .entries ≤? countOf g)) (Refused LEDGER-USED-UP) (Released m 0)
-    unfolding perform stepRelease release mask
+    unfolding perform stepRelease release mask ownVector
     release-out ok l e h =
         let v = filtered σ (σ (Sender r)) (messageVector σ r) in
         let nobody : maskTo controllers v ≡ 0 =
         mask-none controllers v (subst (λ (w : Vec). (a : ℕ) → full (w a) ≡ false) (sym (released-is σ f m l)) h) in
         ap (λ (o : AfterBoth). o .answer) (performed (Release m)
         ∙ unrefused-both (releaseRefusals L σ g r) σ g _ (skip _ LEDGER 0 _ (ap not ok) (message-let σ r stateHeld l e)))
-        ∙ rw (nobody, nobody-goes σ r) (published (forDesk σ r) (L .entries ≤? countOf g) _ _ _ refl)
+        ∙ rw (nobody, nobody-goes σ r) (chosen (forDesk σ r && (L .entries ≤? countOf g)) _ _)
 
     -- one that is there and not held is refused for its state
     not-held : ledgerOk L g ≡ true → r < used σ → σ (MessageState r) ≢ stateHeld → stepOn L σ g (Release m) .answer ≡ Refused STATE

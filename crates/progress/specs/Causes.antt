@@ -15,10 +15,9 @@ use Rattle.table.specs.Change.{put, put-same, put-other, putPart, clearPlaces, 
 use Rattle.table.specs.Numbering.{numberOf, used, recordOf, nextMessage, messageOf, posted, Numbered, numbers-put, numbers-states, none-used, present-pos, message-of-record, record-of-message, posted-used, posted-new, posted-record, posted-kept, posted-size}
 use Rattle.rules.specs.Limits.{Limits, lastIncarnation}
 use Rattle.rules.specs.Vector.{Vector, pair, messageVector, flat, condemned, conflict}
-use Rattle.rules.specs.Form.{stateHeld, stateReleased, stateDelivered, stateDropped, statePublished, forDesk, inForm}
-use Rattle.rules.specs.Ledger.{countOf}
+use Rattle.rules.specs.Form.{stateHeld, stateReleased, stateDelivered, stateDropped, statePublished, inForm}
 use Rattle.rules.specs.Shared.{placeRecord, loggedTo, causedIn, offeredAgain, causesIn, causes, newVector, placed, entered, restarted, orphaned, heldOrDropped, dropHeld, startAnew, removed}
-use Rattle.rules.specs.Steps.{After, AfterBoth, refusing, refusingBoth, openHouse, stepOpen, sent, stepSend, letOut, mayGo, release, stepRelease, intervalAdded, intervalBegins, chainFull, deliver, stepDeliver, crashed, stepCrash, noted, lowestCondemned, rolledBack, hear, stepHear}
+use Rattle.rules.specs.Steps.{After, AfterBoth, refusing, refusingBoth, openHouse, stepOpen, sent, stepSend, letOut, stepRelease, intervalAdded, intervalBegins, chainFull, deliver, stepDeliver, crashed, stepCrash, noted, lowestCondemned, rolledBack, hear, stepHear}
 use Rattle.rules.specs.Step.{perform, looksAtForm, stepOn}
 use Rattle.rules.specs.declared.Command.{Command}
 use Rattle.rules.specs.declared.Command.the-variants.{Open, SetDegree, Send, Release, Deliver, Log, Checkpoint, Tell, Crash, Hear, SetGap}
@@ -26,6 +25,7 @@ use Rattle.laws.specs.Numbers.{numbers-added, numbers-restarted}
 use Rattle.laws.specs.Facts.{form, controllerForm, placeForm}
 use Rattle.laws.specs.Records.{part-at, part-other, clear-kept, length-place-record}
 use Rattle.laws.specs.Agree.{live-restarted}
+use Rattle.laws.specs.Releasing.{release-cases}
 use Rattle.laws.specs.Allowed.{crashAllowed}
 use Rattle.image.specs.Begin.{written, written-other}
 use Rattle.progress.specs.Unmoved.{Unmoved, numbers-unmoved, unmoved-put, unmoved-part, unmoved-loggedTo, unmoved-capped, unmoved-noted, unmoved-degree, unmoved-log, unmoved-checkpoint, unmoved-tell, unmoved-gap}
@@ -277,14 +277,12 @@ module _ (L : Limits) (σ : State) (f : inForm L σ ≡ true) (n : NoneCauses σ
 
   -- R
   none-stepRelease : (g : List ℕ) (m : ℕ) → NoneCauses (stepRelease L σ g m .left)
-  unfolding stepRelease release
+  unfolding stepRelease
   none-stepRelease g m =
       none-refusingBoth _ g _
-      (let kept : AfterBoth → Type 0 = λ o. NoneCauses (o .left) in
-      let r = recordOf σ m in
-      cond-ind kept (not (mayGo σ r _)) (λ _. n)
-      (λ _. cond-ind kept (not (forDesk σ r)) (λ _. none-letOut σ r _ stateReleased (omega arith) n)
-      (λ _. cond-ind kept (L .entries ≤? countOf g) (λ _. n) (λ _. none-letOut σ r _ statePublished (omega arith) n))))
+      (let r = recordOf σ m in
+      release-cases L σ g m r (λ o. NoneCauses (o .left)) (λ _. n) (λ _ _. none-letOut σ r _ stateReleased (omega arith) n) (λ _ _. n)
+      (λ _ _ _. none-letOut σ r _ statePublished (omega arith) n))
 
   -- D
   none-stepDeliver : (m : ℕ) → NoneCauses (stepDeliver L σ m .left)

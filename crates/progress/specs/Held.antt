@@ -14,11 +14,10 @@ use Rattle.table.specs.Field.{State, End, OfMessage, Size, Incarnation, LiveCou
 use Rattle.table.specs.Change.{put, put-same, put-other, putPart, clearPlaces, putStates, states-at}
 use Rattle.table.specs.Numbering.{numberOf, lastLive, used, recordOf, messageOf, number-next, Numbered, numbers-states, numbers-trans, posted-kept}
 use Rattle.rules.specs.Limits.{Limits, lastIncarnation}
-use Rattle.rules.specs.Vector.{Vector, messageVector, flat, filtered, condemned, mask, conflict}
-use Rattle.rules.specs.Form.{stateHeld, stateReleased, stateDelivered, stateDropped, statePublished, forDesk, inForm}
-use Rattle.rules.specs.Ledger.{countOf}
+use Rattle.rules.specs.Vector.{Vector, flat, condemned, mask, conflict}
+use Rattle.rules.specs.Form.{stateHeld, stateReleased, stateDelivered, stateDropped, statePublished, inForm}
 use Rattle.rules.specs.Shared.{capped, loggedTo, causing, causedIn, causesIn, causes, newVector, placed, entered, restarted, orphaned, heldOrDropped, dropHeld, startAnew, removed}
-use Rattle.rules.specs.Steps.{After, AfterBoth, afterBoth, beside, refusing, refusingBoth, stepOpen, openRefusals, sent, stepSend, letOut, mayGo, release, stepRelease, intervalAdded, intervalBegins, chainFull, deliver, stepDeliver, crashed, stepCrash, noted, lowestCondemned, rolledBack, hear, stepHear}
+use Rattle.rules.specs.Steps.{After, AfterBoth, afterBoth, beside, refusing, refusingBoth, stepOpen, openRefusals, sent, stepSend, ownVector, letOut, stepRelease, intervalAdded, intervalBegins, chainFull, deliver, stepDeliver, crashed, stepCrash, noted, lowestCondemned, rolledBack, hear, stepHear}
 use Rattle.rules.specs.Step.{perform, looksAtForm, stepOn}
 use Rattle.rules.specs.declared.Answer.{Answer}
 use Rattle.rules.specs.declared.Answer.the-variants.{Done, Released, Dropped}
@@ -28,6 +27,7 @@ use Rattle.model.specs.Tests.{eq?}
 use Rattle.laws.specs.Numbers.{numbers-restarted}
 use Rattle.laws.specs.Records.{part-other}
 use Rattle.laws.specs.Agree.{live-restarted}
+use Rattle.laws.specs.Releasing.{release-cases}
 use Rattle.laws.specs.Allowed.{messageAllowed, crashAllowed, hearAllowed}
 use Rattle.progress.specs.Unmoved.{Unmoved, numbers-unmoved, unmoved-put, unmoved-loggedTo, unmoved-capped, unmoved-noted, unmoved-degree, unmoved-log, unmoved-checkpoint, unmoved-tell, unmoved-gap}
 use Rattle.progress.specs.Causes.{NoneCauses, none-unmoved, causes-held, undropped}
@@ -216,15 +216,12 @@ module _ (L : Limits) (σ : State) (r : ℕ) (u : r < used σ) where
       (λ _. refl) (λ e _. let-out m mask (sym e))
 
   goes-release : (g : List ℕ) (m : ℕ) → Goes (Release m) (stepRelease L σ g m)
-  unfolding stepRelease release
+  unfolding stepRelease
   goes-release g m =
       goes-refusingBoth _ g _ _
-      (let i = recordOf σ m in
-      let v = filtered σ (σ (Sender i)) (messageVector σ i) in
-      cond-ind (Goes (Release m)) (not (mayGo σ i (mask v))) (λ _. goes-same _ _ g)
-      (λ _. cond-ind (Goes (Release m)) (not (forDesk σ i)) (λ _. goes-out m (mask v) v stateReleased g (omega arith))
-      (λ _. cond-ind (Goes (Release m)) (L .entries ≤? countOf g) (λ _. goes-same _ _ g)
-      (λ _. goes-out m (mask v) v statePublished _ (omega arith)))))
+      (let v = ownVector σ (recordOf σ m) in
+      release-cases L σ g m (recordOf σ m) (Goes (Release m)) (λ _. goes-same _ _ g) (λ _ _. goes-out m (mask v) v stateReleased g (omega arith)) (λ _ _. goes-same _ _ g)
+      (λ _ _ _. goes-out m (mask v) v statePublished _ (omega arith)))
 
   -- a message that is released is not held, so D changes the state of another
   module _ (g : List ℕ) (m : ℕ) (released : σ (MessageState (recordOf σ m)) ≡ stateReleased) where

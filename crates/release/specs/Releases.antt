@@ -1,12 +1,12 @@
 -- What each function of a release leaves, from what it has read and what its calls have left.
 use mathlib.Core.Path.{_≡_, sym, ap, _∙_}
-use mathlib.Core.Bool.{Bool, true, false, not}
+use mathlib.Core.Bool.{Bool, true, false, not, _&&_}
 use mathlib.Core.List.{List, _++_}
-use Prim.Native.Nat.{ℕ, _+_, _-_, _≤_, _<_}
+use Prim.Native.Nat.{ℕ, _+_, _-_, _<_}
 use native.Mathlib.Omega.{arith}
 use lib.Count.{ones}
 use lib.ListN.{length, take, drop}
-use borrow.Author.Tests.{le-leb, lt-leb, eq-eqb, ne-eqb}
+use borrow.Author.Tests.{leb-false, eq-eqb, ne-eqb}
 use Rattle.base.specs.Cases.{firstOf}
 use Rattle.base.specs.Choice.{_==_, _≤?_}
 use Rattle.table.specs.Field.{State, OfMessage, Degree, MessageState, Sender, Receiver, messageHead, desk}
@@ -17,9 +17,9 @@ use Rattle.table.specs.Numbering.{recordOf}
 use Rattle.rules.specs.Limits.{house, lastEntry}
 use Rattle.rules.specs.Refusal.{LEDGER-USED-UP}
 use Rattle.rules.specs.Vector.{Vector, messageVector, flat, filtered, mask}
-use Rattle.rules.specs.Form.{stateReleased, statePublished}
+use Rattle.rules.specs.Form.{stateReleased, statePublished, forDesk}
 use Rattle.rules.specs.Ledger.{ledgerWords, countOf, entryOf, appended}
-use Rattle.rules.specs.Steps.{letOut, mayGo, release, releaseRefusals, stepRelease}
+use Rattle.rules.specs.Steps.{ownVector, letOut, gone, ledgerOut, mayGo, release, releaseRefusals, stepRelease}
 use Rattle.rules.specs.Step.{outBoth, writtenBoth}
 use Rattle.rules.specs.declared.Answer.{Answer}
 use Rattle.rules.specs.declared.Answer.the-variants.{Released, Held, Refused}
@@ -53,40 +53,64 @@ module _ (σ : State) (r k d : ℕ) (de : d ≡ σ (Receiver r)) where
   unfolding mayGo
   goes-by-degree s n b se e be h = rw (← de, ne-eqb d desk h, ← se, ← e) be
 
--- what R has read: f is the vector of the message in record r, filtered for its sender, and k the mask of f
-pub record Read (t : List ℕ) (r : ℕ) (f : Vector) (k : ℕ) : Type 0 where
-  pub filtered-is : f ≡ filtered (state t) (state t (Sender r)) (messageVector (state t) r)
-  pub mask-is : k ≡ mask f
+-- the vector v was read, and filtered for the sender s
+pub own-filtered : (σ : State) (r s : ℕ) (v w : Vector) → s ≡ σ (Sender r) → v ≡ messageVector σ r → w ≡ filtered σ s v → w ≡ ownVector σ r
+unfolding ownVector
+own-filtered σ r s v w se ve we = rw (← se, ← ve) we
 
-pub read : (t : List ℕ) (r s : ℕ) (v f : Vector) (k : ℕ) → s ≡ state t (Sender r) → v ≡ messageVector (state t) r → f ≡ filtered (state t) s v → k ≡ mask f → Read t r f k
-read t r s v f k se ve fe ke = record { filtered-is = rw (← se, ← ve) fe; mask-is = ke }
+-- what the message in record r may count on as it goes out with the vector v
+pub record Outgoing (t g : List ℕ) (r : ℕ) (v : Vector) : Type 0 where
+  pub long : length t ≡ tableWords
+  pub record-lt : r < messages
+  pub ledger-long : length g ≡ ledgerWords house
+  pub room : forDesk (state t) r ≡ true → countOf g < lastEntry
+  pub own : v ≡ ownVector (state t) r
+
+-- it has gone out, message m; d is the receiver
+module _ {t g : List ℕ} {r : ℕ} {v : Vector} (w : Outgoing t g r v) (m : ℕ) {d : ℕ} (de : d ≡ state t (Receiver r)) where
+  -- the desk: there is room, and it was published
+  pub desk-room : d ≡ desk → countOf g < lastEntry
+  desk-room q = w .room (ap (λ x. x == desk) (sym de) ∙ eq-eqb d desk q)
+
+  pub out-to-desk : d ≡ desk → {u h : List ℕ} → u ≡ words (letOut (state t) r v statePublished) → h ≡ appended g (entryOf (state t) m r) →
+      (u ≡ words (gone (state t) r)) × (h ≡ ledgerOut (state t) g m r)
+  unfolding gone ledgerOut
+  out-to-desk q ue he = (rw (← de, eq-eqb d desk q, ← (w .own)) ue, rw (← de, eq-eqb d desk q) he)
+
+  -- a controller
+  pub out-to-controller : (d ≡ desk → ⊥) → {u : List ℕ} → u ≡ words (letOut (state t) r v stateReleased) →
+      (u ≡ words (gone (state t) r)) × (g ≡ ledgerOut (state t) g m r)
+  unfolding gone ledgerOut
+  out-to-controller q ue = (rw (← de, ne-eqb d desk q, ← (w .own)) ue, rw (← de, ne-eqb d desk q))
+
+-- R has read the mask k of the own vector of the message in record r
+pub record Read (t : List ℕ) (r k : ℕ) : Type 0 where
+  pub mask-is : k ≡ mask (ownVector (state t) r)
+
+pub read : (t : List ℕ) (r k : ℕ) (v : Vector) → v ≡ ownVector (state t) r → k ≡ mask v → Read t r k
+read t r k v ve ke = record { mask-is = rw (← ve) ke }
 
 -- R on it, of message m; b says whether it may go
-module _ {t : List ℕ} {r : ℕ} {f : Vector} {k : ℕ} (x : Read t r f k) {b : Bool} (be : b ≡ mayGo (state t) r k) (g : List ℕ) (m : ℕ) where
+module _ {t : List ℕ} {r k : ℕ} (x : Read t r k) {b : Bool} (be : b ≡ mayGo (state t) r k) (g : List ℕ) (m : ℕ) where
   -- it may not: no word changes
   pub held : not b ≡ true → length t ≡ tableWords → outBoth (Held m k) t g ≡ writtenBoth (release house (state t) g m r)
   unfolding release
-  held h l = rw (← (x .filtered-is), ← (x .mask-is), ← be, h) (ap (λ t. outBoth (Held m k) t g) (words-state t l))
+  held h l = rw (← (x .mask-is), ← be, h) (ap (λ t. outBoth (Held m k) t g) (words-state t l))
 
-  -- it may; d is the receiver
-  module _ (h : not b ≡ false) {d : ℕ} (de : d ≡ state t (Receiver r)) where
-    -- a controller: let out
-    pub released : (d ≡ desk → ⊥) → {u : List ℕ} → u ≡ words (letOut (state t) r f stateReleased) → outBoth (Released m k) u g ≡ writtenBoth (release house (state t) g m r)
+  -- it may; f says whether the ledger has no room for its entry
+  module _ (h : not b ≡ false) {f : Bool} (fe : f ≡ (forDesk (state t) r && (lastEntry ≤? countOf g))) where
+    pub used-up : f ≡ true → length t ≡ tableWords → outBoth (Refused LEDGER-USED-UP) t g ≡ writtenBoth (release house (state t) g m r)
     unfolding release
-    released ne e = rw (← (x .filtered-is), ← (x .mask-is), ← be, h, ← de, ne-eqb d desk ne, e)
+    used-up q l = rw (← (x .mask-is), ← be, h, ← fe, q) (ap (λ t. outBoth (Refused LEDGER-USED-UP) t g) (words-state t l))
 
-    -- the desk, and n entries stand in the ledger: all that it has ..
-    pub used-up : d ≡ desk → {n : ℕ} → n ≡ countOf g → lastEntry ≤ n → length t ≡ tableWords →
-        outBoth (Refused LEDGER-USED-UP) t g ≡ writtenBoth (release house (state t) g m r)
+    pub released : f ≡ false → {u w : List ℕ} → u ≡ words (gone (state t) r) → w ≡ ledgerOut (state t) g m r →
+        outBoth (Released m k) u w ≡ writtenBoth (release house (state t) g m r)
     unfolding release
-    used-up q {n} e n-le l =
-        rw (← (x .filtered-is), ← (x .mask-is), ← be, h, ← de, eq-eqb d desk q, ← e, le-leb lastEntry n n-le) (ap (λ t. outBoth (Refused LEDGER-USED-UP) t g) (words-state t l))
+    released q ue we = rw (← (x .mask-is), ← be, h, ← fe, q, ue, we)
 
-    -- .. or fewer
-    pub published : d ≡ desk → {n : ℕ} → n ≡ countOf g → n < lastEntry → {u w : List ℕ} → u ≡ words (letOut (state t) r f statePublished) →
-        w ≡ appended g (entryOf (state t) m r) → outBoth (Released m k) u w ≡ writtenBoth (release house (state t) g m r)
-    unfolding release
-    published q {n} e n-lt ue we = rw (← (x .filtered-is), ← (x .mask-is), ← be, h, ← de, eq-eqb d desk q, ← e, lt-leb lastEntry n n-lt, ue, we)
+-- there is room for an entry
+pub has-room : (b : Bool) (n : ℕ) → (b && (lastEntry ≤? n)) ≡ false → b ≡ true → n < lastEntry
+has-room b n e q = leb-false lastEntry n (rw q at e)
 
 -- R m, whose record was found: refused, or done
 module _ (t g : List ℕ) (m r n : ℕ) (q : r ≡ recordOf (state t) m) (e : n ≡ firstOf (releaseRefusals house (state t) g r)) where

@@ -26,6 +26,8 @@ fn report(a: Answer) -> Reported
         Answer::Heard(b) => Reported(8, [b, 0, 0, 0, 0, 0]),
         Answer::Rolled(b, k, undone, replayed) => Reported(9, [b, k, undone, replayed, 0, 0]),
         Answer::Refused(number) => Reported(10, [number, 0, 0, 0, 0, 0]),
+        Answer::SetReleased(mask) => Reported(11, [mask, 0, 0, 0, 0, 0]),
+        Answer::SetHeld(mask) => Reported(12, [mask, 0, 0, 0, 0, 0]),
     }
 }
 

@@ -10,19 +10,20 @@ use Rattle.base.specs.Ranges.{allb, anyb, first}
 use Rattle.base.specs.Lists.{tab}
 use Rattle.base.specs.Cases.{allOf, firstOf}
 use Rattle.base.specs.Splice.{splice}
-use Rattle.table.specs.Field.{State, OfHead, Known, End, Size, SentCount, Discarded, Gap, Degree, LiveCount, StableCount, PlaceNumber, Cause, Flag, PairNumber, MessageState, Receiver, SendingNumber, Payload, MessagePairNumber, desk, same}
+use Rattle.table.specs.Field.{State, OfHead, Known, End, Size, SentCount, Discarded, Gap, Degree, LiveCount, StableCount, PlaceNumber, Cause, Flag, PairNumber, MessageState, Sender, Receiver, SendingNumber, Payload, MessagePairNumber, desk, same}
 use Rattle.table.specs.Change.{blank, put, putPart, clearPlaces, putStates}
 use Rattle.table.specs.Numbering.{numberOf, placeOf, used, lastGiven, recordOf, messageOf}
 use Rattle.rules.specs.Limits.{house, lastEntry, lastGap}
-use Rattle.rules.specs.Refusal.{LEDGER, CONTROLLER, DEGREE, LEDGER-USED-UP}
+use Rattle.rules.specs.Refusal.{LEDGER, CONTROLLER, DEGREE, SAME-CONTROLLER, SENDERS, LEDGER-USED-UP}
 use Rattle.rules.specs.Vector.{placeVector, messageVector, flat, knownStable, filterPair, filtered, condemnedPair, condemned, maskTo, mask, conflictPair, conflict, mergePair, merged}
 use Rattle.rules.specs.Form.{stateHeld, stateReleased, stateDelivered, stateLost, stateDropped, statePublished, stateOk, zeros, pairOk, vectorOk, highest, rowOk, placeOk, messageOk, headZeros, headOk}
 use Rattle.rules.specs.Ledger.{countAt, entryAt, ledgerWords, countOf, ledgerOk, appended, blankLedger}
 use Rattle.rules.specs.Shared.{placeRecord, logged, loggedTo, checkpointed, forced, capped, causing, causedIn, causesIn, causes, offeredAgain, newVector, placed, entered, restarted, heldOrDropped, dropHeld, startAnew, removed, latestFlagged, replayed}
-use Rattle.rules.specs.Steps.{refusing, refusingBoth, openHouse, stepOpen, stepGap, recordsFull, stepSend, letOut, mayGo, release, stepRelease, intervalAdded, intervalBegins, noPlace, chainFull, deliver, toldRow, told, crashed, crashFull, stepCrash, noted, lowestCondemned, rolledBack, hear}
+use Rattle.rules.specs.Steps.{refusing, refusingBoth, openHouse, stepOpen, stepGap, recordsFull, stepSend, ownVector, letOut, gone, ledgerOut, mayGo, release, stepRelease, intervalAdded, intervalBegins, noPlace, chainFull, deliver, toldRow, told, crashed, crashFull, stepCrash, noted, lowestCondemned, rolledBack, hear}
+use Rattle.rules.specs.Sets.{someAbsent, badLength, namedBefore, namedTwice, someNotHeld, manySenders, someFull, bits, union, someForDesk, setMayGo, desks, outTo, ledgerTo, releaseAll, stepSet}
 use Rattle.rules.specs.Report.{report}
 use Rattle.rules.specs.Starred.{Row, _is_by_, rows-hold, no, yes, truth, answer}
-use Rattle.rules.specs.declared.Answer.the-variants.{Done, Sent, Released, Held, Delivered, Crashed, Rolled, Refused}
+use Rattle.rules.specs.declared.Answer.the-variants.{Done, Sent, Released, Held, Delivered, Crashed, Rolled, Refused, SetReleased, SetHeld}
 
 -- message 1, in record 0, is from controller 0, of degree 0, and has the pair (0,2) of controller 1, which controller 0 knows to be stable
 abbrev since-logged : State
@@ -52,6 +53,22 @@ for-desk = put (put blank (Receiver 0) desk) (Payload 0) 7
 abbrev revocable : State
 revocable = put (put for-desk (Degree 0) 1) (MessagePairNumber 0 1) 2
 
+-- messages 1 and 2, in records 0 and 1, are from controller 0 and held
+abbrev both-held : State
+both-held = put (put (put blank SentCount 2) (MessageState 0) stateHeld) (MessageState 1) stateHeld
+
+-- one has a pair of controller 1, the other one of controller 2; the degree of controller 0 is 1
+abbrev two-named : State
+two-named = put (put (put both-held (Degree 0) 1) (MessagePairNumber 0 1) 2) (MessagePairNumber 1 2) 2
+
+-- the first is for the desk and has no pair, the other is for a controller
+abbrev one-for-desk : State
+one-for-desk = put (put two-named (Receiver 0) desk) (MessagePairNumber 0 1) 0
+
+-- both are for the desk, with the payloads 7 and 8, and rest on nothing that could be revoked
+abbrev two-for-desk : State
+two-for-desk = put (put (put (put both-held (Receiver 0) desk) (Receiver 1) desk) (Payload 0) 7) (Payload 1) 8
+
 -- a ledger with one entry, and one that says that it is full (the rule looks at no more of it)
 abbrev cited-once : List ℕ
 cited-once = 1 ∷ 5 ∷ 6 ∷ 0 ∷ 0 ∷ []
@@ -62,6 +79,10 @@ full = lastEntry ∷ []
 -- one of w words with the count n, and 0 in the others
 abbrev counting : ℕ → ℕ → List ℕ
 counting w n = set (replicate w 0) countAt n
+
+-- both let out as a set, as they are named: the states that they have then
+abbrev let-out : State → List ℕ
+let-out σ = let τ = releaseAll house σ (replicate 5 0) (1 ∷ 2 ∷ []) .left in τ (MessageState 0) ∷ τ (MessageState 1) ∷ []
 
 -- the ledger of an earlier house: the right length, and a count of 1
 abbrev used-before : List ℕ
@@ -113,7 +134,7 @@ abbrev stands : State → ℕ → ℕ → List ℕ
 stands σ p i = σ (Flag 0 p) ∷ σ (StableCount 0) ∷ σ (Known 0 0 i) ∷ []
 
 pub told-apart : List Row
-unfolding put same putPart clearPlaces putStates tab allb anyb numberOf placeOf used recordOf messageOf placeVector messageVector flat knownStable filterPair filtered condemnedPair condemned maskTo mask conflictPair conflict mergePair merged placeRecord logged loggedTo checkpointed forced capped causing causedIn causesIn causes offeredAgain newVector placed entered restarted heldOrDropped dropHeld startAnew removed latestFlagged replayed stateOk zeros pairOk vectorOk highest rowOk placeOk messageOk lastGiven headZeros headOk ledgerOk appended blankLedger splice allOf firstOf refusing refusingBoth openHouse stepOpen stepGap recordsFull stepSend letOut mayGo release stepRelease intervalAdded intervalBegins noPlace deliver toldRow told crashed stepCrash noted lowestCondemned rolledBack hear report first onesIn ones
+unfolding put same putPart clearPlaces putStates tab allb anyb numberOf placeOf used recordOf messageOf placeVector messageVector flat knownStable filterPair filtered condemnedPair condemned maskTo mask conflictPair conflict mergePair merged placeRecord logged loggedTo checkpointed forced capped causing causedIn causesIn causes offeredAgain newVector placed entered restarted heldOrDropped dropHeld startAnew removed latestFlagged replayed stateOk zeros pairOk vectorOk highest rowOk placeOk messageOk lastGiven headZeros headOk ledgerOk appended blankLedger splice allOf firstOf refusing refusingBoth openHouse stepOpen stepGap recordsFull stepSend ownVector letOut gone ledgerOut mayGo release stepRelease intervalAdded intervalBegins noPlace deliver toldRow told crashed stepCrash noted lowestCondemned rolledBack hear someAbsent namedBefore namedTwice someNotHeld manySenders someFull bits union someForDesk setMayGo desks outTo ledgerTo releaseAll stepSet report first onesIn ones
 told-apart =
     -- "Counting stored pairs at release instead of filtered ones": it would be held.
     (answer (release house since-logged [] 1 0 .answer) is answer (Released 1 0) by refl)
@@ -197,6 +218,28 @@ told-apart =
     ∷ (truth (headOk house (in-head 11 65)) is no by refl)
     ∷ (truth (headOk house (in-head 10 1)) is no by refl)
     ∷ (truth (headOk house (in-head 12 1)) is no by refl)
+    -- W5: each mask held against K by itself, though the union names two.
+    ∷ (answer (releaseAll house two-named [] (1 ∷ 2 ∷ []) .answer) is answer (SetHeld 6) by refl)
+    -- W5: the union of stored pairs: it would be held.
+    ∷ (answer (releaseAll house since-logged [] (1 ∷ []) .answer) is answer (SetReleased 0) by refl)
+    -- W5: a list of 17 taken, or one of none, or one of 16 refused.
+    ∷ (truth (badLength (replicate 17 1)) is yes by refl)
+    ∷ (truth (badLength []) is yes by refl)
+    ∷ (truth (badLength (replicate 16 1)) is no by refl)
+    -- W5: a message named twice taken, or messages of two senders.
+    ∷ (answer (stepSet house both-held (blankLedger house) (1 ∷ 1 ∷ []) .answer) is answer (Refused SAME-CONTROLLER) by refl)
+    ∷ (answer (stepSet house (put both-held (Sender 1) 1) (blankLedger house) (1 ∷ 2 ∷ []) .answer) is answer (Refused SENDERS) by refl)
+    -- W5: half of a set released; messages to the desk released with it, and not published.
+    ∷ (let-out both-held is (stateReleased ∷ stateReleased ∷ []) by refl)
+    ∷ (let-out two-for-desk is (statePublished ∷ statePublished ∷ []) by refl)
+    -- W5: a set with one for the desk let out by the degree, or by that one's own mask; a full ledger looked at before the union.
+    ∷ (answer (releaseAll house one-for-desk [] (1 ∷ 2 ∷ []) .answer) is answer (SetHeld 4) by refl)
+    ∷ (answer (releaseAll house one-for-desk full (1 ∷ 2 ∷ []) .answer) is answer (SetHeld 4) by refl)
+    -- W5: the entries in reverse or in the table's order, and not "in the order given".
+    ∷ (releaseAll house two-for-desk (replicate 5 0) (2 ∷ 1 ∷ []) .ledger is (2 ∷ 2 ∷ 8 ∷ 1 ∷ 7 ∷ []) by refl)
+    -- W5: 18 by the first for the desk alone, or where all have room.
+    ∷ (answer (releaseAll house two-for-desk ((lastEntry - 1) ∷ []) (1 ∷ 2 ∷ []) .answer) is answer (Refused LEDGER-USED-UP) by refl)
+    ∷ (answer (releaseAll house two-for-desk ((lastEntry - 2) ∷ []) (1 ∷ 2 ∷ []) .answer) is answer (SetReleased 0) by refl)
     -- 11 and 12: a record or a place more than there are, or one less.
     ∷ (truth (recordsFull house (put blank SentCount 128)) is yes by refl)
     ∷ (truth (recordsFull house (put blank SentCount 127)) is no by refl)

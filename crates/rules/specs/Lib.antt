@@ -6,6 +6,7 @@ pub mod Form
 pub mod Ledger
 pub mod Shared
 pub mod Steps
+pub mod Sets
 pub mod Step
 pub mod Order
 pub mod Report

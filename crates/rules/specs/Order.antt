@@ -9,11 +9,12 @@ use Rattle.base.specs.Ranges.{first}
 use Rattle.base.specs.Cases.{Case}
 use Rattle.table.specs.Field.{State}
 use Rattle.rules.specs.Limits.{Limits}
-use Rattle.rules.specs.Refusal.{LENGTH, FORM, LEDGER, CONTROLLER, MESSAGE, DEGREE, SAME-CONTROLLER, STATE, LOG-COUNT, NO-SUCH-CRASH, ALREADY-HEARD, MESSAGES-USED-UP, PLACES-USED-UP, INCARNATIONS-USED-UP, LEDGER-USED-UP}
+use Rattle.rules.specs.Refusal.{LENGTH, FORM, LEDGER, CONTROLLER, MESSAGE, DEGREE, SAME-CONTROLLER, STATE, SENDERS, LOG-COUNT, NO-SUCH-CRASH, ALREADY-HEARD, MESSAGES-USED-UP, PLACES-USED-UP, INCARNATIONS-USED-UP, LEDGER-USED-UP}
 use Rattle.rules.specs.Steps.{openRefusals, degreeRefusals, sendRefusals, messageRefusals, releaseRefusals, logRefusals, checkpointRefusals, tellRefusals, crashRefusals, hearRefusals, gapRefusals}
+use Rattle.rules.specs.Sets.{setRefusals}
 
--- Their order: that of their numbers, but for the ledger's. W2: 14 "stands directly after 2, at release and, for the length only,
--- directly after 1 at opening"; 18 "stands last at release".
+-- Their order: that of their numbers, but for the ledger's and that of a set. W2: 14 "stands directly after 2, at release and, for the length only,
+-- directly after 1 at opening"; 18 "stands last at release"; W5: 15 "stands directly after 7".
 abbrev inTurn : List ℕ
 inTurn =
     LENGTH
@@ -24,6 +25,7 @@ inTurn =
     ∷ DEGREE
     ∷ SAME-CONTROLLER
     ∷ STATE
+    ∷ SENDERS
     ∷ LOG-COUNT
     ∷ NO-SUCH-CRASH
     ∷ ALREADY-HEARD
@@ -46,7 +48,7 @@ abbrev allRise : List (List Case) → Bool
 allRise [] = true
 allRise (cases ∷ more) = rises FORM cases && allRise more
 
-pub in-order : (L : Limits) (σ : State) (g : List ℕ) (a b c : ℕ) →
+pub in-order : (L : Limits) (σ : State) (g l : List ℕ) (a b c : ℕ) →
     allRise
     (openRefusals L g a b
     ∷ degreeRefusals σ a b
@@ -59,7 +61,8 @@ pub in-order : (L : Limits) (σ : State) (g : List ℕ) (a b c : ℕ) →
     ∷ crashRefusals L σ a
     ∷ hearRefusals σ a b c
     ∷ gapRefusals a
+    ∷ setRefusals L σ g l
     ∷ [])
     ≡ true
 unfolding first
-in-order L σ g a b c = refl
+in-order L σ g l a b c = refl

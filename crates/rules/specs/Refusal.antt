@@ -27,13 +27,17 @@ MESSAGE = 4
 abbrev pub DEGREE : ℕ
 DEGREE = 5
 
--- "6 the two controllers of S or T are equal"
+-- "6 the two controllers of S or T are equal"; W5: "A list of another length, or a message named twice, is refused with 6."
 abbrev pub SAME-CONTROLLER : ℕ
 SAME-CONTROLLER = 6
 
 -- "The order of steps": "7 release of a message not held, delivery of one not released"
 abbrev pub STATE : ℕ
 STATE = 7
+
+-- W5: "15 when the messages have more than one sender; it stands directly after 7."
+abbrev pub SENDERS : ℕ
+SENDERS = 15
 
 -- "8 q is 0 or above live minus stable"
 abbrev pub LOG-COUNT : ℕ

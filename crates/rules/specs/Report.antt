@@ -1,9 +1,10 @@
--- What each answer is on paper: its word, the number that the C interface gives it, and its values in the order of document 01.
+-- What each answer is on paper: its word, the number that the C interface gives it, and its values in the order of document 01; W5: "The
+-- answer is released or held, with the union".
 use mathlib.Core.List.{List, [], _∷_}
 use Prim.Native.Nat.{ℕ}
 use Rattle.rules.specs.Bytes.{bytes}
 use Rattle.rules.specs.declared.Answer.{Answer}
-use Rattle.rules.specs.declared.Answer.the-variants.{Done, Sent, Released, Held, Delivered, Dropped, Waits, Crashed, Heard, Rolled, Refused}
+use Rattle.rules.specs.declared.Answer.the-variants.{Done, Sent, Released, Held, Delivered, Dropped, Waits, Crashed, Heard, Rolled, Refused, SetReleased, SetHeld}
 
 pub record Report : Type 0 where
   pub word : List ℕ
@@ -25,3 +26,5 @@ report (Crashed c i k lost replayed) = says (bytes "crashed") 7 (c ∷ i ∷ k �
 report (Heard b) = says (bytes "heard") 8 (b ∷ [])
 report (Rolled b k undone replayed) = says (bytes "rolled") 9 (b ∷ k ∷ undone ∷ replayed ∷ [])
 report (Refused number) = says (bytes "refused") 10 (number ∷ [])
+report (SetReleased mask) = says (bytes "released") 11 (mask ∷ [])
+report (SetHeld mask) = says (bytes "held") 12 (mask ∷ [])

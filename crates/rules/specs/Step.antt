@@ -1,4 +1,4 @@
--- One step: on a state and a ledger, and on the words of a lent table and a lent ledger.
+-- One step, and one call beside it: on a state and a ledger, and on the words of a lent table and a lent ledger.
 use mathlib.Core.Bool.{Bool, true, false, not, cond, _&&_}
 use mathlib.Core.List.{List}
 use Prim.Native.Nat.{ℕ}
@@ -11,6 +11,7 @@ use Rattle.rules.specs.Limits.{Limits, house}
 use Rattle.rules.specs.Refusal.{LENGTH, FORM}
 use Rattle.rules.specs.Form.{inForm}
 use Rattle.rules.specs.Steps.{After, refuse, AfterBoth, beside, stepOpen, stepDegree, stepSend, stepRelease, stepDeliver, stepLog, stepCheckpoint, stepTell, stepCrash, stepHear, stepGap}
+use Rattle.rules.specs.Sets.{stepSet}
 use Rattle.rules.specs.declared.Answer.{Answer}
 use Rattle.rules.specs.declared.Answer.the-variants.{Refused}
 use Rattle.rules.specs.declared.Command.{Command}
@@ -78,11 +79,17 @@ lent t g f = cond (length t == tableWords) (writtenBoth (f (state t))) (outBoth 
 unfoldable pub step : List ℕ → List ℕ → Command → OutBoth
 step t g x = lent t g (λ σ. stepOn house σ g x)
 
--- What a list of demand 3 is made of. Today each call asks the step function for a step; a call that stands beside the step
--- function is a constructor more.
+-- W5: a set is released, of the messages in a list; "2 table not in form"
+unfoldable pub setOn : Limits → State → List ℕ → List ℕ → AfterBoth
+setOn L σ g l = cond (not (inForm L σ)) (beside (refuse FORM σ) g) (stepSet L σ g l)
+
+-- What a list of demand 3 is made of. "A call that a request adds and that writes the table stands in the list too": a call that stands beside
+-- the step function is a constructor.
 pub data Call : Type 0 where
   asks : Command → Call
+  releaseSet : List ℕ → Call
 
 -- a call over the lent buffers
 unfoldable pub stepCall : List ℕ → List ℕ → Call → OutBoth
 stepCall t g (asks x) = step t g x
+stepCall t g (releaseSet l) = lent t g (λ σ. setOn house σ g l)

@@ -146,9 +146,24 @@ stepSend L σ sender receiver payload =
 abbrev pub messageRefusals : State → ℕ → ℕ → List Case
 messageRefusals σ r wanted = ((used σ ≤? r) ⇒ MESSAGE) ∷ (not (σ (MessageState r) == wanted) ⇒ STATE) ∷ []
 
+-- R: "filter the message's vector for its sender": of the message in record r
+unfoldable pub ownVector : State → ℕ → Vector
+ownVector σ r = filtered σ (σ (Sender r)) (messageVector σ r)
+
 -- R: "the filtered vector is stored and the state is released"; W2: of a message to the desk it "has state 6, published"
 unfoldable pub letOut : State → ℕ → Vector → ℕ → State
 letOut σ r v st = put (putPart σ (OfMessage r 0) messageHead (flat v)) (MessageState r) st
+
+abbrev pub stateOut : State → ℕ → ℕ
+stateOut σ r = cond (forDesk σ r) statePublished stateReleased
+
+-- the message in record r has gone out, by a release or in a set
+unfoldable pub gone : State → ℕ → State
+gone σ r = letOut σ r (ownVector σ r) (stateOut σ r)
+
+-- W2: "Publishing appends one pair; a release that doesn't publish changes no ledger word": message m goes out, which stands in record r
+unfoldable pub ledgerOut : State → List ℕ → ℕ → ℕ → List ℕ
+ledgerOut σ g m r = cond (forDesk σ r) (appended g (entryOf σ m r)) g
 
 -- R: "If the number of ones in the mask is at most K of the sender"; W2: "A message to the desk is released only with mask 0, at
 -- any K"
@@ -156,19 +171,16 @@ unfoldable pub mayGo : State → ℕ → ℕ → Bool
 mayGo σ r names = cond (forDesk σ r) (names == 0) (ones names ≤? σ (Degree (σ (Sender r))))
 
 -- R m, in record r: "filter the message's vector for its sender; the mask has 2 to the power c for each non-empty pair. If .. the
--- filtered vector is stored and the state is released. Otherwise it stays held and no word changes." W2: "Publishing appends one
--- pair; a release that doesn't publish changes no ledger word"; "The answer to publishing is `released m 0`"; "18 when publishing
--- would carry the count past 128".
+-- filtered vector is stored and the state is released. Otherwise it stays held and no word changes." W2: "The answer to publishing is
+-- `released m 0`"; "18 when publishing would carry the count past 128".
 unfoldable pub release : Limits → State → List ℕ → ℕ → ℕ → AfterBoth
 release L σ g m r =
-    let v = filtered σ (σ (Sender r)) (messageVector σ r) in
-    let holding = afterBoth (Held m (mask v)) σ g in
-    let letting = afterBoth (Released m (mask v)) (letOut σ r v stateReleased) g in
-    let publishing = afterBoth (Released m (mask v)) (letOut σ r v statePublished) (appended g (entryOf σ m r)) in
+    let names = mask (ownVector σ r) in
+    let holding = afterBoth (Held m names) σ g in
     let full = beside (refuse LEDGER-USED-UP σ) g in
-    cond (not (mayGo σ r (mask v))) holding
-    (cond (not (forDesk σ r)) letting
-    (cond (L .entries ≤? countOf g) full publishing))
+    let going = afterBoth (Released m names) (gone σ r) (ledgerOut σ g m r) in
+    cond (not (mayGo σ r names)) holding
+    (cond (forDesk σ r && (L .entries ≤? countOf g)) full going)
 
 -- W2: 14 "stands directly after 2, at release"
 abbrev pub releaseRefusals : Limits → State → List ℕ → ℕ → List Case

@@ -27,7 +27,7 @@ pub enum Command {
     SetGap(u32),
 }
 
-// The answer to a step. specs/Report.antt gives each its word, number and values.
+// The answer to a step, or to the release of a set. specs/Report.antt gives each its word, number and values.
 pub enum Answer {
     Done,
     // message
@@ -50,4 +50,8 @@ pub enum Answer {
     Rolled(u32, u32, u32, u32),
     // refusal number
     Refused(u32),
+    // of a set: union of the masks
+    SetReleased(u32),
+    // of a set: union of the masks
+    SetHeld(u32),
 }

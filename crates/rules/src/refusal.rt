@@ -21,6 +21,8 @@ pub const SAME_CONTROLLER: u32 = 6;
 // The order of steps.
 pub const STATE: u32 = 7;
 
+pub const SENDERS: u32 = 15;
+
 pub const LOG_COUNT: u32 = 8;
 
 pub const NO_SUCH_CRASH: u32 = 9;

@@ -20,7 +20,7 @@ use Rattle.rules.specs.declared.Answer.{Answer}
 use Rattle.rules.specs.declared.Command.{Command}
 use Rattle.reporting.specs.Values.{valueWords, value-count}
 use Rattle.lines.specs.declared.Parsed.the-variants.{Asks}
-use Rattle.run.specs.Call.{unknownLetter, wrongValues, Returned, returned, taken, step-taken, letter-taken}
+use Rattle.run.specs.Call.{unknownLetter, wrongValues, Returned, returned, reported, taken, step-taken, letter-taken}
 use Rattle.run.specs.Run.{stepWords, answerWords, noValues, askedBy, known, callBy, ranAll, oneMore, ranTo, lengthsFit, run}
 
 -- whether a table has its length and is in form
@@ -51,7 +51,7 @@ step-done t g v d x {u} {h} {ys} {number = number} l s n m = ap (returned ranAll
 
 -- an answer has as many words as there is room for
 answer-length : (t g v : List ℕ) (x : Command) → length (inAnswer (taken t g v (Asks x)) .values) ≡ answerWords
-unfolding taken
+unfolding taken reported
 answer-length t g v x = ap suc (value-count (step t g x .answer))
 
 -- the words of answer i came back: they stand behind those of the answers before it, whatever follows

@@ -21,7 +21,7 @@ use Rattle.history.specs.History.{fed}
 use Rattle.history.specs.Citations.{cited}
 use Rattle.history.specs.Demand.{Run, stepIn, next, runs}
 use Rattle.history.specs.Examples.{ListingLine, line, all, allCited}
-use Rattle.testers.specs.StepSame.{step-words}
+use Rattle.keeping.specs.StepSame.{step-words}
 use Rattle.testers.specs.Sample.{asked, answered, calls, answersFrom}
 
 -- ANSWERS AND HISTORY

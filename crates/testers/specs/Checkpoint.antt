@@ -19,7 +19,7 @@ use Rattle.rules.specs.declared.Command.the-variants.{Checkpoint}
 use Rattle.laws.specs.Facts.{house-fits}
 use Rattle.laws.specs.Allowed.{checkpointAllowed}
 use Rattle.keeping.specs.Changes.{kept-checkpointed}
-use Rattle.testers.specs.StepSame.{SameBoth, same-refl}
+use Rattle.keeping.specs.StepSame.{SameBoth, same-refl}
 
 module _ (σ : State) (c : ℕ) where
   -- after a checkpoint: the size and the live count, and nothing is left to log

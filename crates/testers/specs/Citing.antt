@@ -7,21 +7,21 @@ use mathlib.Core.Logic.{_≢_}
 use Prim.Native.Nat.{ℕ, _≤_, _<_}
 use native.Mathlib.Omega.{arith}
 use lib.ListN.{length, getD, length-append}
-use borrow.Author.Tests.{eqb-true, eqb-false, ne-eqb, leb-false, not-true, not-false}
-use Rattle.base.specs.Choice.{_==_, _≤?_, cond-ind, le?}
+use borrow.Author.Tests.{eqb-true, eqb-false, ne-eqb}
+use Rattle.base.specs.Choice.{_==_, cond-ind, le?}
 use Rattle.base.specs.Cases.{Case, firstOf}
-use Rattle.table.specs.Field.{Field, State, OfMessage, Receiver, Payload, MessageState, Sender, word, desk}
+use Rattle.table.specs.Field.{Field, State, OfMessage, Receiver, Payload, MessageState, word, desk}
 use Rattle.table.specs.Layout.{messages, messageWords, tableWords}
 use Rattle.table.specs.Words.{state, words, Agree, agree-words}
 use Rattle.table.specs.Numbering.{used, nextMessage, recordOf, posted, posted-used, posted-new, posted-record, posted-at, posted-kept, posted-missing, none-used, used-agree, record-agree}
 use Rattle.rules.specs.Limits.{house, lastEntry}
 use Rattle.rules.specs.Ledger.{countOf, entryOf, appended, blankLedger}
 use Rattle.rules.specs.Refusal.{LENGTH, FORM, LEDGER-USED-UP}
-use Rattle.rules.specs.Vector.{Vector, messageVector, filtered, mask}
+use Rattle.rules.specs.Vector.{Vector, mask}
 use Rattle.rules.specs.Form.{inForm, stateReleased, statePublished, forDesk}
 use Rattle.rules.specs.Report.{report}
-use Rattle.rules.specs.Steps.{After, after, refuse, refusing, AfterBoth, afterBoth, beside, refusingBoth, openHouse, openRefusals, stepOpen, messageRecord, sent, sendRefusals, stepSend, letOut, mayGo, release, releaseRefusals, stepRelease}
-use Rattle.rules.specs.Step.{perform, looksAtForm, stepOn, OutBoth, writtenBoth, lent, step, Call, asks, stepCall}
+use Rattle.rules.specs.Steps.{After, after, refuse, refusing, AfterBoth, afterBoth, beside, refusingBoth, openHouse, openRefusals, stepOpen, messageRecord, sent, sendRefusals, stepSend, ownVector, letOut, release, releaseRefusals, stepRelease}
+use Rattle.rules.specs.Step.{perform, looksAtForm, stepOn, OutBoth, writtenBoth, lent, step, asks, stepCall}
 use Rattle.rules.specs.declared.Answer.{Answer}
 use Rattle.rules.specs.declared.Answer.the-variants.{Done, Sent, Released, Refused}
 use Rattle.rules.specs.declared.Command.{Command}
@@ -30,9 +30,10 @@ use Rattle.history.specs.History.{changedAt, answers, valueAt}
 use Rattle.laws.specs.Records.{length-message-record}
 use Rattle.laws.specs.Allowed.{sendAllowed, releaseAllowed}
 use Rattle.laws.specs.Answering.{not-done}
+use Rattle.laws.specs.Releasing.{release-cases}
 use Rattle.laws.specs.StepWords.{every-letOut}
 use Rattle.laws.specs.Fixed.{Fixed, numbers-fixed, fixed-writable, plain, fixed-step}
-use Rattle.history.specs.Demand.{Run, callIn, next, justOpened}
+use Rattle.history.specs.Demand.{Run, stepIn, next, justOpened}
 use Rattle.history.specs.Citations.{Citation, Citations, noCitations, sentWith, letOutTo, citedStep, cited, pairOf, ledgerOf}
 use Rattle.testers.specs.Ledgers.{count-ledger, ledger-none, ledger-more}
 
@@ -190,13 +191,11 @@ module _ (σ : State) (g : List ℕ) (q : Citations) (c : Cites σ g q) where
 
   -- R, after its refusals
   goes-release : (m : ℕ) → recordOf σ m < used σ → Goes (Release m) (release house σ g m (recordOf σ m))
-  unfolding release citedStep answers report
+  unfolding citedStep answers report
   goes-release m l =
-      let v = filtered σ (σ (Sender (recordOf σ m))) (messageVector σ (recordOf σ m)) in
-      cond-ind (Goes (Release m)) (not (mayGo σ (recordOf σ m) (mask v))) (λ _. c)
-      (λ _. cond-ind (Goes (Release m)) (not (forDesk σ (recordOf σ m))) (λ e. goes-let m l v (mask v) (not-true _ e))
-      (λ e. cond-ind (Goes (Release m)) (lastEntry ≤? countOf g) (λ _. goes-refused (Release m) LEDGER-USED-UP)
-      (λ f. goes-publish m l v (mask v) (not-false _ e) (leb-false lastEntry (countOf g) f))))
+      let v = ownVector σ (recordOf σ m) in
+      release-cases house σ g m (recordOf σ m) (Goes (Release m)) (λ _. c) (λ _ e. goes-let m l v (mask v) e) (λ _ _. goes-refused (Release m) LEDGER-USED-UP)
+      (λ _ e room. goes-publish m l v (mask v) e room)
 
   -- the steps after their refusals
   goes-refusing : (x : Command) (cases : List Case) (o : After) → (0 ≡ firstOf cases → Goes x (beside o g)) → Goes x (beside (refusing cases σ o) g)
@@ -248,16 +247,16 @@ RunCites r = Cites (state (r .table)) (r .ledger) (r .citations)
 on-words : (σ : State) {g : List ℕ} {q : Citations} → Cites σ g q → Cites (state (words σ)) g q
 on-words σ c = record { named = named-agree _ σ _ (agree-words σ refl) (c .named); few = c .few; ledger-is = c .ledger-is }
 
--- each call but an opening that is done keeps that
-pub cites-next : (r : Run) (x : Call) → ((n k : ℕ) → x ≡ asks (Open n k) → callIn r x .answer ≢ Done) → RunCites r → RunCites (next x r)
+-- each step but an opening that is done keeps that
+pub cites-next : (r : Run) (x : Command) → ((n k : ℕ) → x ≡ Open n k → stepIn r x .answer ≢ Done) → RunCites r → RunCites (next (asks x) r)
 unfolding next stepCall step lent cited
-cites-next r (asks x) ne c =
+cites-next r x ne c =
     let t = r .table in
     let g = r .ledger in
     cond-ind
     (λ (o : OutBoth). ((n k : ℕ) → x ≡ Open n k → o .answer ≢ Done) → Cites (state (o .table)) (o .ledger) (citedStep x (o .answer) (r .citations)))
     (length t == tableWords) (λ _ ne. on-words _ (goes (state t) g (r .citations) c x ne)) (λ _ _. goes-refused (state t) g (r .citations) c x LENGTH)
-    (λ n k e. ne n k (ap asks e))
+    ne
 
 -- so does one that is done, whatever stood there
 opened-cites : (n k : ℕ) → Cites (openHouse n k) (blankLedger house) noCitations

@@ -6,7 +6,8 @@ use Prim.Native.Nat.{ℕ}
 use native.Mathlib.Omega.{arith}
 use lib.Count.{ones}
 use lib.ListN.{length}
-use Rattle.base.specs.Choice.{_==_, _≤?_, cond-ind}
+use Rattle.base.specs.Choice.{_==_, cond-ind}
+use Rattle.base.specs.Ranges.{count}
 use Rattle.base.specs.Cases.{firstOf}
 use Rattle.table.specs.Field.{State, Sender}
 use Rattle.table.specs.Layout.{controllers, tableWords}
@@ -15,16 +16,16 @@ use Rattle.table.specs.Numbering.{recordOf}
 use Rattle.rules.specs.Limits.{house}
 use Rattle.rules.specs.Refusal.{LENGTH, FORM, LEDGER-USED-UP}
 use Rattle.rules.specs.Vector.{messageVector, filtered, mask}
-use Rattle.rules.specs.Form.{inForm, forDesk}
-use Rattle.rules.specs.Ledger.{countOf}
-use Rattle.rules.specs.Steps.{AfterBoth, refusingBoth, releaseRefusals, mayGo, release, stepRelease}
+use Rattle.rules.specs.Form.{inForm}
+use Rattle.rules.specs.Steps.{AfterBoth, refusingBoth, releaseRefusals, ownVector, stepRelease}
 use Rattle.rules.specs.Step.{perform, stepOn, OutBoth, lent, step}
 use Rattle.rules.specs.declared.Answer.{Answer}
 use Rattle.rules.specs.declared.Answer.the-variants.{Released, Held, Refused}
 use Rattle.rules.specs.declared.Command.the-variants.{Release}
 use Rattle.history.specs.Demand.{named}
 use Rattle.laws.specs.Records.{length-filtered}
-use Rattle.image.specs.Mask.{count, ones-mask}
+use Rattle.laws.specs.Releasing.{release-cases}
+use Rattle.image.specs.Mask.{ones-mask}
 
 -- the ones of a mask are as many as the controllers named
 abbrev pub CountsNamed : ℕ → Type 0
@@ -57,7 +58,7 @@ counted-held m mask h =
     }
 
 counted-release : (σ : State) (g : List ℕ) (m : ℕ) → Counted (stepOn house σ g (Release m) .answer)
-unfolding stepOn perform stepRelease refusingBoth release
+unfolding stepOn perform stepRelease refusingBoth ownVector
 counted-release σ g m =
     let r = recordOf σ m in
     let s = σ (Sender r) in
@@ -66,9 +67,7 @@ counted-release σ g m =
     let counted : AfterBoth → Type 0 = λ o. Counted (o .answer) in
     cond-ind counted (not (inForm house σ)) (λ _. counted-refused FORM)
     (λ _. cond-ind counted (firstOf (releaseRefusals house σ g r) == 0)
-    (λ _. cond-ind counted (not (mayGo σ r (mask v))) (λ _. counted-held m (mask v) h)
-    (λ _. cond-ind counted (not (forDesk σ r)) (λ _. counted-released m (mask v) h)
-    (λ _. cond-ind counted (house .entries ≤? countOf g) (λ _. counted-refused LEDGER-USED-UP) (λ _. counted-released m (mask v) h))))
+    (λ _. release-cases house σ g m r counted (λ _. counted-held m (mask v) h) (λ _ _. counted-released m (mask v) h) (λ _ _. counted-refused LEDGER-USED-UP) (λ _ _ _. counted-released m (mask v) h))
     (λ _. counted-refused (firstOf (releaseRefusals house σ g r))))
 
 -- on every table, beside every ledger

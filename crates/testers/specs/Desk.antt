@@ -5,25 +5,26 @@ use mathlib.Core.List.{List}
 use mathlib.Core.Logic.{_⊎_, inl, inr, _≢_}
 use Prim.Native.Nat.{ℕ}
 use lib.ListN.{length}
-use borrow.Author.Tests.{eqb-true, not-false}
-use Rattle.base.specs.Choice.{_==_, _≤?_, cond-ind}
+use borrow.Author.Tests.{eqb-true}
+use Rattle.base.specs.Choice.{_==_, cond-ind}
 use Rattle.base.specs.Cases.{firstOf}
-use Rattle.table.specs.Field.{State, Sender}
+use Rattle.table.specs.Field.{State}
 use Rattle.table.specs.Layout.{tableWords}
 use Rattle.table.specs.Words.{state}
 use Rattle.table.specs.Numbering.{recordOf}
 use Rattle.rules.specs.Limits.{house}
 use Rattle.rules.specs.Refusal.{LENGTH, FORM, LEDGER-USED-UP}
-use Rattle.rules.specs.Vector.{messageVector, filtered, mask}
+use Rattle.rules.specs.Vector.{mask}
 use Rattle.rules.specs.Form.{inForm, forDesk}
-use Rattle.rules.specs.Ledger.{countOf, entryOf, appended}
+use Rattle.rules.specs.Ledger.{entryOf, appended}
 use Rattle.rules.specs.Report.{report}
-use Rattle.rules.specs.Steps.{AfterBoth, refusingBoth, openRefusals, stepOpen, mayGo, release, releaseRefusals, stepRelease}
+use Rattle.rules.specs.Steps.{AfterBoth, refusingBoth, openRefusals, stepOpen, ownVector, mayGo, releaseRefusals, stepRelease}
 use Rattle.rules.specs.Step.{perform, stepOn, OutBoth, writtenBoth, lent, step}
 use Rattle.rules.specs.declared.Answer.{Answer}
 use Rattle.rules.specs.declared.Answer.the-variants.{Done, Released, Held, Refused}
 use Rattle.rules.specs.declared.Command.{Command}
 use Rattle.rules.specs.declared.Command.the-variants.{Open, SetDegree, Send, Release, Deliver, Log, Checkpoint, Tell, Crash, Hear, SetGap}
+use Rattle.laws.specs.Releasing.{release-cases}
 use Rattle.laws.specs.Beside.{looksAtLedger, beside-any}
 use Rattle.testers.specs.Refused.{answers-differ}
 
@@ -43,18 +44,15 @@ no-publication a e =
 publishes-release : (σ : State) (g : List ℕ) (m : ℕ) → let r = recordOf σ m in forDesk σ r ≡ true →
     let o = stepOn house σ g (Release m) in
     Publishes (appended g (entryOf σ m r)) (o .answer) (o .ledger)
-unfolding stepOn perform stepRelease refusingBoth release mayGo report
+unfolding stepOn perform stepRelease refusingBoth mayGo report
 publishes-release σ g m d =
     let r = recordOf σ m in
-    let v = filtered σ (σ (Sender r)) (messageVector σ r) in
     let published : AfterBoth → Type 0 = λ o. Publishes (appended g (entryOf σ m r)) (o .answer) (o .ledger) in
     cond-ind published (not (inForm house σ)) (λ _. no-publication (Refused FORM) refl)
     (λ _. cond-ind published (firstOf (releaseRefusals house σ g r) == 0)
-    (λ _. cond-ind published (not (mayGo σ r (mask v))) (λ _. no-publication (Held m (mask v)) refl)
-    (λ e. let none = eqb-true (mask v) 0 (not-false _ (rw d at e)) in
-    cond-ind published (not (forDesk σ r)) (λ z. absurd (true≢false (sym z ∙ ap not d)))
-    (λ _. cond-ind published (house .entries ≤? countOf g) (λ _. no-publication (Refused LEDGER-USED-UP) refl)
-    (λ _. record { nobody-named = λ echoed mask′ q. let z : mask v ≡ mask′ = cc in sym z ∙ none; ledger-is = λ echoed mask′ q. refl }))))
+    (λ _. release-cases house σ g m r published (λ _. no-publication (Held m _) refl) (λ _ z. absurd (true≢false (sym d ∙ z))) (λ _ _. no-publication (Refused LEDGER-USED-UP) refl)
+    (λ e _ _. let none = eqb-true (mask (ownVector σ r)) 0 (rw d at e) in
+    record { nobody-named = λ echoed mask′ q. let z : mask (ownVector σ r) ≡ mask′ = cc in sym z ∙ none; ledger-is = λ echoed mask′ q. refl }))
     (λ _. no-publication (Refused (firstOf (releaseRefusals house σ g r))) refl))
 
 -- on every table, beside every ledger
@@ -89,18 +87,15 @@ module _ (t g : List ℕ) where
       (λ _. cond-ind (λ (o : AfterBoth). Unwritten (Open n k) (writtenBoth o)) (firstOf (openRefusals house g n k) == 0) (λ _. inr (opens n k)) (λ _. inl refl)) (λ _. inl refl)
 
   unwritten-release : (m : ℕ) → Unwritten (Release m) (step t g (Release m))
-  unfolding step lent stepOn perform stepRelease refusingBoth release
+  unfolding step lent stepOn perform stepRelease refusingBoth
   unwritten-release m =
       let σ = state t in
       let r = recordOf σ m in
-      let v = filtered σ (σ (Sender r)) (messageVector σ r) in
       let kept : AfterBoth → Type 0 = λ o. Unwritten (Release m) (writtenBoth o) in
       cond-ind (Unwritten (Release m)) (length t == tableWords)
       (λ _. cond-ind kept (not (inForm house σ)) (λ _. inl refl)
       (λ _. cond-ind kept (firstOf (releaseRefusals house σ g r) == 0)
-      (λ _. cond-ind kept (not (mayGo σ r (mask v))) (λ _. inl refl)
-      (λ _. cond-ind kept (not (forDesk σ r)) (λ _. inl refl)
-      (λ d. cond-ind kept (house .entries ≤? countOf g) (λ _. inl refl) (λ _. inr (lets-out m (mask v) (not-false _ d))))))
+      (λ _. release-cases house σ g m r kept (λ _. inl refl) (λ _ _. inl refl) (λ _ _. inl refl) (λ _ d _. inr (lets-out m _ d)))
       (λ _. inl refl)))
       (λ _. inl refl)
 

@@ -23,7 +23,7 @@ use Rattle.listing.specs.Quiet.{steps, goes}
 use Rattle.laws.specs.Facts.{Form, form, released-lt, house-fits}
 use Rattle.laws.specs.Allowed.{room-left}
 use Rattle.laws.specs.Chain.{chain-form}
-use Rattle.testers.specs.StepSame.{Same, same-beside, same-written, same-begins, newest-filtered}
+use Rattle.keeping.specs.StepSame.{Same, same-beside, same-written, same-begins, newest-filtered}
 use Rattle.testers.specs.Sample.{sample-run}
 use Rattle.testers.specs.Along.{stateAt, Stage}
 use Rattle.testers.specs.Judged.{sampleAt, sample-stage}

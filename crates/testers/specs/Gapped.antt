@@ -153,7 +153,7 @@ module _ (t g : List ℕ) (long : length t ≡ tableWords) (wide : length g ≡ 
 
   -- it is from an opening, with these answers
   pub gap-from-opening : FromOpening t g 3 1 (calls (asked l))
-  gap-from-opening = from-opening t g long wide l (r .looks)
+  gap-from-opening = from-opening t g long wide (calls (asked l)) (r .looks)
 
   gap-answers : Answered start l
   gap-answers = run-answered t g long wide l (r .run)

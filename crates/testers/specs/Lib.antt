@@ -1,4 +1,3 @@
-pub mod StepSame
 pub mod Refused
 pub mod Checkpoint
 pub mod Counted

@@ -7,15 +7,15 @@ use Prim.Native.Nat.{ℕ}
 use borrow.Author.Tests.{eq-eqb}
 use Rattle.base.specs.Choice.{_==_, _≤?_, cond-ind}
 use Rattle.base.specs.Cases.{Case, firstOf}
-use Rattle.table.specs.Field.{State, Incarnation, LiveCount, Sender, Receiver}
+use Rattle.table.specs.Field.{State, Incarnation, LiveCount, Receiver}
 use Rattle.rules.specs.Limits.{house, lastIncarnation}
 use Rattle.rules.specs.Refusal.{FORM, PLACES-USED-UP, INCARNATIONS-USED-UP, LEDGER-USED-UP}
-use Rattle.rules.specs.Vector.{placeVector, messageVector, filtered, condemned, mask, conflict}
-use Rattle.rules.specs.Form.{inForm, forDesk}
-use Rattle.rules.specs.Ledger.{countOf}
+use Rattle.rules.specs.Vector.{placeVector, messageVector, filtered, condemned, conflict}
+use Rattle.rules.specs.Form.{inForm}
+use Rattle.laws.specs.Releasing.{release-cases}
 use Rattle.rules.specs.Shared.{newestPlace}
 use Rattle.rules.specs.Report.{report}
-use Rattle.rules.specs.Steps.{After, after, refuse, refusing, AfterBoth, afterBoth, beside, refusingBoth, stepOpen, stepDegree, stepSend, mayGo, release, stepRelease, intervalBegins, chainFull, deliver, stepDeliver, stepLog, stepCheckpoint, stepTell, stepCrash, stepGap, noted, lowestCondemned, hear, stepHear}
+use Rattle.rules.specs.Steps.{After, after, refuse, refusing, AfterBoth, afterBoth, beside, refusingBoth, stepOpen, stepDegree, stepSend, release, stepRelease, intervalBegins, chainFull, deliver, stepDeliver, stepLog, stepCheckpoint, stepTell, stepCrash, stepGap, noted, lowestCondemned, hear, stepHear}
 use Rattle.rules.specs.Step.{perform, looksAtForm, stepOn}
 use Rattle.rules.specs.declared.Answer.{Answer}
 use Rattle.rules.specs.declared.Answer.the-variants.{Done, Sent, Released, Held, Delivered, Dropped, Waits, Crashed, Heard, Rolled, Refused}
@@ -64,12 +64,10 @@ keeps-refusing-both σ g cases h = cond-ind (KeepsBoth σ g) (firstOf cases == 0
 module _ (σ : State) where
   -- R
   keeps-release : (g : List ℕ) (m r : ℕ) → KeepsBoth σ g (release house σ g m r)
-  unfolding release report
+  unfolding report
   keeps-release g m r =
-      let v = filtered σ (σ (Sender r)) (messageVector σ r) in
-      cond-ind (KeepsBoth σ g) (not (mayGo σ r (mask v))) (λ _. other-both σ g (Held m (mask v)) σ g refl)
-      (λ _. cond-ind (KeepsBoth σ g) (not (forDesk σ r)) (λ _. other-both σ g (Released m (mask v)) _ g refl)
-      (λ _. cond-ind (KeepsBoth σ g) (house .entries ≤? countOf g) (λ _. keeps-beside σ g (refused σ LEDGER-USED-UP)) (λ _. other-both σ g (Released m (mask v)) _ _ refl)))
+      release-cases house σ g m r (KeepsBoth σ g) (λ _. other-both σ g (Held m _) σ g refl) (λ _ _. other-both σ g (Released m _) _ g refl)
+      (λ _ _. keeps-beside σ g (refused σ LEDGER-USED-UP)) (λ _ _ _. other-both σ g (Released m _) _ _ refl)
 
   -- D
   keeps-deliver : (m r : ℕ) → KeepsRefused σ (deliver house σ m r)

@@ -15,7 +15,7 @@ use Rattle.rules.specs.Form.{stateHeld, stateReleased, stateDelivered, statePub
 use Rattle.rules.specs.Ledger.{ledgerWords, blankLedger}
 use Rattle.rules.specs.Shared.{placeRecord}
 use Rattle.rules.specs.Steps.{openHouse, messageRecord}
-use Rattle.rules.specs.Step.{looksAtForm, stepOn, lent, step, Call, asks, stepCall}
+use Rattle.rules.specs.Step.{looksAtForm, stepOn, lent, step, Call, asks, releaseSet, stepCall}
 use Rattle.rules.specs.declared.Answer.{Answer}
 use Rattle.rules.specs.declared.Answer.the-variants.{Done, Sent, Released, Delivered, Crashed, Heard, Rolled}
 use Rattle.rules.specs.declared.Command.{Command}
@@ -24,7 +24,7 @@ use Rattle.listing.specs.Quiet.{steps, answers, quiet-put, quiet-part, quiet-re
 use Rattle.history.specs.Demand.{justOpened, FromOpening}
 use Rattle.history.specs.Examples.{ListingLine, line}
 use Rattle.image.specs.Tables.{Opened, opening-done}
-use Rattle.testers.specs.StepSame.{step-words}
+use Rattle.keeping.specs.StepSame.{step-words}
 
 -- after the opening of a house of three, all with the degree 1
 abbrev pub sample : List ListingLine
@@ -91,11 +91,13 @@ answers-words σ g (x ∷ xs) =
 unfoldable pub allLook : List Call → Bool
 allLook [] = true
 allLook (asks x ∷ l) = looksAtForm x && allLook l
+allLook (releaseSet messages ∷ l) = allLook l
 
 an-opening : (before after : List Call) (n k : ℕ) → allLook (before ++ asks (Open n k) ∷ after) ≡ false
 unfolding allLook
 an-opening [] after n k = refl
 an-opening (asks x ∷ before) after n k = rw (an-opening before after n k) (and-false (looksAtForm x))
+an-opening (releaseSet messages ∷ before) after n k = an-opening before after n k
 
 -- A house of three, all with the degree 1, opened in every table and every ledger of the right length.
 module _ (t g : List ℕ) (long : length t ≡ tableWords) (wide : length g ≡ ledgerWords house) where
@@ -108,12 +110,12 @@ module _ (t g : List ℕ) (long : length t ≡ tableWords) (wide : length g ≡ 
   pub opened-three : Opened 3 1 (step t g (Open 3 1))
   opened-three = opening-done t g 3 1 opens-three
 
-  module _ (l : List ListingLine) where
-    -- "in a house just opened": and there is no opening in the list
-    pub from-opening : allLook (calls (asked l)) ≡ true → FromOpening t g 3 1 (calls (asked l))
-    from-opening looks =
-        record { done = opens-three; no-opening = λ before after n k e. absurd (true≢false (sym looks ∙ ap allLook e ∙ an-opening before after n k)) }
+  -- "in a house just opened": and there is no opening in the list
+  pub from-opening : (l : List Call) → allLook l ≡ true → FromOpening t g 3 1 l
+  from-opening l looks =
+      record { done = opens-three; no-opening = λ before after n k e. absurd (true≢false (sym looks ∙ ap allLook e ∙ an-opening before after n k)) }
 
+  module _ (l : List ListingLine) where
     -- the answers, where they were computed on states
     pub run-answered : Run (openHouse 3 1) (blankLedger house) (asked l) (answered l) →
         answersFrom (justOpened t g 3 1 .table) (justOpened t g 3 1 .ledger) (calls (asked l)) ≡ answered l
@@ -125,7 +127,7 @@ module _ (t g : List ℕ) (long : length t ≡ tableWords) (wide : length g ≡ 
   -- the sample run
   pub sample-from-opening : FromOpening t g 3 1 (calls (asked sample))
   unfolding allLook
-  sample-from-opening = from-opening sample refl
+  sample-from-opening = from-opening (calls (asked sample)) refl
 
   pub sample-answers : answersFrom (justOpened t g 3 1 .table) (justOpened t g 3 1 .ledger) (calls (asked sample)) ≡ answered sample
   sample-answers = run-answered sample sample-run

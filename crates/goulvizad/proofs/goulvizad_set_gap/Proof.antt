@@ -1,6 +1,6 @@
--- The buffer has another length (wrong-values), or the step was taken (right-values) beside whatever ledger.
+-- The buffer has another length (wrong-values), or the step was done (right-values) beside whatever ledger.
 use Rattle.goulvizad.specs.Call.{gapCall}
-use Rattle.run.specs.Call.{wrong-values, right-values, step-taken}
+use Rattle.run.specs.Call.{wrong-values, right-values, answer-given}
 use borrow.Author.Needs.{needs}
 use Rattle.goulvizad.proofs.goulvizad_set_gap.Statement.{statement}
 use Rattle.goulvizad.proofs.goulvizad_set_gap.Tie as tie
@@ -14,7 +14,7 @@ unfolding gapCall
 returns-2 c =
     let given = c .before .before in
     let done = given .before .before .before .before in
-    λ g. right-values _ g _ _ (done .before .before .if1 .left) (step-taken _ g _ _ (done .set-gap .ensures g) (given .give-answer .ensures .0) (given .give-answer .ensures .1))
+    λ g. right-values _ g _ _ (done .before .before .if1 .left) (answer-given _ (done .set-gap .ensures g) (given .give-answer .ensures .0) (given .give-answer .ensures .1))
 
 pub goulvizad-set-gap-spec : {M : Type 1} → statement M
 goulvizad-set-gap-spec =

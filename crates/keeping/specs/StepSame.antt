@@ -2,7 +2,7 @@
 -- leaves the same words and the same ledger. So what is computed on states by name holds of the step function on tables of words.
 use mathlib.Core.Path.{_≡_, refl, sym, ap, ap₂, _∙_, subst}
 use mathlib.Core.Bool.{Bool, true, false, cond, not, _&&_, _||_}
-use mathlib.Core.List.{List, [], _∷_}
+use mathlib.Core.List.{List, _∷_}
 use Prim.Native.Nat.{ℕ, _+_, _-_, _<_}
 use native.Mathlib.Omega.{arith}
 use lib.Count.{ones}
@@ -10,30 +10,31 @@ use lib.ListN.{length}
 use borrow.Author.Tests.{eqb-true, eq-eqb, leb-false, lt-ltb, not-false}
 use Rattle.base.specs.Choice.{_==_, _≤?_, _<?_, or-left, or-right, le?}
 use Rattle.base.specs.Cases.{Case, _⇒_, firstOf, hit}
-use Rattle.table.specs.Field.{State, OfMessage, End, Size, Gap, Degree, Incarnation, LiveCount, StableCount, MessageState, Sender, Receiver, Payload, desk, messageHead, same}
+use Rattle.table.specs.Field.{State, End, Size, Gap, Degree, Incarnation, LiveCount, StableCount, MessageState, Receiver, desk, same}
 use Rattle.table.specs.Change.{put}
 use Rattle.table.specs.Layout.{controllers, messages, tableWords}
-use Rattle.table.specs.Words.{state, words, length-words, word-at, words-same, Agree, agree-put, agree-put-to, agree-values}
+use Rattle.table.specs.Words.{state, words, length-words, word-at, words-same, Agree, agree-put, agree-put-to}
 use Rattle.table.specs.Numbering.{numberOf, used, recordOf, number-same, used-agree, last-agree, record-agree}
 use Rattle.rules.specs.Limits.{house, lastIncarnation}
 use Rattle.rules.specs.Refusal.{FORM, LEDGER, CONTROLLER, MESSAGE, DEGREE, SAME-CONTROLLER, STATE, LOG-COUNT, NO-SUCH-CRASH, ALREADY-HEARD, MESSAGES-USED-UP, PLACES-USED-UP, INCARNATIONS-USED-UP}
-use Rattle.rules.specs.Vector.{Vector, placeVector, messageVector, flat, filtered, condemned, mask, conflict, merged}
-use Rattle.rules.specs.Form.{inForm, stateHeld, stateReleased, stateDropped, statePublished}
-use Rattle.rules.specs.Ledger.{countOf, appended}
+use Rattle.rules.specs.Vector.{Vector, placeVector, messageVector, filtered, condemned, mask, conflict, merged}
+use Rattle.rules.specs.Form.{inForm, stateHeld, stateReleased, stateDropped}
+use Rattle.rules.specs.Ledger.{countOf}
 use Rattle.rules.specs.Shared.{newestPlace, capped}
-use Rattle.rules.specs.Steps.{After, refuse, refusing, AfterBoth, beside, refusingBoth, stepOpen, stepDegree, stepSend, messageRefusals, letOut, mayGo, release, stepRelease, intervalAdded, intervalBegins, deliver, stepDeliver, stepLog, stepCheckpoint, stepTell, crashed, stepCrash, noted, lowestCondemned, hear, hearRefusals, stepHear, stepGap}
+use Rattle.rules.specs.Steps.{After, refuse, refusing, AfterBoth, beside, refusingBoth, stepOpen, stepDegree, stepSend, messageRefusals, mayGo, release, stepRelease, intervalAdded, intervalBegins, deliver, stepDeliver, stepLog, stepCheckpoint, stepTell, crashed, stepCrash, noted, lowestCondemned, hear, hearRefusals, stepHear, stepGap}
 use Rattle.rules.specs.Step.{perform, stepOn, outBoth, writtenBoth, lent, step}
 use Rattle.rules.specs.declared.Answer.the-variants.{Sent, Released, Held, Delivered, Crashed, Rolled, Refused}
 use Rattle.rules.specs.declared.Command.{Command}
 use Rattle.rules.specs.declared.Command.the-variants.{Open, SetDegree, Send, Release, Deliver, Log, Checkpoint, Tell, Crash, Hear, SetGap}
-use Rattle.laws.specs.Facts.{Form, form, below-8, controllerForm, messageForm, released-lt, message-near, house-fits}
+use Rattle.laws.specs.Facts.{Form, form, below-8, controllerForm, released-lt, message-near, house-fits}
 use Rattle.laws.specs.Allowed.{sendAllowed, messageAllowed, releaseAllowed, logAllowed, checkpointAllowed, tellAllowed, crashAllowed, hearAllowed, Room, room-left}
 use Rattle.laws.specs.Numbers.{room-live}
 use Rattle.laws.specs.Agree.{incarnation-same, live-same, stable-same, recordsFull-same, noPlace-same, state-same, placeVector-same, messageVector-same, filtered-same, condemned-same, replayed-same, lowestCondemned-same, agree-logged, agree-checkpointed, agree-capped, agree-sent, agree-begun, agree-noted, agree-told}
-use Rattle.laws.specs.Chain.{chain-counts, counts-added, Chain, chain-form, chain-noted, Starts, starts-put}
+use Rattle.laws.specs.Chain.{releasable-there, chain-counts, counts-added, Chain, chain-form, chain-noted, Starts, starts-put}
 use Rattle.laws.specs.Found.{lowest}
+use Rattle.laws.specs.Releasing.{degree-agree, desk-agree, own-agree, agree-gone, ledgerOut-agree}
 use Rattle.laws.specs.Kept.{agree-removed, agree-rolled}
 use Rattle.keeping.specs.Kept.{inForm-same}
 
 -- the same answer, and states with the same words
 pub record Same (o p : After) : Type 0 where
@@ -66,7 +67,7 @@ same-cond R {b} {c} {o} {o′} {p} {p′} q f g = subst (λ z. R (cond b o o′)
     go false f g = g refl
 
 -- a case more, by a test that is the same
-same-first : {b c : Bool} (n : ℕ) (cases cases′ : List Case) → b ≡ c → (b ≡ false → firstOf cases ≡ firstOf cases′) →
+pub same-first : {b c : Bool} (n : ℕ) (cases cases′ : List Case) → b ≡ c → (b ≡ false → firstOf cases ≡ firstOf cases′) →
     firstOf ((b ⇒ n) ∷ cases) ≡ firstOf ((c ⇒ n) ∷ cases′)
 unfolding firstOf
 same-first {b} {c} n cases cases′ q h = go b h ∙ ap (λ z. cond z n (firstOf cases′)) q
@@ -80,7 +81,7 @@ module _ (σ τ : State) (e : Agree σ τ) where
   size = e Size (omega arith)
 
   -- refused, with the same number
-  same-refuse : {i j : ℕ} → i ≡ j → Same (refuse i σ) (refuse j τ)
+  pub same-refuse : {i j : ℕ} → i ≡ j → Same (refuse i σ) (refuse j τ)
   same-refuse q = record { answer-is = ap Refused q; left-is = e }
 
   -- a step after its refusals
@@ -89,7 +90,7 @@ module _ (σ τ : State) (e : Agree σ τ) where
   unfolding refusing
   same-refusing cases cases′ q h = same-cond Same (ap (λ i. i == 0) q) (λ z. h (sym (eqb-true (firstOf cases) 0 z))) (λ _. same-refuse q)
 
-  same-refusing-both : (g : List ℕ) (cases cases′ : List Case) {o p : AfterBoth} → firstOf cases ≡ firstOf cases′ → (0 ≡ firstOf cases → SameBoth o p) →
+  pub same-refusing-both : (g : List ℕ) (cases cases′ : List Case) {o p : AfterBoth} → firstOf cases ≡ firstOf cases′ → (0 ≡ firstOf cases → SameBoth o p) →
       SameBoth (refusingBoth cases σ g o) (refusingBoth cases′ τ g p)
   unfolding refusingBoth
   same-refusing-both g cases cases′ q h =
@@ -160,22 +161,16 @@ module _ (σ τ : State) (e : Agree σ τ) where
 
     -- R
     same-released : (g : List ℕ) (m r : ℕ) → r < used σ → SameBoth (release house σ g m r) (release house τ g m r)
-    unfolding release letOut mayGo
+    unfolding release mayGo
     same-released g m r h =
-        let rl : r < messages = omega (arith, f .used-le) in
-        let sl = below-8 f (σ (Sender r)) (messageForm f r h .sender-lt) in
-        let v = message-filtered (σ (Sender r)) r sl rl in
-        let k = e (Degree (σ (Sender r))) (sl, omega arith) in
-        let outside = ap (λ x. x == desk) (e (Receiver r) (rl, omega arith)) in
-        let out : (st : ℕ) → Agree (letOut σ r _ st) (letOut τ r _ st) =
-        λ st. agree-put _ _ (MessageState r) st (agree-values σ τ (OfMessage r 0) messageHead (ap flat v) e) in
-        let released = ap (λ v. Released m (mask v)) v in
-        rw (← e (Sender r) (rl, omega arith))
-        (same-cond SameBoth (λ d. not (cond (outside d) (mask (v d) == 0) (ones (mask (v d)) ≤? k d)))
+        let w = releasable-there f h in
+        let v = own-agree σ τ e r w in
+        let outside = desk-agree σ τ e r w in
+        let k = degree-agree σ τ e r w in
+        same-cond SameBoth (λ d. not (cond (outside d) (mask (v d) == 0) (ones (mask (v d)) ≤? k d)))
         (λ _. record { answer-is = ap (λ v. Held m (mask v)) v; left-is = e; ledger-is = refl })
-        (λ _. same-cond SameBoth (ap not outside) (λ _. record { answer-is = released; left-is = out stateReleased; ledger-is = refl })
-        (λ _. same-cond SameBoth {b = house .entries ≤? countOf g} refl (λ _. same-beside g (same-refuse refl))
-        (λ _. record { answer-is = released; left-is = out statePublished; ledger-is = ap (λ x. appended g (m ∷ x ∷ [])) (e (Payload r) (rl, omega arith)) }))))
+        (λ _. same-cond SameBoth (ap (λ b. b && (house .entries ≤? countOf g)) outside) (λ _. same-beside g (same-refuse refl))
+        (λ _. record { answer-is = ap (λ v. Released m (mask v)) v; left-is = agree-gone σ τ e r w; ledger-is = ledgerOut-agree σ τ e r w g m }))
 
     same-release : (g : List ℕ) (m : ℕ) → SameBoth (stepRelease house σ g m) (stepRelease house τ g m)
     unfolding stepRelease
