@@ -8,6 +8,9 @@
 //! list, before it or after." And "the sending interval of a published message is never lost or undone
 //! in any later steps before an opening".
 //!
+//! A set that is let out is judged so by each of its messages, all with the mask of the set: "the limit of
+//! K controllers now speaks of the set as it did of one message".
+//!
 //! The ledger is judged with it, where its words are shown: in a house just opened it has the messages
 //! that the list's releases let out to the desk, in their order, with the payloads of their sends.
 //!
@@ -206,6 +209,10 @@ impl Judge {
             (Command::Release { .. }, Answer::Released { message, mask }) => {
                 history.feed(command, answer)?;
                 self.judge_release(message, mask);
+            }
+            (Command::ReleaseSet { messages }, Answer::SetReleased { mask }) => {
+                history.feed(command, answer)?;
+                messages.iter().for_each(|&m| self.judge_release(m, mask));
             }
             _ => history.feed(command, answer)?,
         }

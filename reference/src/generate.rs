@@ -1,4 +1,4 @@
-//! Random lists of steps, lent tables and ledgers, and scripts, all from a seed.
+//! Random lists of steps, sets, lent tables and ledgers, and scripts, all from a seed.
 
 mod choose;
 mod gaps;
@@ -8,13 +8,15 @@ mod named;
 mod profile;
 mod random;
 mod scripts;
+mod sets;
 mod tables;
 
 pub use gaps::{damaged_gap, gap, gapped_table};
-pub use ledgers::{damaged_ledger, sound_ledger};
+pub use ledgers::{damaged_ledger, nearly_full_ledger, sound_ledger};
 pub use lists::{senseless, Walk};
 pub use named::named;
 pub use profile::Profile;
 pub use random::Random;
 pub use scripts::script;
-pub use tables::{damaged, in_form_table, noise, wrong_length};
+pub use sets::{set, set_table};
+pub use tables::{damaged, in_form_table, noise, with_damage, wrong_length};

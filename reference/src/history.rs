@@ -196,6 +196,10 @@ impl History {
                 Answer::Sent { message },
             ) => self.send(sender, receiver, payload, message),
             (Command::Release { message }, Answer::Released { .. }) => self.release(message),
+            // In the order given.
+            (Command::ReleaseSet { messages }, Answer::SetReleased { .. }) => {
+                messages.iter().try_for_each(|&m| self.release(m))
+            }
             (Command::Deliver { message }, Answer::Delivered { .. }) => self.deliver(message),
             (Command::Log { controller, count }, _) => self.log(controller, count as usize),
             (Command::Checkpoint { controller }, _) => self.checkpoint(controller),
@@ -257,7 +261,7 @@ impl History {
         Ok(())
     }
 
-    /// "`released`: m is let out." One for the desk is published so.
+    /// "`released`: m is let out", by itself or in a set. One for the desk is published so.
     fn release(&mut self, message: u32) -> Result<(), Unreadable> {
         if self.message(message)?.receiver == DESK {
             self.published.push(message);

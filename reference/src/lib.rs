@@ -14,6 +14,7 @@
 //! - [`causes`]: what became of the causes of lost and undone intervals, in words.
 //! - [`forced`]: which new intervals the gap asked a checkpoint of, in words.
 //! - [`rollbacks`]: from which checkpoint a rollback replays, in words.
+//! - [`sets`]: what became of sets of messages, in words.
 //! - [`generate`]: random lists of steps, lent tables and scripts.
 //!
 //! Quoted sentences in the comments are the rules that the code below them follows.
@@ -29,5 +30,6 @@ pub mod lines;
 pub mod machine;
 pub mod refusal;
 pub mod rollbacks;
+pub mod sets;
 pub mod table;
 pub mod vector;

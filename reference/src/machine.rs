@@ -1,9 +1,11 @@
 //! The recovery machine: one step function over one lent table and one lent ledger.
 
 mod fault;
+mod messages;
 mod rules;
 
 pub use fault::Fault;
+pub use messages::Messages;
 
 use crate::refusal::Refusal;
 
@@ -80,6 +82,11 @@ pub enum Command {
     SetGap {
         /// How many numbers above its latest checkpoint a controller's new interval is checkpointed.
         gap: u32,
+    },
+    /// Release a set of held messages of one sender, all of them or none. The program has no line for it.
+    ReleaseSet {
+        /// Their numbers, in the order in which those for the desk are published.
+        messages: Messages,
     },
 }
 
@@ -159,6 +166,16 @@ pub enum Answer {
     Refused {
         /// One of [`refusal`](crate::refusal).
         number: Refusal,
+    },
+    /// To a set: all its messages are let out.
+    SetReleased {
+        /// The controllers that could still revoke one of them.
+        mask: u32,
+    },
+    /// To a set: all its messages are kept back.
+    SetHeld {
+        /// The controllers that could revoke one of them: too many.
+        mask: u32,
     },
 }
 

@@ -22,13 +22,16 @@ pub const CONTROLLER: Refusal = 3;
 pub const MESSAGE: Refusal = 4;
 /// "n not 1 to 8, or a degree above n"; and "a Q above 64 is refused with 5".
 pub const DEGREE: Refusal = 5;
-/// "The two controllers of S or T are equal."
+/// "The two controllers of S or T are equal"; and of a set "a list of another length, or a message named
+/// twice, is refused with 6".
 pub const SAME_CONTROLLER: Refusal = 6;
 
 // The order of steps:
 
 /// "Release of a message not held, delivery of one not released."
 pub const STATE: Refusal = 7;
+/// "When the messages have more than one sender; it stands directly after 7."
+pub const SENDERS: Refusal = 15;
 /// "q is 0 or above live minus stable."
 pub const LOG_COUNT: Refusal = 8;
 /// "a's own end word for t is 0, or t above 15."

@@ -1,26 +1,37 @@
 //! The generators reach every answer, every refusal, the limits of a house, all that becomes of the
 //! causes of lost and undone intervals, all checkpoints that a rollback goes back to, all that becomes of
-//! messages for the desk, and all checkpoints that the gap forces or doesn't.
+//! messages for the desk and of sets, and all checkpoints that the gap forces or doesn't.
 
 use reference::causes::{self, Offers};
 use reference::demand::Judge;
 use reference::forced;
 use reference::generate::{
-    damaged, damaged_gap, damaged_ledger, gap, gapped_table, in_form_table, named, senseless,
-    sound_ledger, wrong_length, Profile, Random, Walk,
+    damaged, damaged_gap, damaged_ledger, gap, gapped_table, in_form_table, named,
+    nearly_full_ledger, senseless, set, set_table, sound_ledger, wrong_length, Profile, Random,
+    Walk,
 };
 use reference::lines;
 use reference::machine::{step, Answer, Command};
 use reference::refusal::{self, Refusal};
 use reference::rollbacks;
+use reference::sets;
 use reference::table::{state, Table, DESK};
 use std::collections::{BTreeMap, BTreeSet};
 
-/// Stands for the step that sets the gap, which has no letter.
+/// Stand for the step that sets the gap and the one that releases a set, which have no letter.
 const SET_GAP: char = 'q';
+const RELEASE_SET: char = 's';
+
+fn letter(command: Command) -> char {
+    let line = lines::write(command).and_then(|line| line.chars().next());
+    line.unwrap_or(match command {
+        Command::ReleaseSet { .. } => RELEASE_SET,
+        _ => SET_GAP,
+    })
+}
 
 /// The answers without their numbers, but a refusal with its own and the letter of its step; and how
-/// often each case of causes, of rollbacks, of the desk and of the gap came up.
+/// often each case of causes, of rollbacks, of the desk, of the gap and of sets came up.
 #[derive(Default)]
 struct Seen {
     answers: BTreeSet<String>,
@@ -29,15 +40,14 @@ struct Seen {
     rollbacks: BTreeMap<String, u64>,
     desk: BTreeMap<&'static str, u64>,
     forced: BTreeMap<String, u64>,
+    sets: BTreeMap<String, u64>,
 }
 
 impl Seen {
     fn note(&mut self, command: Command, answer: Answer) {
-        let line = lines::write(command);
-        let letter = line.map_or(Some(SET_GAP), |line| line.chars().next());
         match answer {
             Answer::Refused { number } => {
-                self.refusals.extend(letter.map(|letter| (number, letter)));
+                self.refusals.insert((number, letter(command)));
             }
             _ => {
                 let line = lines::render(&answer);
@@ -63,6 +73,19 @@ impl Seen {
         for case in cases {
             *self.forced.entry(case).or_default() += 1;
         }
+    }
+
+    fn note_sets(&mut self, cases: impl IntoIterator<Item = String>) {
+        for case in cases {
+            *self.sets.entry(case).or_default() += 1;
+        }
+    }
+
+    /// These cases of sets came up, and no other.
+    fn assert_sets(&self, expected: &[&[&str]]) {
+        let expected: BTreeSet<&str> = expected.concat().into_iter().collect();
+        println!("of sets: {:#?}", self.sets);
+        assert!(self.sets.keys().eq(expected), "{:?}", self.sets.keys());
     }
 
     /// These cases of the gap came up, and no other.
@@ -132,7 +155,7 @@ const DESK_ON_LENT: [&str; 7] = [
     "sent",
 ];
 
-const ANSWERS: [&str; 10] = [
+const ANSWERS: [&str; 12] = [
     "crashed",
     "delivered",
     "done",
@@ -142,16 +165,19 @@ const ANSWERS: [&str; 10] = [
     "released",
     "rolled",
     "sent",
+    "set_held",
+    "set_released",
     "waits",
 ];
 
 /// Which steps can be refused for each reason but the host's, in the order of their letters.
-const REFUSED: [(Refusal, &str); 11] = [
+const REFUSED: [(Refusal, &str); 12] = [
     (refusal::CONTROLLER, "CHKLSTX"),
-    (refusal::MESSAGE, "DR"),
+    (refusal::MESSAGE, "DRs"),
     (refusal::DEGREE, "KOq"),
-    (refusal::SAME_CONTROLLER, "ST"),
-    (refusal::STATE, "DR"),
+    (refusal::SAME_CONTROLLER, "STs"),
+    (refusal::STATE, "DRs"),
+    (refusal::SENDERS, "s"),
     (refusal::LOG_COUNT, "L"),
     (refusal::NO_SUCH_CRASH, "H"),
     (refusal::ALREADY_HEARD, "H"),
@@ -170,6 +196,7 @@ fn lists_reach_everything() {
         for seed in 0..150 {
             let mut walk = Walk::new(seed, profile);
             let mut before = walk.table().to_vec();
+            let mut ledger = walk.ledger().to_vec();
             let mut offers = Offers::default();
             let mut judge = Judge::default();
             while let Some((command, answer)) = walk.next() {
@@ -180,8 +207,10 @@ fn lists_reach_everything() {
                 seen.note_desk(&before, false, answer, walk.table());
                 seen.note_forced(forced::cases(&before, command, answer, walk.table()));
                 seen.note_forced(forced::beside_ceiling(judge.ceiling(), &before, answer));
+                seen.note_sets(sets::cases(&before, &ledger, command, answer));
                 judge.feed(command, answer);
                 before.copy_from_slice(walk.table());
+                ledger.copy_from_slice(walk.ledger());
                 let table = Table::new(walk.table()).expect("the right length");
                 sizes.insert(table.n());
                 sent = sent.max(table.sent());
@@ -217,6 +246,7 @@ fn lists_reach_everything() {
     assert!(seen.rollbacks.keys().eq(&rollbacks::CASES));
     assert!(seen.desk.keys().eq(&DESK_IN_LISTS));
     seen.assert_forced(&[&forced::IN_LISTS, &forced::BESIDE_THE_CEILING]);
+    seen.assert_sets(&[&sets::IN_LISTS]);
     assert_eq!((incarnation, live, sent, published), (15, 64, 128, 128));
     assert!(sizes.iter().eq(&[1, 2, 3, 4, 5, 6, 7, 8]), "{sizes:?}");
     assert!(degrees_released.into_iter().eq(0..=8));
@@ -228,16 +258,18 @@ fn lists_reach_everything() {
 fn lent_tables_reach_everything() {
     let mut random = Random::new(21);
     let mut seen = Seen::default();
-    for _ in 0..6_000 {
-        let mut words = match random.below(8) {
+    for _ in 0..8_000 {
+        let mut words = match random.below(10) {
             0 => wrong_length(&mut random),
             1 => damaged(&mut random).0,
             2 => damaged_gap(&mut random),
             3 => in_form_table(&mut random),
+            4 | 5 => set_table(&mut random),
             _ => gapped_table(&mut random),
         };
-        let mut ledger = match random.below(4) {
-            0 => damaged_ledger(&mut random),
+        let mut ledger = match random.below(8) {
+            0 | 1 => damaged_ledger(&mut random),
+            2 => nearly_full_ledger(&mut random),
             _ => sound_ledger(&mut random),
         };
         for _ in 0..10 {
@@ -245,9 +277,12 @@ fn lent_tables_reach_everything() {
             sensible.push(Command::SetGap {
                 gap: gap(&mut random),
             });
+            let messages = set(&mut random, &words);
+            sensible.extend([Command::ReleaseSet { messages }; 2]);
             let sensible = random.pick(&sensible).filter(|_| random.chance(50));
             let command = sensible.unwrap_or_else(|| senseless(&mut random));
             let before = words.clone();
+            let ledger_before = ledger.clone();
             let full = ledger.first() == Some(&128);
             let answer = step(&mut words, &mut ledger, command);
             seen.note(command, answer);
@@ -255,6 +290,7 @@ fn lent_tables_reach_everything() {
             seen.note_rollback(rollbacks::case(&before, answer));
             seen.note_desk(&before, full, answer, &words);
             seen.note_forced(forced::cases(&before, command, answer, &words));
+            seen.note_sets(sets::cases(&before, &ledger_before, command, answer));
         }
     }
     println!(
@@ -265,11 +301,12 @@ fn lent_tables_reach_everything() {
     assert!(seen.rollbacks.keys().eq(&rollbacks::CASES));
     assert!(seen.desk.keys().eq(&DESK_ON_LENT));
     seen.assert_forced(&[&forced::IN_LISTS, &forced::ON_LENT_TOO]);
+    seen.assert_sets(&[&sets::IN_LISTS, &sets::ON_LENT_TOO]);
     assert!(seen.answers.iter().eq(&ANSWERS), "{:?}", seen.answers);
-    assert_eq!(seen.refused(refusal::LENGTH), "CDHKLORSTXq");
-    assert_eq!(seen.refused(refusal::FORM), "CDHKLRSTXq");
-    assert_eq!(seen.refused(refusal::LEDGER), "OR");
-    assert_eq!(seen.refused(refusal::LEDGER_USED_UP), "R");
+    assert_eq!(seen.refused(refusal::LENGTH), "CDHKLORSTXqs");
+    assert_eq!(seen.refused(refusal::FORM), "CDHKLRSTXqs");
+    assert_eq!(seen.refused(refusal::LEDGER), "ORs");
+    assert_eq!(seen.refused(refusal::LEDGER_USED_UP), "Rs");
     for (refusal, letters) in REFUSED {
         assert_eq!(seen.refused(refusal), letters, "refused {refusal}");
     }

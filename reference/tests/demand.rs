@@ -1,22 +1,13 @@
 //! The judge of demand 3, on lists written by hand: it accepts the right answers and ledgers, and finds
 //! each kind of breach in wrong ones.
 
-use reference::demand::{check, Breach, Judge};
-use reference::lines::{parse, render, run};
-use reference::machine::{step, Answer, Command};
-use reference::refusal;
+mod common;
 
-/// Steps with the sound machine's answers.
-fn sound(script: &str) -> Vec<(Command, Answer)> {
-    let mut table = vec![0; reference::table::WORDS];
-    let mut ledger = vec![0; reference::ledger::WORDS];
-    let commands = script
-        .lines()
-        .map(|line| parse(line.as_bytes()).expect("a good line"));
-    commands
-        .map(|command| (command, step(&mut table, &mut ledger, command)))
-        .collect()
-}
+use common::sound;
+use reference::demand::{check, Breach, Judge};
+use reference::lines::{render, run};
+use reference::machine::{Answer, Command};
+use reference::refusal;
 
 /// Two messages on, controllers 1 and 2 rest on work of 1 that is then lost.
 const CHAIN: &str = "O 3 3\nS 0 1 7\nR 1\nD 1\nS 1 2 9\nR 2\nD 2\nX 1";

@@ -3,8 +3,8 @@
 use reference::demand::{Breach, Judge};
 use reference::facts;
 use reference::generate::{
-    damaged, damaged_gap, damaged_ledger, gap, gapped_table, named, senseless, sound_ledger,
-    Profile, Random, Walk,
+    damaged, damaged_gap, damaged_ledger, gap, gapped_table, named, senseless, set, set_table,
+    sound_ledger, Profile, Random, Walk,
 };
 use reference::history::Misreading;
 use reference::machine::{step, step_with, Command, Fault};
@@ -146,14 +146,37 @@ const EXPECTED: [(Fault, &[By]); Fault::PLANTED.len()] = [
     (Fault::GapOf65InForm, &[Lent]),
     (Fault::GapOutOfForm, &[Lists, Lent]),
     (Fault::GapNotCleared, &[Demand, Replayed, Lists, Lent]),
+    // The masks of a sender's messages are nested in lists: the largest is the union. But a reading that
+    // could go by itself goes with others, and is never lost for it.
+    (Fault::EachMaskByItself, &[Lists, Lent]),
+    (Fault::LargestMaskForTheUnion, &[Lent]),
+    (Fault::StoredPairsJoined, &[Lists, Lent]),
+    (Fault::SetByTheDegree, &[Published, Lists, Lent]),
+    (Fault::DoubledTaken, &[Lists, Lent]),
+    (Fault::SeventeenTaken, &[Lists, Lent]),
+    (Fault::NoneTaken, &[Lists, Lent]),
+    (Fault::SendersTaken, &[Lists, Lent]),
+    (Fault::LengthBeforeMessages, &[Lists, Lent]),
+    (Fault::SendersBeforeStates, &[Lists, Lent]),
+    (Fault::FirstLetOut, &[Ledger, Lists, Lent]),
+    (Fault::ThoseWithinLetOut, &[Ledger, Lists, Lent]),
+    // What is delivered with less than it rests on stays live when that is lost.
+    (Fault::OneVectorForAll, &[Demand, Lists, Lent]),
+    (Fault::PublishedInTableOrder, &[Ledger, Lists, Lent]),
+    // From an opening there is always room.
+    (Fault::RoomForTheFirst, &[Lent]),
+    (Fault::SetFullBeforeHeld, &[Lent]),
+    (Fault::SetLedgerOnlyForTheDesk, &[Lent]),
 ];
 
-const PROFILES: [(&Profile, u64); 5] = [
+const PROFILES: [(&Profile, u64); 7] = [
     (&Profile::CRASHES, 50),
     (&Profile::PARTIAL, 30),
     (&Profile::WORN, 15),
     (&Profile::GAPS, 40),
     (&Profile::CEILING, 40),
+    (&Profile::SETS, 40),
+    (&Profile::REELS, 20),
 ];
 
 /// Walks one list of a faulty machine, and holds each step against the sound one.
@@ -202,8 +225,9 @@ fn inspect_lists(fault: Fault) -> Found {
     found
 }
 
-/// How many single steps are tried on what is lent.
+/// How many single steps are tried on what is lent, and how many sets.
 const LENT_STEPS: usize = 2_500;
+const LENT_SETS: usize = 1_500;
 
 fn has_most_rules(command: Command) -> bool {
     matches!(
@@ -236,12 +260,26 @@ fn lent(random: &mut Random) -> (Vec<u32>, Vec<u32>, Command) {
     (table, ledger, chosen.unwrap_or_else(|| senseless(random)))
 }
 
+/// A table, mostly with many messages held, a ledger and a set.
+fn lent_set(random: &mut Random) -> (Vec<u32>, Vec<u32>, Command) {
+    let (mut table, ledger, _) = lent(random);
+    if random.chance(80) {
+        table = set_table(random);
+    }
+    let messages = set(random, &table);
+    (table, ledger, Command::ReleaseSet { messages })
+}
+
 /// In how many single steps each machine differs from the sound one.
 fn inspect_lent(faults: &[Fault]) -> Vec<usize> {
-    let mut random = Random::new(31);
+    let [mut random, mut of_sets] = [31, 32].map(Random::new);
     let mut differences = vec![0; faults.len()];
-    for _ in 0..LENT_STEPS {
-        let (table, ledger, command) = lent(&mut random);
+    for step in 0..LENT_STEPS + LENT_SETS {
+        let (table, ledger, command) = if step < LENT_STEPS {
+            lent(&mut random)
+        } else {
+            lent_set(&mut of_sets)
+        };
         let outcome = |fault| {
             let (mut table, mut ledger) = (table.clone(), ledger.clone());
             let answer = step_with(fault, &mut table, &mut ledger, command);
@@ -259,7 +297,7 @@ fn inspect_lent(faults: &[Fault]) -> Vec<usize> {
 fn every_fault_is_found_by_these_means() {
     let lent = inspect_lent(&Fault::PLANTED);
     let lists: u64 = PROFILES.iter().map(|(_, lists)| lists).sum();
-    println!("of {lists} lists and {LENT_STEPS} steps on what is lent:");
+    println!("of {lists} lists, and of {LENT_STEPS} steps and {LENT_SETS} sets on what is lent:");
     print_row("", CHECKS.map(|by| format!("{by:?}")));
     let mut found = EXPECTED.map(|(fault, _)| (fault, inspect_lists(fault)));
     for ((fault, found), lent) in found.iter_mut().zip(lent) {

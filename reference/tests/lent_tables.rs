@@ -3,7 +3,8 @@
 //! its rule names, and checkpoints are forced where the gap asks for them.
 
 use reference::generate::{
-    damaged_ledger, gap, gapped_table, named, senseless, sound_ledger, Random,
+    damaged_ledger, gap, gapped_table, named, nearly_full_ledger, senseless, set, set_table,
+    sound_ledger, Random,
 };
 use reference::ledger::is_sound;
 use reference::machine::{step, Answer, Command};
@@ -65,6 +66,9 @@ impl Copier<'_> {
                     self.rollback(hearer as usize);
                 }
             }
+            Command::ReleaseSet { messages } if matches!(answer, Answer::SetReleased { .. }) => {
+                messages.iter().for_each(|&message| self.let_out(message));
+            }
             _ => self.message(answer),
         }
     }
@@ -92,18 +96,7 @@ impl Copier<'_> {
                 self.to.set_sent(message);
                 self.to.set_message(message, &self.from.message(message));
             }
-            Answer::Released { message, .. } => {
-                let state = match self.to.message(message).receiver {
-                    DESK => state::PUBLISHED,
-                    _ => state::RELEASED,
-                };
-                let record = Message {
-                    state,
-                    vector: self.from.message(message).vector,
-                    ..self.to.message(message)
-                };
-                self.to.set_message(message, &record);
-            }
+            Answer::Released { message, .. } => self.let_out(message),
             Answer::Dropped { message } => self.to.set_state(message, state::DROPPED),
             Answer::Delivered { message, .. } => {
                 self.to.set_state(message, state::DELIVERED);
@@ -111,6 +104,20 @@ impl Copier<'_> {
             }
             _ => {}
         }
+    }
+
+    /// The state and the vector of a message that was let out, by itself or in a set.
+    fn let_out(&mut self, message: u32) {
+        let state = match self.to.message(message).receiver {
+            DESK => state::PUBLISHED,
+            _ => state::RELEASED,
+        };
+        let record = Message {
+            state,
+            vector: self.from.message(message).vector,
+            ..self.to.message(message)
+        };
+        self.to.set_message(message, &record);
     }
 
     /// What a delivery writes of its receiver: the next place and the live count. If the place is flagged,
@@ -185,42 +192,64 @@ impl Copier<'_> {
 }
 
 /// The ledger after a step, word by word: an opening that is done clears it, and publishing appends one
-/// pair.
+/// pair for each message.
 fn ledger_after(before: &[u32], table: &[u32], command: Command, answer: Answer) -> Vec<u32> {
     let mut words = before.to_vec();
     match answer {
         Answer::Done if matches!(command, Command::Open { .. }) => words.fill(0),
-        Answer::Released { message, mask } => {
-            let table = Table::new(table).expect("the right length");
-            let record = table.message(message);
-            if record.receiver == DESK {
-                assert_eq!(mask, 0);
-                let count = words[0] as usize;
-                words[0] += 1;
-                words[1 + 2 * count] = message;
-                words[2 + 2 * count] = record.payload;
-            }
+        Answer::Released { message, mask } => publish(&mut words, table, &[message], mask),
+        Answer::SetReleased { mask } => {
+            let Command::ReleaseSet { messages } = command else {
+                panic!("{command:?} is no set");
+            };
+            publish(&mut words, table, &messages, mask);
         }
         _ => {}
     }
     words
 }
 
-/// Mostly sound.
-fn any_ledger(random: &mut Random) -> Vec<u32> {
-    if random.chance(75) {
-        sound_ledger(random)
-    } else {
-        damaged_ledger(random)
+/// Appends the readings among these messages, in this order.
+fn publish(words: &mut [u32], table: &[u32], messages: &[u32], mask: u32) {
+    let table = Table::new(table).expect("the right length");
+    for &message in messages {
+        let record = table.message(message);
+        if record.receiver == DESK {
+            assert_eq!(mask, 0);
+            let count = words[0] as usize;
+            words[0] += 1;
+            words[1 + 2 * count] = message;
+            words[2 + 2 * count] = record.payload;
+        }
     }
 }
 
-/// A senseless step, a gap set, and one of each kind that names what is there.
+/// Mostly sound.
+fn any_ledger(random: &mut Random) -> Vec<u32> {
+    match random.below(8) {
+        0 | 1 => damaged_ledger(random),
+        2 => nearly_full_ledger(random),
+        _ => sound_ledger(random),
+    }
+}
+
+/// A senseless step, a gap set, sets, and a step of each letter that names what is there.
 fn commands(random: &mut Random, words: &[u32]) -> Vec<Command> {
     let gap = gap(random);
+    let sets = [0, 1, 2].map(|_| set(random, words));
     let mut commands = vec![senseless(random), Command::SetGap { gap }];
+    commands.extend(sets.map(|messages| Command::ReleaseSet { messages }));
     commands.extend(named(random, words));
     commands
+}
+
+/// A table in form, sometimes one with many messages held.
+fn any_table(random: &mut Random) -> Vec<u32> {
+    if random.chance(30) {
+        set_table(random)
+    } else {
+        gapped_table(random)
+    }
 }
 
 /// Whether a step forced a checkpoint where the gap asks for one, and nowhere else: of the interval that it
@@ -243,7 +272,7 @@ fn steps_keep_the_form_and_write_only_what_they_name() {
     let mut random = Random::new(11);
     let (mut accepted, mut refused, mut published) = (0, 0, 0);
     for _ in 0..1_500 {
-        let mut words = gapped_table(&mut random);
+        let mut words = any_table(&mut random);
         let mut ledger = any_ledger(&mut random);
         for command in commands(&mut random, &words) {
             let (before, ledger_before) = (words.clone(), ledger.clone());
@@ -273,20 +302,24 @@ fn steps_keep_the_form_and_write_only_what_they_name() {
 }
 
 /// "14 .. stands .. at release and, for the length only, .. at opening": to all other steps the ledger is
-/// all the same, and so it is to a release as long as it is sound and not full.
+/// all the same, and so it is to a release, of a set too, as long as it is sound and has room.
 #[test]
 fn only_a_release_and_an_opening_look_at_the_ledger() {
     let mut random = Random::new(14);
     for _ in 0..300 {
-        let words = gapped_table(&mut random);
+        let words = any_table(&mut random);
         for command in commands(&mut random, &words) {
-            let looks = matches!(command, Command::Release { .. } | Command::Open { .. });
+            let looks = matches!(
+                command,
+                Command::Release { .. } | Command::Open { .. } | Command::ReleaseSet { .. }
+            );
             let mut outcomes = Vec::new();
             for _ in 0..3 {
                 let mut ledger = if looks {
+                    // With room for every reading of a set.
                     let mut sound = sound_ledger(&mut random);
-                    sound[0] = sound[0].min(127);
-                    sound[255..].fill(0);
+                    sound[0] = sound[0].min(112);
+                    sound[225..].fill(0);
                     sound
                 } else {
                     any_ledger(&mut random)
@@ -305,7 +338,7 @@ fn only_a_release_and_an_opening_look_at_the_ledger() {
 fn the_same_table_and_ledger_give_the_same_answer() {
     let mut random = Random::new(12);
     for _ in 0..200 {
-        let words = gapped_table(&mut random);
+        let words = any_table(&mut random);
         let ledger = any_ledger(&mut random);
         for command in commands(&mut random, &words) {
             let [one, two] = [0, 1].map(|_| {
@@ -325,7 +358,7 @@ fn no_step_gives_state_lost() {
     let mut random = Random::new(13);
     let (mut kept, mut settled) = (0, 0);
     for _ in 0..1_500 {
-        let words = gapped_table(&mut random);
+        let words = any_table(&mut random);
         for command in commands(&mut random, &words) {
             let mut after = words.clone();
             let answer = step(&mut after, &mut sound_ledger(&mut random), command);

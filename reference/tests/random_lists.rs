@@ -1,6 +1,6 @@
 //! Random lists of the sound machine: demand 3 and the ceiling on replay hold, the table and the ledger
-//! agree with their history after each step, so do the replay figures, and a refused step changes no word
-//! of either.
+//! agree with their history after each step, so do the replay figures, and a refused step and a set that is
+//! held change no word of either.
 
 use reference::demand::Judge;
 use reference::facts;
@@ -20,9 +20,9 @@ fn walk_list(profile: &'static Profile, seed: u64) -> usize {
     let mut steps = 0;
     while let Some((command, answer)) = walk.next() {
         let label = || format!("{} list {seed}, step {steps}: {command:?}", profile.name);
-        if matches!(answer, Answer::Refused { .. }) {
+        if matches!(answer, Answer::Refused { .. } | Answer::SetHeld { .. }) {
             let unwritten = before == walk.table() && ledger_before == walk.ledger();
-            assert!(unwritten, "{}: refused, and wrote", label());
+            assert!(unwritten, "{}: {answer:?}, and wrote", label());
         } else {
             before.copy_from_slice(walk.table());
             ledger_before.copy_from_slice(walk.ledger());
@@ -84,6 +84,16 @@ fn ceiling() {
 #[test]
 fn long() {
     assert!(walk_lists(&Profile::LONG, 120) > 50_000);
+}
+
+#[test]
+fn sets() {
+    assert!(walk_lists(&Profile::SETS, 2_000) > 250_000);
+}
+
+#[test]
+fn reels() {
+    assert!(walk_lists(&Profile::REELS, 600) > 100_000);
 }
 
 #[test]

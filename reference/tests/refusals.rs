@@ -1,4 +1,5 @@
-//! Every refusal, and which is given where several apply: the lowest number, but for the ledger's two.
+//! Every refusal of a step with a letter, and which is given where several apply: the lowest number, but for
+//! the ledger's two.
 //! [`House::say`] sees to it that no refusal changes a word.
 
 mod common;

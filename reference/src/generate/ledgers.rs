@@ -15,6 +15,12 @@ pub fn sound_ledger(random: &mut Random) -> Vec<u32> {
     filled(random, count)
 }
 
+/// A sound ledger with room for a set of readings, for some of them, or for none.
+pub fn nearly_full_ledger(random: &mut Random) -> Vec<u32> {
+    let count = random.within(ENTRIES - 16..=ENTRIES);
+    filled(random, count)
+}
+
 /// A ledger that isn't sound: of another length, with a count too high, or with a word past its count.
 pub fn damaged_ledger(random: &mut Random) -> Vec<u32> {
     match random.below(3) {
@@ -109,6 +115,19 @@ mod tests {
             .collect();
         assert!([0, 127, 128].iter().all(|count| counts.contains(count)));
         assert!(counts.len() > 50, "{counts:?}");
+    }
+
+    #[test]
+    fn nearly_full_ledgers_are_sound() {
+        let mut random = Random::new(3);
+        let ledgers = (0..300).map(|_| nearly_full_ledger(&mut random));
+        let counts: BTreeSet<u32> = ledgers
+            .map(|words| {
+                assert!(is_sound(&words));
+                words[0]
+            })
+            .collect();
+        assert!(counts.into_iter().eq(112..=128));
     }
 
     #[test]

@@ -1,7 +1,7 @@
 //! Random lists of steps: sensible ones, chosen by looking at the table, and senseless ones.
 
 use super::choose::{opening, Chooser};
-use super::{gap, noise, sound_ledger, Profile, Random};
+use super::{gap, noise, set, sound_ledger, Profile, Random};
 use crate::ledger;
 use crate::machine::{step_with, Answer, Command, Fault};
 use crate::table::{in_form, Table, CONTROLLERS, LAST_GAP, WORDS};
@@ -66,6 +66,10 @@ impl Walk {
         }
         if let Some(gap) = self.gap() {
             return Command::SetGap { gap };
+        }
+        if self.profile.sets > 0 && self.random.chance(self.profile.sets) {
+            let messages = set(&mut self.random, &self.table);
+            return Command::ReleaseSet { messages };
         }
         if self.random.chance(self.profile.senseless) {
             return senseless(&mut self.random);

@@ -46,6 +46,8 @@ pub struct Profile {
     pub(super) weights: [(Kind, u32); 10],
     /// How the gap is set, if at all. The program has no line for it.
     pub(super) gaps: Option<Gaps>,
+    /// How many of a hundred steps release a set. The program has no line for that either.
+    pub(super) sets: u32,
 }
 
 /// Weights in the order of the letters O K S R D L C T X H.
@@ -75,6 +77,7 @@ impl Profile {
         to_desk: 20,
         weights: weights([1, 6, 50, 60, 70, 12, 4, 14, 6, 14]),
         gaps: None,
+        sets: 0,
     };
     /// Few controllers that crash often and hear late.
     pub const CRASHES: Profile = Profile {
@@ -86,6 +89,7 @@ impl Profile {
         to_desk: 20,
         weights: weights([0, 2, 50, 60, 80, 8, 2, 6, 9, 16]),
         gaps: None,
+        sets: 0,
     };
     /// Little is stable and little is known, so that most work hangs on other work.
     pub const PARTIAL: Profile = Profile {
@@ -97,6 +101,7 @@ impl Profile {
         to_desk: 20,
         weights: weights([0, 2, 60, 70, 90, 6, 0, 6, 5, 10]),
         gaps: None,
+        sets: 0,
     };
     /// One controller's chain and the messages fill up.
     pub const FULL: Profile = Profile {
@@ -108,6 +113,7 @@ impl Profile {
         to_desk: 2,
         weights: weights([0, 2, 60, 60, 70, 30, 12, 10, 2, 4]),
         gaps: None,
+        sets: 0,
     };
     /// Incarnations run out.
     pub const WORN: Profile = Profile {
@@ -119,6 +125,7 @@ impl Profile {
         to_desk: 10,
         weights: weights([0, 3, 40, 50, 70, 2, 1, 4, 14, 30]),
         gaps: None,
+        sets: 0,
     };
     /// Mostly nonsense.
     pub const WILD: Profile = Profile {
@@ -130,6 +137,7 @@ impl Profile {
         to_desk: 20,
         weights: weights([3, 10, 30, 30, 30, 10, 10, 10, 10, 10]),
         gaps: None,
+        sets: 0,
     };
     /// All goes to the desk, until the ledger is full: it takes every message of a house.
     pub const DESK: Profile = Profile {
@@ -141,6 +149,7 @@ impl Profile {
         to_desk: 100,
         weights: weights([0, 2, 60, 60, 4, 4, 2, 4, 2, 4]),
         gaps: None,
+        sets: 0,
     };
     /// As [`CRASHES`](Profile::CRASHES), where the gap is set anew while work goes on, and turned off.
     pub const GAPS: Profile = Profile {
@@ -155,6 +164,7 @@ impl Profile {
             percent: 6,
             first: None,
         }),
+        sets: 0,
     };
     /// A narrow gap from the opening on, and crashes that follow each other closely.
     pub const CEILING: Profile = Profile {
@@ -169,6 +179,7 @@ impl Profile {
             percent: 2,
             first: Some(1..=6),
         }),
+        sets: 0,
     };
     /// Any gap from the opening on, with one controller's chain filling up.
     pub const LONG: Profile = Profile {
@@ -183,8 +194,36 @@ impl Profile {
             percent: 0,
             first: Some(1..=64),
         }),
+        sets: 0,
     };
-    /// Those whose lists are lines of the program: the gap is never set.
+    /// Readings that leave together, among crashes, while the gap is set at times.
+    pub const SETS: Profile = Profile {
+        name: "sets",
+        controllers: 2..=4,
+        steps: 80..=240,
+        senseless: 2,
+        to_last: 20,
+        to_desk: 25,
+        weights: weights([1, 4, 90, 8, 50, 10, 5, 12, 4, 8]),
+        gaps: Some(Gaps {
+            percent: 1,
+            first: None,
+        }),
+        sets: 12,
+    };
+    /// Reels of many readings, of which most are held until a set takes them.
+    pub const REELS: Profile = Profile {
+        name: "reels",
+        controllers: 1..=8,
+        steps: 120..=260,
+        senseless: 1,
+        to_last: 0,
+        to_desk: 40,
+        weights: weights([0, 2, 120, 2, 12, 4, 3, 8, 1, 2]),
+        gaps: None,
+        sets: 7,
+    };
+    /// Those whose lists are lines of the program: the gap is never set, and no set released.
     pub const LETTERED: [&'static Profile; 7] = [
         &Profile::MIXED,
         &Profile::CRASHES,
@@ -195,7 +234,7 @@ impl Profile {
         &Profile::DESK,
     ];
     /// All of them.
-    pub const ALL: [&'static Profile; 10] = [
+    pub const ALL: [&'static Profile; 12] = [
         &Profile::MIXED,
         &Profile::CRASHES,
         &Profile::PARTIAL,
@@ -206,5 +245,7 @@ impl Profile {
         &Profile::GAPS,
         &Profile::CEILING,
         &Profile::LONG,
+        &Profile::SETS,
+        &Profile::REELS,
     ];
 }

@@ -15,7 +15,12 @@ pub fn noise(random: &mut Random) -> Vec<u32> {
 
 /// A table in form with one word changed, and where. It may be in form still.
 pub fn damaged(random: &mut Random) -> (Vec<u32>, usize) {
-    let mut words = in_form_table(random);
+    let words = in_form_table(random);
+    with_damage(random, words)
+}
+
+/// The same of a given table in form.
+pub fn with_damage(random: &mut Random, mut words: Vec<u32>) -> (Vec<u32>, usize) {
     if random.chance(30) {
         return damaged_message(random, words);
     }

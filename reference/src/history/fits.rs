@@ -14,7 +14,8 @@ pub(super) fn fits(command: Command, answer: Answer) -> bool {
             | Command::SetGap { .. },
             Answer::Done,
         )
-        | (Command::Send { .. }, Answer::Sent { .. }) => true,
+        | (Command::Send { .. }, Answer::Sent { .. })
+        | (Command::ReleaseSet { .. }, Answer::SetReleased { .. } | Answer::SetHeld { .. }) => true,
         (
             Command::Release { message: named },
             Answer::Released { message, .. } | Answer::Held { message, .. },

@@ -2,15 +2,18 @@
 //!
 //! The rules ask for a fault in one place each; what the faulty machine does instead is here, so that
 //! the sound rules can be read without it. What a rule asks for is in [`asked`]; what is only bent after a
-//! sound step is in [`bent`], and in [`gap`] where it concerns the gap.
+//! sound step is in [`bent`], and in [`gap`] where it concerns the gap. Both are in [`sets`] where it
+//! concerns a set.
 
 mod asked;
 mod bent;
 mod gap;
+mod sets;
 
 pub(super) use asked::{
     condemned_by_number, in_form, larger_of_each, ledger_fits, most_gap, replayed_by_hearing,
 };
+pub(super) use sets::{look_at_set, readings_counted, union};
 
 use super::{Answer, Command};
 use crate::refusal;
@@ -122,11 +125,45 @@ pub enum Fault {
     GapOutOfForm,
     /// Opening without clearing the gap.
     GapNotCleared,
+    /// Holding each mask of a set against the degree by itself, and not their union.
+    EachMaskByItself,
+    /// Taking the largest of the masks for the union.
+    LargestMaskForTheUnion,
+    /// Joining the masks of stored pairs in a set instead of filtered ones.
+    StoredPairsJoined,
+    /// Letting a set with a message for the desk out by the degree, as any other.
+    SetByTheDegree,
+    /// Taking a set that names a message twice.
+    DoubledTaken,
+    /// Taking a set of 17.
+    SeventeenTaken,
+    /// Taking a set of none.
+    NoneTaken,
+    /// Taking a set of several senders.
+    SendersTaken,
+    /// Looking whether all messages of a set are there after looking at its length.
+    LengthBeforeMessages,
+    /// Looking at the senders of a set before looking whether all its messages are held.
+    SendersBeforeStates,
+    /// Letting out only the first message of a set that goes.
+    FirstLetOut,
+    /// Letting out those messages of a set that stays held which could go by themselves.
+    ThoseWithinLetOut,
+    /// Letting all messages of a set out with the first one's vector.
+    OneVectorForAll,
+    /// Publishing the messages of a set in the order of the table.
+    PublishedInTableOrder,
+    /// Looking for room in the ledger for the first message of a set alone.
+    RoomForTheFirst,
+    /// Looking for room for a set before looking at the union.
+    SetFullBeforeHeld,
+    /// Looking at the ledger only if a message of the set is for the desk.
+    SetLedgerOnlyForTheDesk,
 }
 
 impl Fault {
     /// Every planted fault.
-    pub const PLANTED: [Fault; 49] = [
+    pub const PLANTED: [Fault; 66] = [
         Fault::LargerAcrossIncarnations,
         Fault::NumbersWithoutIncarnations,
         Fault::StoredPairsCounted,
@@ -176,6 +213,23 @@ impl Fault {
         Fault::GapOf65InForm,
         Fault::GapOutOfForm,
         Fault::GapNotCleared,
+        Fault::EachMaskByItself,
+        Fault::LargestMaskForTheUnion,
+        Fault::StoredPairsJoined,
+        Fault::SetByTheDegree,
+        Fault::DoubledTaken,
+        Fault::SeventeenTaken,
+        Fault::NoneTaken,
+        Fault::SendersTaken,
+        Fault::LengthBeforeMessages,
+        Fault::SendersBeforeStates,
+        Fault::FirstLetOut,
+        Fault::ThoseWithinLetOut,
+        Fault::OneVectorForAll,
+        Fault::PublishedInTableOrder,
+        Fault::RoomForTheFirst,
+        Fault::SetFullBeforeHeld,
+        Fault::SetLedgerOnlyForTheDesk,
     ];
 
     /// Whether some list in a house just opened shows the fault. The others need a table or a ledger
@@ -192,6 +246,10 @@ impl Fault {
                 | Fault::DegreeBeforeLedger
                 | Fault::StableFlagsOnly
                 | Fault::GapOf65InForm
+                | Fault::LargestMaskForTheUnion
+                | Fault::RoomForTheFirst
+                | Fault::SetFullBeforeHeld
+                | Fault::SetLedgerOnlyForTheDesk
         )
     }
 
@@ -212,6 +270,30 @@ impl Fault {
                 | Fault::GapOf65InForm
                 | Fault::GapOutOfForm
                 | Fault::GapNotCleared
+        )
+    }
+
+    /// Whether it takes a set to show the fault, which has no line either.
+    pub fn needs_a_set(self) -> bool {
+        matches!(
+            self,
+            Fault::EachMaskByItself
+                | Fault::LargestMaskForTheUnion
+                | Fault::StoredPairsJoined
+                | Fault::SetByTheDegree
+                | Fault::DoubledTaken
+                | Fault::SeventeenTaken
+                | Fault::NoneTaken
+                | Fault::SendersTaken
+                | Fault::LengthBeforeMessages
+                | Fault::SendersBeforeStates
+                | Fault::FirstLetOut
+                | Fault::ThoseWithinLetOut
+                | Fault::OneVectorForAll
+                | Fault::PublishedInTableOrder
+                | Fault::RoomForTheFirst
+                | Fault::SetFullBeforeHeld
+                | Fault::SetLedgerOnlyForTheDesk
         )
     }
 
@@ -240,6 +322,10 @@ impl Fault {
                 | Fault::StableFlagsOnly
                 | Fault::RemovedFlagsCounted
                 | Fault::GapNotCleared
+                | Fault::FirstLetOut
+                | Fault::ThoseWithinLetOut
+                | Fault::OneVectorForAll
+                | Fault::PublishedInTableOrder
         )
     }
 }
@@ -264,6 +350,10 @@ pub(super) fn around(
     bent::bend_table(fault, &table_before, table, answer);
     gap::bend(fault, &table_before, table, command, answer);
     bent::bend_ledger(fault, &ledger_before, ledger, table, answer);
+    if let Command::ReleaseSet { messages } = command {
+        let before = (&table_before[..], &ledger_before[..]);
+        sets::bend(fault, before, (table, ledger), &messages, answer);
+    }
     answer
 }
 
@@ -279,6 +369,7 @@ fn before_looking(fault: Fault, command: Command) -> Option<Answer> {
         (Fault::HeldBeforeLooking, Command::Release { message }) => {
             Some(Answer::Held { message, mask: 0 })
         }
+        (Fault::HeldBeforeLooking, Command::ReleaseSet { .. }) => Some(Answer::SetHeld { mask: 0 }),
         (Fault::HeardBeforeLooking, Command::Hear { hearer, .. }) => {
             Some(Answer::Heard { controller: hearer })
         }

@@ -1,16 +1,19 @@
 //! The rules of the steps. Each looks at its refusals first, in their order, and writes only once none
 //! is left.
 
+mod release;
 mod shared;
 
+pub(super) use release::{are_distinct, Leaving, SET_SIZES};
+
 use super::{fault, Answer, Command, Fault};
-use crate::ledger::{self, Entry, Ledger};
+use crate::ledger::{self, Ledger};
 use crate::refusal::{self, Refusal};
 use crate::table::{
     in_form, state, Controller, Message, Place, Table, CONTROLLERS, DESK, LAST_INCARNATION,
     LAST_MESSAGE, LAST_NUMBER,
 };
-use crate::vector::{filtered, mask, Pair};
+use crate::vector::{filtered, Pair};
 
 type Outcome = Result<Answer, Refusal>;
 
@@ -48,6 +51,7 @@ pub(super) fn perform(
             incarnation,
         } => house.hear(hearer, crashed, incarnation),
         Command::SetGap { gap } => house.set_gap(gap),
+        Command::ReleaseSet { messages } => house.release_set(&messages),
     }
 }
 
@@ -76,13 +80,13 @@ struct House<'a> {
 impl House<'_> {
     /// What else the host may have done wrong but the table's length. An opening doesn't look at the
     /// table's form. 14 "stands directly after 2, at release and, for the length only, directly after 1
-    /// at opening"; no other step looks at the ledger.
+    /// at opening"; a set is released so, too, and no other step looks at the ledger.
     fn look_at_the_host(&self, command: Command) -> Result<(), Refusal> {
         let opening = matches!(command, Command::Open { .. });
         ensure(opening || self.in_form(), refusal::FORM)?;
         let fits = match command {
             Command::Open { .. } => self.ledger.len() == ledger::WORDS,
-            Command::Release { .. } => ledger::is_sound(self.ledger),
+            Command::Release { .. } | Command::ReleaseSet { .. } => ledger::is_sound(self.ledger),
             _ => true,
         };
         let otherwise = fault::ledger_fits(self.fault, self.table.words(), self.ledger, command);
@@ -117,12 +121,6 @@ impl House<'_> {
     /// The ledger, whose length an opening and a release have looked at by now.
     fn ledger(&mut self) -> Result<Ledger<&mut [u32]>, Refusal> {
         Ledger::new(&mut *self.ledger).ok_or(refusal::LEDGER)
-    }
-
-    /// "18 when publishing would carry the count past 128."
-    fn room_to_publish(&mut self) -> Result<(), Refusal> {
-        let count = self.ledger()?.count();
-        ensure(count < ledger::ENTRIES, refusal::LEDGER_USED_UP)
     }
 }
 
@@ -187,55 +185,6 @@ impl House<'_> {
         self.table.set_sent(message);
         self.table.set_message(message, &record);
         Ok(Answer::Sent { message })
-    }
-
-    /// "Filter the message's vector for its sender. .. If the number of ones in the mask is at most K
-    /// of the sender, the filtered vector is stored and the state is released. Otherwise it stays
-    /// held and no word changes." One for the desk is published instead of released.
-    fn release(&mut self, message: u32) -> Outcome {
-        let record = self.message(message)?;
-        ensure(record.state == state::HELD, refusal::STATE)?;
-        let vector = filtered(&record.vector, &self.table.known(record.sender as usize));
-        let mask = match self.fault {
-            Fault::StoredPairsCounted => mask(&record.vector),
-            _ => mask(&vector),
-        };
-        if self.fault == Fault::FullBeforeHeld && record.receiver == DESK {
-            self.room_to_publish()?;
-        }
-        if mask.count_ones() > self.most_named(&record) {
-            return Ok(Answer::Held { message, mask });
-        }
-        let state = if record.receiver == DESK {
-            self.publish(message, record.payload)?;
-            state::PUBLISHED
-        } else {
-            state::RELEASED
-        };
-        let let_out = Message {
-            state,
-            vector,
-            ..record
-        };
-        self.table.set_message(message, &let_out);
-        Ok(Answer::Released { message, mask })
-    }
-
-    /// How many controllers the release of a message may name: "at most K of the sender". But "a
-    /// message to the desk is released only with mask 0, at any K".
-    fn most_named(&self, record: &Message) -> u32 {
-        if record.receiver == DESK && self.fault != Fault::PublishedByTheDegree {
-            0
-        } else {
-            self.table.controller(record.sender as usize).degree
-        }
-    }
-
-    /// "Publishing appends one pair", if there is room for it.
-    fn publish(&mut self, message: u32, payload: u32) -> Result<(), Refusal> {
-        self.room_to_publish()?;
-        self.ledger()?.append(Entry { message, payload });
-        Ok(())
     }
 
     /// "Deliver at its receiver c. Condemned to c: dropped. Else filter both c's newest vector and

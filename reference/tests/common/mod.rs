@@ -1,7 +1,7 @@
 //! A house driven by its lines, with the table and the ledger at hand.
 #![allow(dead_code)] // Each test file uses its part of this.
 
-use reference::machine::{step, Command};
+use reference::machine::{step, Answer, Command, Messages};
 use reference::table::{in_form, Table, WORDS};
 use reference::{ledger, lines};
 
@@ -44,20 +44,27 @@ impl House {
         self.answer(command)
     }
 
-    /// The answer to one command. A refusal must leave every word of both, and only a release that is
-    /// released and an opening may write the ledger.
+    /// The answer to one command. A refusal must leave every word of both, and only what is released and an
+    /// opening may write the ledger. A set that is held must leave every word, too.
     pub fn answer(&mut self, command: Command) -> String {
         let before = self.clone();
         let answer = lines::render(&step(&mut self.words, &mut self.ledger, command));
         let refused = answer.starts_with("refused");
         let opened = matches!(command, Command::Open { .. });
-        if refused {
-            assert!(self.words == before.words, "{command:?} refused, and wrote");
+        if refused || answer.starts_with("set_held") {
+            assert!(self.words == before.words, "{command:?} wrote: {answer}");
         }
-        if refused || !opened && !answer.starts_with("released") {
+        let released = answer.starts_with("released") || answer.starts_with("set_released");
+        if refused || !opened && !released {
             assert!(self.ledger == before.ledger, "{command:?} wrote the ledger");
         }
         answer
+    }
+
+    /// The answer to a set, which has no line.
+    pub fn release_set(&mut self, messages: &[u32]) -> String {
+        let messages = Messages::of(messages);
+        self.answer(Command::ReleaseSet { messages })
     }
 
     /// Sets the gap, which has no line; it must be done, and write word 11 alone.
@@ -88,4 +95,16 @@ pub fn bring(house: &mut House, sender: u32, receiver: u32) -> String {
     let released = house.say(&format!("R {message}"));
     assert!(released.starts_with("released"), "{released}");
     house.say(&format!("D {message}"))
+}
+
+/// Steps with the sound machine's answers.
+pub fn sound(script: &str) -> Vec<(Command, Answer)> {
+    let mut table = vec![0; WORDS];
+    let mut ledger = vec![0; ledger::WORDS];
+    let commands = script
+        .lines()
+        .map(|line| lines::parse(line.as_bytes()).expect("a good line"));
+    commands
+        .map(|command| (command, step(&mut table, &mut ledger, command)))
+        .collect()
 }

@@ -19,6 +19,10 @@ pub(in crate::machine) fn ledger_fits(
         (Fault::FourteenOnlyForTheDesk, Command::Release { message }) => {
             (!is_for_desk(table, message)).then_some(true)
         }
+        (Fault::SetLedgerOnlyForTheDesk, Command::ReleaseSet { messages }) => {
+            let mut for_desk = messages.iter().map(|&message| is_for_desk(table, message));
+            (!for_desk.any(|for_desk| for_desk)).then_some(true)
+        }
         (Fault::DegreeBeforeLedger, Command::Open { n, degree }) => {
             (!can_open(n, degree)).then_some(true)
         }

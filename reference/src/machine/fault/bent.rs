@@ -52,7 +52,9 @@ pub(super) fn bend_ledger(
     match (fault, answer) {
         (Fault::WritesNoWord, _)
         | (Fault::LedgerNotCleared, Answer::Done)
-        | (Fault::PublishedWithoutEntry, Answer::Released { .. }) => after.copy_from_slice(before),
+        | (Fault::PublishedWithoutEntry, Answer::Released { .. } | Answer::SetReleased { .. }) => {
+            after.copy_from_slice(before)
+        }
         (Fault::LedgerWrittenOnHeld, Answer::Held { message, .. })
         | (Fault::EntryOutOfOrder, Answer::Released { message, .. })
             if is_for_desk(table, message) =>
