@@ -1,7 +1,7 @@
 /*
- * A crash in a library of four controllers, what follows from it, readings that go out to be cited, a
- * ceiling on replay, and a list of steps in one call, told in words. It comes across every answer, and
- * shows two refusals and the two returns that are no answers.
+ * A crash in a library of four controllers, what follows from it, readings that go out to be cited, two
+ * that leave together, a ceiling on replay, and a list of steps in one call, told in words. It comes
+ * across every answer, and shows two refusals and the two returns that are no answers.
  *
  *     rt staticlib goulvizad
  *     cc examples/recovery.c -Iinclude -Ltarget/staticlib -lgoulvizad -o target/recovery
@@ -105,9 +105,11 @@ static const char *refusal(uint32_t number)
     case GOULVIZAD_DEGREE:
         return "not 1 to 8 controllers, a degree above their number, or a gap above 64";
     case GOULVIZAD_SAME_CONTROLLER:
-        return "the two controllers are equal";
+        return "the two controllers are equal, or a set has none, too many or one twice";
     case GOULVIZAD_STATE:
         return "the message is not held, or not released";
+    case GOULVIZAD_SENDERS:
+        return "the messages have more than one sender";
     case GOULVIZAD_LOG_COUNT:
         return "not so many intervals to log, or none asked for";
     case GOULVIZAD_NO_SUCH_CRASH:
@@ -150,6 +152,14 @@ static void print_answer(uint32_t answer, const uint32_t *v)
     case GOULVIZAD_REFUSED:
         printf("refused %" PRIu32 ", %s", v[0], refusal(v[0]));
         break;
+    case GOULVIZAD_SET_RELEASED:
+        printf("all are released, and could be revoked by ");
+        print_mask(v[0]);
+        break;
+    case GOULVIZAD_SET_HELD:
+        printf("all are held: they could be revoked by ");
+        print_mask(v[0]);
+        break;
     case GOULVIZAD_UNKNOWN_LETTER:
         printf("no step has this letter");
         break;
@@ -170,6 +180,19 @@ static uint32_t step(const char *what, char letter, uint32_t a, uint32_t b, uint
 
     answer = goulvizad_step(table, GOULVIZAD_TABLE_WORDS, ledger, GOULVIZAD_LEDGER_WORDS,
                             (uint32_t)letter, a, b, c, 0, values, GOULVIZAD_VALUE_WORDS);
+    printf("%s: ", what);
+    print_answer(answer, values);
+    return answer;
+}
+
+/* Releases a set of messages, says what came of it, and returns the answer. */
+static uint32_t release_set(const char *what, const uint32_t *messages, size_t count)
+{
+    uint32_t values[GOULVIZAD_VALUE_WORDS];
+    uint32_t answer;
+
+    answer = goulvizad_release_set(table, GOULVIZAD_TABLE_WORDS, ledger, GOULVIZAD_LEDGER_WORDS,
+                                   messages, count, values, GOULVIZAD_VALUE_WORDS);
     printf("%s: ", what);
     print_answer(answer, values);
     return answer;
@@ -277,14 +300,32 @@ static void publish(void)
     step("drive crashes", 'X', DRIVE, 0, 0);
 }
 
-/* That crash replayed four intervals. A gap has the next one checkpointed as it begins. */
+/* The bench reads both parts of a reel, one for the catalogue and one to be cited. */
+static void leave_together(void)
+{
+    static const uint32_t reel[] = {13, 14};
+
+    step("drive sends 4 to bench", 'S', DRIVE, BENCH, 4);
+    step("release 12", 'R', 12, 0, 0);
+    step("deliver 12", 'D', 12, 0, 0);
+    step("bench sends 31 to catalogue", 'S', BENCH, CATALOGUE, 31);
+    step("bench sends 32 to desk", 'S', BENCH, GOULVIZAD_DESK, 32);
+
+    /* The first could go by itself, as the degree is 1. With one for the desk all have to wait. */
+    if (release_set("release 13 and 14 together", reel, 2) == GOULVIZAD_SET_HELD) {
+        step("bench logs 1", 'L', BENCH, 1, 0);
+        release_set("release 13 and 14 together", reel, 2);
+    }
+}
+
+/* The drive's last crash replayed four intervals. A gap has the next one checkpointed as it begins. */
 static void bound_replay(void)
 {
     set_gap("set a gap of 2", 2);
     step("bench sends 5 to drive", 'S', BENCH, DRIVE, 5);
-    step("release 12", 'R', 12, 0, 0);
+    step("release 15", 'R', 15, 0, 0);
     ask(DRIVE);
-    step("deliver 12", 'D', 12, 0, 0);
+    step("deliver 15", 'D', 15, 0, 0);
 
     /* It counts as stable from here on, so the drive has to write the checkpoint. */
     ask(DRIVE);
@@ -296,11 +337,11 @@ static void bound_replay(void)
 static void pass_on(void)
 {
     enum { COUNT = 3 };
-    static const char *const what[COUNT] = {"bench sends 6 to drive", "release 13", "deliver 13"};
+    static const char *const what[COUNT] = {"bench sends 6 to drive", "release 16", "deliver 16"};
     static const uint32_t steps[COUNT * GOULVIZAD_STEP_WORDS] = {
         'S', BENCH, DRIVE, 6, 0, /* no step has a fourth number */
-        'R', 13, 0, 0, 0,
-        'D', 13, 0, 0, 0,
+        'R', 16, 0, 0, 0,
+        'D', 16, 0, 0, 0,
     };
     uint32_t answers[COUNT * GOULVIZAD_ANSWER_WORDS];
     const uint32_t *answer = answers;
@@ -352,6 +393,7 @@ int main(void)
     work();
     crash();
     publish();
+    leave_together();
     bound_replay();
     pass_on();
     cite();

@@ -1,8 +1,9 @@
 /*
  * The house recovery machine: one step function over a lent table and a lent ledger, by the step or for
- * a list of steps, a step beside it that sets the gap, and two questions. README.md says what it is for,
- * examples/recovery.c shows a crash, all that follows, two readings that go out, a gap, and a list,
- * docs/GUIDE.md leads through the rules, and crates/rules/specs has them.
+ * a list of steps, two steps beside it, one that sets the gap and one that releases a set of messages,
+ * and two questions. README.md says what it is for, examples/recovery.c shows a crash, all that follows,
+ * readings that go out, a set of them, a gap, and a list, docs/GUIDE.md leads through the rules, and
+ * crates/rules/specs has them.
  *
  * The caller owns both buffers and lends them for one call at a time. All that the machine knows stands
  * in them; nothing is kept between calls.
@@ -11,10 +12,11 @@
  * - each pointer is to as many words, aligned for uint32_t, as the length beside it says; with length 0
  *   it may be null;
  * - the table, the ledger and the value buffer must not overlap, nor in goulvizad_run the table, the
- *   ledger, the steps and the answers;
- * - nobody else writes the table, the ledger or the steps, nor reads the table or the ledger during
- *   goulvizad_step and goulvizad_run, nor the table during goulvizad_set_gap. Different houses, each
- *   with a table, a ledger and other buffers of its own, may be used from several threads at once.
+ *   ledger, the steps and the answers, nor in goulvizad_release_set the messages and any other;
+ * - nobody else writes the table, the ledger, the steps or the messages, nor reads the table or the
+ *   ledger during goulvizad_step, goulvizad_run and goulvizad_release_set, nor the table during
+ *   goulvizad_set_gap. Different houses, each with a table, a ledger and other buffers of its own, may
+ *   be used from several threads at once.
  *
  * A table and its ledger that are saved or moved between calls are the same house. They belong together
  * and are saved together, as the same step left them. A ledger that is older than its table lacks what
@@ -48,6 +50,9 @@ extern "C" {
 #define GOULVIZAD_VALUE_WORDS 6
 #define GOULVIZAD_STEP_WORDS 5
 #define GOULVIZAD_ANSWER_WORDS 7
+
+/* The most messages of a set. */
+#define GOULVIZAD_SET_MOST 16
 
 /* The receiver that is no controller: the desk, where readings leave the house. The same for every n. */
 #define GOULVIZAD_DESK 8
@@ -113,19 +118,35 @@ extern "C" {
  *   1 + 2 * i  the number of the message that was published i-th
  *   2 + 2 * i  its payload
  *
- * All words past the last pair are 0. An 'O' that is done makes every word 0, and an 'R' that publishes
- * appends a pair; nothing else writes the ledger, and the caller mustn't either. Every 'R', whatever the
- * receiver of its message, looks at the count and at the words past the last pair. No step looks at the
- * pairs themselves: one that somebody else has put there is not found out. The other eight letters don't
- * look at the ledger at all, and take one of any length and content, null with length 0 too. The step
- * that sets the gap has none.
+ * All words past the last pair are 0. An 'O' that is done makes every word 0, and an 'R' or a set that
+ * publishes appends a pair for each message; nothing else writes the ledger, and the caller mustn't
+ * either. Every 'R' and every set, whatever the receivers of the messages, looks at the count and at the
+ * words past the last pair. No step looks at the pairs themselves: one that somebody else has put there
+ * is not found out. The other eight letters don't look at the ledger at all, and take one of any length
+ * and content, null with length 0 too. The step that sets the gap has none.
  */
 
 /*
- * What goulvizad_step and goulvizad_set_gap return, and the values that they write; goulvizad_run writes
- * both for each of its steps. Zeros follow the values, up to the sixth word. A mask has 2 to the power c
- * for each controller c that it names. Kept is the highest number that is kept; by GOULVIZAD_ROLLED what
- * is kept becomes stable, all of it, so that the hearer has to have written it.
+ * Sets. Messages that belong together, such as the readings of one reel, leave together: a set goes
+ * whole or not at all. It is 1 to GOULVIZAD_SET_MOST held messages of one sender. Only
+ * goulvizad_release_set releases one; no letter does, so that no set stands in a list of steps.
+ *
+ * The mask of a set is the union of those that 'R' would show for its messages one by one: it names all
+ * who could revoke any of them. Where these are no more than the degree of the sender, all messages are
+ * released, and else all stay held and no word changes. If one of them is for the desk, all go only
+ * where the mask is 0, whatever the degree. Messages to the desk enter the ledger in the order given.
+ *
+ * A set that goes leaves the table and the ledger as 'R' would, message by message in the order given.
+ * One that is held may have messages which could go by themselves. A set of one is its 'R', but for the
+ * number and the values of the answer.
+ */
+
+/*
+ * What goulvizad_step, goulvizad_set_gap and goulvizad_release_set return, and the values that they
+ * write; goulvizad_run writes both for each of its steps. Zeros follow the values, up to the sixth word.
+ * A mask has 2 to the power c for each controller c that it names. Kept is the highest number that is
+ * kept; by GOULVIZAD_ROLLED what is kept becomes stable, all of it, so that the hearer has to have
+ * written it.
  */
 enum {
     GOULVIZAD_DONE = 0,      /* no values: to O, K, L, C and T, and to the gap; to a list of steps */
@@ -141,6 +162,10 @@ enum {
     GOULVIZAD_ROLLED = 9,    /* hearer, kept, undone, replayed */
     GOULVIZAD_REFUSED = 10,  /* number: one of the refusals below; no word of the table or of the ledger
                                 changed */
+    GOULVIZAD_SET_RELEASED = 11, /* mask: all messages of a set are let out; who could still revoke one
+                                    of them, nobody where one went to the desk */
+    GOULVIZAD_SET_HELD = 12,     /* mask: all are kept back, and no word changed; who could revoke one of
+                                    them, more than the degree, or with one for the desk anybody */
 
     /*
      * These two are no answers, and change neither the table nor the ledger nor the value buffer, nor
@@ -154,26 +179,29 @@ enum {
 
 /*
  * The refusals, by whom they are caused. Where several apply, the one that stands first here is given.
- * That is the lowest number, but for two: GOULVIZAD_LEDGER comes directly after GOULVIZAD_FORM at R, and
- * directly after GOULVIZAD_LENGTH at O, which doesn't look at the form; GOULVIZAD_LEDGER_USED_UP comes
- * last.
+ * That is the lowest number, but for three: GOULVIZAD_LEDGER comes directly after GOULVIZAD_FORM at R
+ * and at a set, and directly after GOULVIZAD_LENGTH at O, which doesn't look at the form;
+ * GOULVIZAD_SENDERS comes directly after GOULVIZAD_STATE; GOULVIZAD_LEDGER_USED_UP comes last.
  */
 enum {
     /* The host that lends the table and the ledger: */
     GOULVIZAD_LENGTH = 1,  /* the table's length is not GOULVIZAD_TABLE_WORDS */
     GOULVIZAD_FORM = 2,    /* the table is not in form; not looked at by O */
-    GOULVIZAD_LEDGER = 14, /* R and O: the ledger's length is not GOULVIZAD_LEDGER_WORDS; R: its count is
-                              above 128, or a word past its last pair is not 0 */
+    GOULVIZAD_LEDGER = 14, /* R, a set and O: the ledger's length is not GOULVIZAD_LEDGER_WORDS; R and a
+                              set: its count is above 128, or a word past its last pair is not 0 */
 
     /* The caller naming things: */
     GOULVIZAD_CONTROLLER = 3,      /* a controller not below n; a receiver may be GOULVIZAD_DESK */
-    GOULVIZAD_MESSAGE = 4,         /* message number 0, or above the messages sent */
+    GOULVIZAD_MESSAGE = 4,         /* message number 0, or above the messages sent; one such in a set,
+                                      whatever its length */
     GOULVIZAD_DEGREE = 5,          /* n not 1 to 8, a degree above n, or a gap above 64 */
-    GOULVIZAD_SAME_CONTROLLER = 6, /* the two controllers of S or T are equal */
+    GOULVIZAD_SAME_CONTROLLER = 6, /* the two controllers of S or T are equal; a set is of no messages or
+                                      of more than GOULVIZAD_SET_MOST, or names one twice */
 
     /* The order of steps: */
-    GOULVIZAD_STATE = 7,         /* release of a message not held, delivery of one not released: one to
-                                    the desk is never delivered */
+    GOULVIZAD_STATE = 7,         /* release of a message not held, also in a set, delivery of one not
+                                    released: one to the desk is never delivered */
+    GOULVIZAD_SENDERS = 15,      /* the messages of a set have more than one sender */
     GOULVIZAD_LOG_COUNT = 8,     /* the count is 0, or above the live intervals that are not stable */
     GOULVIZAD_NO_SUCH_CRASH = 9, /* no crash ended that incarnation, or it is above 15 */
     GOULVIZAD_ALREADY_HEARD = 10, /* the hearer has heard of it; a controller has heard its own */
@@ -183,8 +211,9 @@ enum {
     GOULVIZAD_PLACES_USED_UP = 12,       /* delivery with 64 live intervals, unless it drops or waits;
                                             crash with 64 stable ones */
     GOULVIZAD_INCARNATIONS_USED_UP = 13, /* crash, or a hearing that must undo, in incarnation 15 */
-    GOULVIZAD_LEDGER_USED_UP = 18        /* R that would publish, with all 128 pairs used. Steps after
-                                            an opening never come to it: messages are as few */
+    GOULVIZAD_LEDGER_USED_UP = 18        /* R that would publish, with all 128 pairs used; a set, with
+                                            too few left for all that it would publish. Steps after an
+                                            opening never come to it: messages are as few */
 };
 
 /*
@@ -231,6 +260,17 @@ uint32_t goulvizad_is_checkpoint(const uint32_t *table, size_t table_words, uint
  */
 uint32_t goulvizad_set_gap(uint32_t *table, size_t table_words, uint32_t gap, uint32_t *values,
                            size_t values_words);
+
+/*
+ * The step that releases a set, on a table and a ledger of any length and content. `messages` has the
+ * numbers of its messages, `message_count` of them, any number; it is only read. Returns
+ * GOULVIZAD_SET_RELEASED; GOULVIZAD_SET_HELD; GOULVIZAD_REFUSED, by GOULVIZAD_LENGTH, GOULVIZAD_FORM,
+ * GOULVIZAD_LEDGER, GOULVIZAD_MESSAGE, GOULVIZAD_SAME_CONTROLLER, GOULVIZAD_STATE, GOULVIZAD_SENDERS or
+ * GOULVIZAD_LEDGER_USED_UP, the first of these that applies; or GOULVIZAD_WRONG_VALUES.
+ */
+uint32_t goulvizad_release_set(uint32_t *table, size_t table_words, uint32_t *ledger,
+                               size_t ledger_words, const uint32_t *messages, size_t message_count,
+                               uint32_t *values, size_t values_words);
 
 #ifdef __cplusplus
 }

@@ -1,6 +1,6 @@
-//! A crash in a library of four controllers, what follows from it, readings that go out to be cited, a
-//! ceiling on replay, and a list of steps in one call, told in words: `examples/recovery.c` in Rust. There a
-//! caller can also ask for what is no step; here it can't.
+//! A crash in a library of four controllers, what follows from it, readings that go out to be cited, two that
+//! leave together, a ceiling on replay, and a list of steps in one call, told in words: `examples/recovery.c`
+//! in Rust. There a caller can also ask for what is no step; here it can't.
 //!
 //!     rt staticlib goulvizad
 //!     cargo run --example recovery
@@ -78,6 +78,14 @@ fn told(answer: Answer) -> String {
             "{} rolls back; intervals kept up to {kept}, {undone} undone, {replayed} replayed",
             name(hearer)
         ),
+        Answer::SetReleased { mask } => {
+            let names = named(mask);
+            format!("all are released, and could be revoked by {names}")
+        }
+        Answer::SetHeld { mask } => {
+            let names = named(mask);
+            format!("all are held: they could be revoked by {names}")
+        }
     }
 }
 
@@ -95,6 +103,13 @@ impl Story {
     fn step(&mut self, what: &str, step: Step) -> Told {
         let answer = self.table.step(step);
         self.say(what, answer)
+    }
+
+    /// Releases a set of two messages, and says what came of it.
+    fn release_set(&mut self, messages: [u32; 2]) -> Told {
+        let answer = self.table.release_set(&messages);
+        let [first, second] = messages;
+        self.say(&format!("release {first} and {second} together"), answer)
     }
 
     /// Sets the gap of the house, and says what came of it.
@@ -252,13 +267,29 @@ fn publish(story: &mut Story) -> Result<(), Refusal> {
     Ok(())
 }
 
-/// That crash replayed four intervals. A gap has the next one checkpointed as it begins.
+/// The bench reads both parts of a reel, one for the catalogue and one to be cited.
+fn leave_together(story: &mut Story) -> Result<(), Refusal> {
+    story.send(DRIVE, BENCH, 4)?;
+    story.release(12)?;
+    story.deliver(12)?;
+    story.send(BENCH, CATALOGUE, 31)?;
+    story.send(BENCH, DESK, 32)?;
+
+    // The first could go by itself, as the degree is 1. With one for the desk all have to wait.
+    if let Answer::SetHeld { .. } = story.release_set([13, 14])? {
+        story.log(BENCH, 1)?;
+        story.release_set([13, 14])?;
+    }
+    Ok(())
+}
+
+/// The drive's last crash replayed four intervals. A gap has the next one checkpointed as it begins.
 fn bound_replay(story: &mut Story) -> Result<(), Refusal> {
     story.set_gap(2)?;
     story.send(BENCH, DRIVE, 5)?;
-    story.release(12)?;
+    story.release(15)?;
     story.ask(DRIVE);
-    story.deliver(12)?;
+    story.deliver(15)?;
 
     // It counts as stable from here on, so the drive has to write the checkpoint.
     story.ask(DRIVE);
@@ -269,7 +300,7 @@ fn bound_replay(story: &mut Story) -> Result<(), Refusal> {
 
 /// A message from its sending to its delivery in one call, which looks at the form of the table once.
 fn pass_on(story: &mut Story) -> Result<(), Refusal> {
-    let message = 13;
+    let message = 16;
     let sending = Step::Send {
         sender: BENCH,
         receiver: DRIVE,
@@ -277,8 +308,8 @@ fn pass_on(story: &mut Story) -> Result<(), Refusal> {
     };
     let steps = [
         ("bench sends 6 to drive", sending),
-        ("release 13", Step::Release { message }),
-        ("deliver 13", Step::Deliver { message }),
+        ("release 16", Step::Release { message }),
+        ("deliver 16", Step::Deliver { message }),
     ];
     let answers = story.table.run(&steps.map(|(_, step)| step));
     for ((what, _), answer) in steps.into_iter().zip(answers) {
@@ -304,6 +335,7 @@ fn tell() -> Result<String, Refusal> {
     work(&mut story)?;
     crash(&mut story)?;
     publish(&mut story)?;
+    leave_together(&mut story)?;
     bound_replay(&mut story)?;
     pass_on(&mut story)?;
     cite(&mut story);

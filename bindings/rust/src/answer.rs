@@ -1,9 +1,9 @@
-//! The ten answers, and how they are read from what the C interface gives back.
+//! The twelve answers, and how they are read from what the C interface gives back.
 
 use crate::raw::{returned, VALUE_WORDS};
 use crate::Refusal;
 
-/// The answer to a step that is not refused.
+/// The answer to a step that is not refused. The last two are those to a set, and the others to all else.
 #[derive(Clone, Copy, Debug, PartialEq, Eq, Hash)]
 pub enum Answer {
     /// To an opening, a degree set, a log, a checkpoint and a telling; a gap set has no other.
@@ -76,6 +76,17 @@ pub enum Answer {
         /// How many of those kept are replayed, from the latest checkpoint on.
         replayed: u32,
     },
+    /// All messages of the set are let out.
+    SetReleased {
+        /// Who could still revoke one of them: at most as many as their sender's degree, and nobody if one
+        /// went to the desk.
+        mask: Mask,
+    },
+    /// All messages of the set are kept back, and no word has changed.
+    SetHeld {
+        /// Who could revoke one of them: more than their sender's degree, or anybody if one is for the desk.
+        mask: Mask,
+    },
 }
 
 /// The controllers that a release names.
@@ -132,6 +143,8 @@ pub(crate) fn read(number: u32, values: [u32; VALUE_WORDS]) -> Option<Result<Ans
             undone,
             replayed,
         },
+        (returned::SET_RELEASED, [mask, 0, 0, 0, 0, 0]) => Answer::SetReleased { mask: Mask(mask) },
+        (returned::SET_HELD, [mask, 0, 0, 0, 0, 0]) => Answer::SetHeld { mask: Mask(mask) },
         (returned::REFUSED, [number, 0, 0, 0, 0, 0]) => {
             return Refusal::from_number(number).map(Err)
         }

@@ -2,9 +2,9 @@
 //! by the C interface of its static library (`include/goulvizad.h`).
 //!
 //! A [`Table`] is a house that owns its words and its ledger. Words that live elsewhere, as in a mapped
-//! file, are lent to [`step()`] or [`set_gap()`] for one step at a time, or to [`run()`] for a list of them. A [`Step`] has an [`Answer`] or a [`Refusal`],
-//! which changes no word. Nothing is kept between calls, and different houses may be used from several
-//! threads at once.
+//! file, are lent to [`step()`], [`set_gap()`] or [`release_set()`] for one step at a time, or to [`run()`]
+//! for a list of them. A [`Step`] has an [`Answer`] or a [`Refusal`], which changes no word. Nothing is kept
+//! between calls, and different houses may be used from several threads at once.
 //!
 //! ```
 //! use goulvizad::{Answer, Refusal, Step, Table};
@@ -61,6 +61,32 @@
 //! # Ok::<(), Refusal>(())
 //! ```
 //!
+//! Readings that belong together leave together: a set of messages ([`Table::release_set`]) goes whole or not
+//! at all.
+//!
+//! ```
+//! use goulvizad::{Answer, Citation, Refusal, Step, Table, DESK};
+//!
+//! const ARM: u32 = 0;
+//! const BENCH: u32 = 1;
+//! const CATALOGUE: u32 = 2;
+//!
+//! let mut table = Table::new();
+//! table.step(Step::Open { n: 3, degree: 3 })?;
+//! table.step(Step::Send { sender: ARM, receiver: BENCH, payload: 7 })?;
+//! table.step(Step::Release { message: 1 })?;
+//! table.step(Step::Deliver { message: 1 })?;
+//! table.step(Step::Send { sender: BENCH, receiver: CATALOGUE, payload: 24 })?;
+//! table.step(Step::Send { sender: BENCH, receiver: DESK, payload: 24 })?;
+//!
+//! // One of them is for the desk: both are held as long as anybody could revoke either.
+//! assert!(matches!(table.release_set(&[2, 3])?, Answer::SetHeld { .. }));
+//! table.step(Step::Log { controller: BENCH, count: 1 })?;
+//! assert!(matches!(table.release_set(&[2, 3])?, Answer::SetReleased { .. }));
+//! assert!(table.citations().eq([Citation { message: 3, payload: 24 }]));
+//! # Ok::<(), Refusal>(())
+//! ```
+//!
 //! How much a crash or a rollback has to replay can be known beforehand: a house whose first step after its
 //! opening sets the gap to at least 1 ([`Table::set_gap`]), and in which the gap is never 0 again, replays
 //! less than the largest gap set so far.
@@ -98,7 +124,7 @@ mod table;
 
 pub use answer::{Answer, Mask};
 pub use ledger::{citations, Citation};
-pub use raw::{LEDGER_WORDS, TABLE_WORDS};
+pub use raw::{LEDGER_WORDS, SET_MOST, TABLE_WORDS};
 pub use refusal::Refusal;
 pub use step::{Step, DESK};
 pub use table::Table;
@@ -106,7 +132,8 @@ pub use table::Table;
 /// Does one step on the lent words of a table and of its ledger, whatever their number and content. A
 /// house begins with [`Step::Open`], on [`TABLE_WORDS`] and [`LEDGER_WORDS`] words with any content.
 ///
-/// Only [`Step::Open`] and [`Step::Release`] look at the ledger; with all other steps it may be empty.
+/// Only [`Step::Open`] and [`Step::Release`] look at the ledger, and a set; with all other steps it may be
+/// empty.
 ///
 /// ```
 /// use goulvizad::{step, Answer, Refusal, Step, LEDGER_WORDS, TABLE_WORDS};
@@ -183,6 +210,48 @@ pub fn set_gap(words: &mut [u32], gap: u32) -> Result<(), Refusal> {
         Some(Ok(Answer::Done)) => Ok(()),
         Some(Err(refusal)) => Err(refusal),
         _ => panic!("no answer to a gap of {gap}: {number} with {values:?}"),
+    }
+}
+
+/// Releases a set of 1 to [`SET_MOST`] held messages of one sender in the lent words: all of them or none. They
+/// go if no more controllers could revoke one of them than their sender's degree; if one is for the [`DESK`],
+/// only if nobody could, whatever the degree. Messages to the [`DESK`] are published in the order given.
+///
+/// The answer is [`SetReleased`](Answer::SetReleased) or [`SetHeld`](Answer::SetHeld), with all those who could
+/// revoke one of them. A set of one is released as by [`Step::Release`].
+///
+/// ```
+/// use goulvizad::{release_set, step, Answer, Refusal, Step, LEDGER_WORDS, TABLE_WORDS};
+///
+/// let (mut words, mut ledger) = (vec![0; TABLE_WORDS], [0; LEDGER_WORDS]);
+/// assert_eq!(release_set(&mut words, &mut ledger, &[1, 2]), Err(Refusal::Form));
+/// step(&mut words, &mut ledger, Step::Open { n: 2, degree: 0 })?;
+/// for (sender, receiver) in [(0, 1), (0, 1), (1, 0)] {
+///     step(&mut words, &mut ledger, Step::Send { sender, receiver, payload: 7 })?;
+/// }
+/// let mut released = |messages: &[u32]| release_set(&mut words, &mut ledger, messages);
+/// assert_eq!(released(&[1, 2, 4]), Err(Refusal::Message));
+/// assert_eq!(released(&[1, 2, 1]), Err(Refusal::SameController));
+/// assert_eq!(released(&[1, 2, 3]), Err(Refusal::Senders));
+/// assert!(matches!(released(&[1, 2]), Ok(Answer::SetReleased { .. })));
+/// assert_eq!(released(&[1, 2]), Err(Refusal::State));
+/// # Ok::<(), Refusal>(())
+/// ```
+///
+/// # Panics
+/// If what comes back is no answer: the linked library is of another version then.
+pub fn release_set(
+    words: &mut [u32],
+    ledger: &mut [u32],
+    messages: &[u32],
+) -> Result<Answer, Refusal> {
+    let mut values = [u32::MAX; raw::VALUE_WORDS];
+    let number = raw::release_set(words, ledger, messages, &mut values);
+    match answer::read(number, values) {
+        Some(answered @ (Ok(Answer::SetReleased { .. } | Answer::SetHeld { .. }) | Err(_))) => {
+            answered
+        }
+        _ => panic!("no answer to a set {messages:?}: {number} with {values:?}"),
     }
 }
 

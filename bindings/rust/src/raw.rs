@@ -1,6 +1,7 @@
 //! The C interface as it is, numbers in and numbers out. All functions are safe, since a slice carries its
 //! length; [`step`](crate::step()), [`run`](crate::run()), [`set_gap`](crate::set_gap()),
-//! [`in_form`](crate::in_form()) and [`is_checkpoint`](crate::is_checkpoint()) stand on them.
+//! [`release_set`](crate::release_set()), [`in_form`](crate::in_form()) and
+//! [`is_checkpoint`](crate::is_checkpoint()) stand on them.
 
 /// The words of a table.
 pub const TABLE_WORDS: usize = 15_152;
@@ -17,14 +18,17 @@ pub const STEP_WORDS: usize = 5;
 /// The words of an answer to a list: its number, and the values.
 pub const ANSWER_WORDS: usize = 7;
 
+/// The most messages of a set.
+pub const SET_MOST: usize = 16;
+
 /// What [`in_form`] returns for a table in form; otherwise it is 0.
 pub const FORMED: u32 = 1;
 
 /// What [`is_checkpoint`] returns for a controller whose newest interval is one; otherwise it is 0.
 pub const CHECKPOINT: u32 = 1;
 
-/// What [`call`] and [`set_gap`] return, by the names of the header, and the values that they write. [`run`]
-/// writes both for each of its steps.
+/// What [`call`], [`set_gap`] and [`release_set`] return, by the names of the header, and the values that they
+/// write. [`run`] writes both for each of its steps.
 pub mod returned {
     /// No values.
     pub const DONE: u32 = 0;
@@ -48,6 +52,10 @@ pub mod returned {
     pub const ROLLED: u32 = 9;
     /// The number of the [`Refusal`](crate::Refusal).
     pub const REFUSED: u32 = 10;
+    /// The mask, to a set.
+    pub const SET_RELEASED: u32 = 11;
+    /// The mask, to a set.
+    pub const SET_HELD: u32 = 12;
     /// No answer: the letter, or one of a list, is no step's. Nothing is written.
     pub const UNKNOWN_LETTER: u32 = 100;
     /// No answer: the value buffer hasn't [`VALUE_WORDS`](super::VALUE_WORDS) words, or the words of a list
@@ -79,6 +87,16 @@ extern "C" {
         steps_words: usize,
         answers: *mut u32,
         answers_words: usize,
+    ) -> u32;
+    fn goulvizad_release_set(
+        table: *mut u32,
+        table_words: usize,
+        ledger: *mut u32,
+        ledger_words: usize,
+        messages: *const u32,
+        message_count: usize,
+        values: *mut u32,
+        values_words: usize,
     ) -> u32;
     fn goulvizad_in_form(table: *const u32, table_words: usize) -> u32;
     fn goulvizad_is_checkpoint(table: *const u32, table_words: usize, controller: u32) -> u32;
@@ -183,6 +201,32 @@ pub fn set_gap(table: &mut [u32], gap: u32, values: &mut [u32]) -> u32 {
     }
 }
 
+/// Releases a set of messages, a list of any length: [`SET_RELEASED`](returned::SET_RELEASED),
+/// [`SET_HELD`](returned::SET_HELD), [`REFUSED`](returned::REFUSED) or
+/// [`WRONG_VALUES`](returned::WRONG_VALUES).
+pub fn release_set(
+    table: &mut [u32],
+    ledger: &mut [u32],
+    messages: &[u32],
+    values: &mut [u32],
+) -> u32 {
+    // SAFETY: as in `call`: the pointers come with the lengths of their slices, which are borrowed until
+    // the call returns, all but the messages mutably, and the call doesn't write these. It keeps no pointer.
+    #[allow(unsafe_code)]
+    unsafe {
+        goulvizad_release_set(
+            table.as_mut_ptr(),
+            table.len(),
+            ledger.as_mut_ptr(),
+            ledger.len(),
+            messages.as_ptr(),
+            messages.len(),
+            values.as_mut_ptr(),
+            values.len(),
+        )
+    }
+}
+
 /// [`FORMED`] where these are [`TABLE_WORDS`] words in form, else 0.
 pub fn in_form(table: &[u32]) -> u32 {
     // SAFETY: the pointer comes with the length of its slice, so all the words that the call may read
@@ -215,145 +259,4 @@ pub fn is_checkpoint(table: &[u32], controller: u32) -> u32 {
 }
 
 #[cfg(test)]
-mod tests {
-    use super::*;
-    use crate::Refusal;
-    use std::ptr::null_mut;
-
-    const UNTOUCHED: u32 = 0xA5A5_A5A5;
-
-    /// A slice of Rust never has a null pointer; one of C may, with length 0: that is None.
-    type Lent<'a> = Option<&'a mut [u32]>;
-
-    fn parts(buffer: Lent) -> (*mut u32, usize) {
-        buffer.map_or((null_mut(), 0), |words| (words.as_mut_ptr(), words.len()))
-    }
-
-    /// A call with the numbers 1, 0, 0, 0.
-    fn lent(table: Lent, ledger: Lent, letter: u8, values: Lent) -> u32 {
-        let (table, table_words) = parts(table);
-        let (ledger, ledger_words) = parts(ledger);
-        let (values, values_words) = parts(values);
-        // SAFETY: the pointers are those of slices, with their lengths, or null with length 0: no word
-        // is behind such a one.
-        #[allow(unsafe_code)]
-        unsafe {
-            goulvizad_step(
-                table,
-                table_words,
-                ledger,
-                ledger_words,
-                letter.into(),
-                1,
-                0,
-                0,
-                0,
-                values,
-                values_words,
-            )
-        }
-    }
-
-    #[test]
-    fn a_null_table_of_no_words_is_refused() {
-        let mut ledger = [UNTOUCHED; LEDGER_WORDS];
-        let mut values = [UNTOUCHED; VALUE_WORDS];
-        let opened = lent(None, Some(&mut ledger), b'O', Some(&mut values));
-        assert_eq!(opened, returned::REFUSED);
-        assert_eq!(values, [Refusal::Length.number(), 0, 0, 0, 0, 0]);
-        let unknown = lent(None, Some(&mut ledger), b'Q', Some(&mut values));
-        assert_eq!(unknown, returned::UNKNOWN_LETTER);
-        assert_eq!(ledger, [UNTOUCHED; LEDGER_WORDS]);
-        // SAFETY: no word is behind a pointer with length 0.
-        #[allow(unsafe_code)]
-        let asked = unsafe {
-            [
-                goulvizad_in_form(null_mut(), 0),
-                goulvizad_is_checkpoint(null_mut(), 0, 0),
-            ]
-        };
-        assert_eq!(asked, [0; 2]);
-    }
-
-    /// Openings and releases look at the ledger; for all other steps it may be none.
-    #[test]
-    fn a_null_ledger_of_no_words_is_refused_where_it_is_looked_at() {
-        let mut table = vec![0; TABLE_WORDS];
-        let mut values = [UNTOUCHED; VALUE_WORDS];
-        let (mut ledger, open) = ([UNTOUCHED; LEDGER_WORDS], u32::from(b'O'));
-        let opened = call(&mut table, &mut ledger, open, [2, 0, 0, 0], &mut values);
-        assert_eq!(opened, returned::DONE);
-        assert_eq!(ledger, [0; LEDGER_WORDS]);
-        let mut without = |letter| {
-            let number = lent(Some(&mut table), None, letter, Some(&mut values));
-            (number, values[0])
-        };
-        let refused = |refusal: Refusal| (returned::REFUSED, refusal.number());
-        assert_eq!(without(b'O'), refused(Refusal::Ledger));
-        assert_eq!(without(b'R'), refused(Refusal::Ledger));
-        assert_eq!(without(b'K'), (returned::DONE, 0));
-        assert_eq!(without(b'S'), (returned::SENT, 1));
-        assert_eq!(without(b'D'), refused(Refusal::State));
-        assert_eq!(without(b'L'), refused(Refusal::LogCount));
-        assert_eq!(without(b'C'), (returned::DONE, 0));
-        assert_eq!(without(b'T'), (returned::DONE, 0));
-        assert_eq!(without(b'X'), (returned::CRASHED, 1));
-        assert_eq!(without(b'H'), refused(Refusal::NoSuchCrash));
-    }
-
-    /// A gap of 3, set with buffers that may be null.
-    fn gap_of_3(table: Lent, values: Lent) -> u32 {
-        let (table, table_words) = parts(table);
-        let (values, values_words) = parts(values);
-        // SAFETY: as in `lent`.
-        #[allow(unsafe_code)]
-        unsafe {
-            goulvizad_set_gap(table, table_words, 3, values, values_words)
-        }
-    }
-
-    #[test]
-    fn a_gap_takes_null_buffers_of_no_words() {
-        let mut table = vec![UNTOUCHED; TABLE_WORDS];
-        let mut values = [UNTOUCHED; VALUE_WORDS];
-        assert_eq!(gap_of_3(None, None), returned::WRONG_VALUES);
-        assert_eq!(gap_of_3(Some(&mut table), None), returned::WRONG_VALUES);
-        assert!(table.iter().all(|&word| word == UNTOUCHED));
-        assert_eq!(gap_of_3(None, Some(&mut values)), returned::REFUSED);
-        assert_eq!(values, [Refusal::Length.number(), 0, 0, 0, 0, 0]);
-    }
-
-    /// An empty list is done, whatever is lent; one with room for no answer isn't.
-    #[test]
-    fn a_list_takes_null_buffers_of_no_words() {
-        let run = |steps: Lent, answers: Lent| {
-            let (steps, steps_words) = parts(steps);
-            let (answers, answers_words) = parts(answers);
-            // SAFETY: as in `lent`.
-            #[allow(unsafe_code)]
-            unsafe {
-                let none = null_mut();
-                goulvizad_run(none, 0, none, 0, steps, steps_words, answers, answers_words)
-            }
-        };
-        let mut steps = [u32::from(b'C'), 0, 0, 0, 0];
-        let mut answers = [UNTOUCHED; ANSWER_WORDS];
-        assert_eq!(run(None, None), returned::DONE);
-        assert_eq!(run(Some(&mut steps), None), returned::WRONG_VALUES);
-        assert_eq!(run(None, Some(&mut answers)), returned::WRONG_VALUES);
-        assert_eq!(answers, [UNTOUCHED; ANSWER_WORDS]);
-        assert_eq!(run(Some(&mut steps), Some(&mut answers)), returned::DONE);
-        let refused = [returned::REFUSED, Refusal::Length.number(), 0, 0, 0, 0, 0];
-        assert_eq!(answers, refused);
-    }
-
-    #[test]
-    fn a_null_value_buffer_of_no_words_is_rejected() {
-        let mut table = vec![UNTOUCHED; TABLE_WORDS];
-        let mut ledger = [UNTOUCHED; LEDGER_WORDS];
-        let number = lent(Some(&mut table), Some(&mut ledger), b'O', None);
-        assert_eq!(number, returned::WRONG_VALUES);
-        assert!(table.iter().chain(&ledger).all(|&word| word == UNTOUCHED));
-        assert_eq!(lent(None, None, b'O', None), returned::WRONG_VALUES);
-    }
-}
+mod tests;

@@ -1,4 +1,4 @@
-//! The refusals, the eleventh kind of answer in the C interface.
+//! The refusals, one more kind of answer in the C interface.
 
 use std::error::Error;
 use std::fmt::{self, Display, Formatter};
@@ -13,20 +13,23 @@ pub enum Refusal {
     /// The table is not in form. An opening doesn't look at that.
     Form = 2,
     /// The ledger of an opening or a release hasn't [`LEDGER_WORDS`](crate::LEDGER_WORDS) words; that
-    /// of a release has a count above 128, or a word past its last pair that is not 0.
+    /// of a release, of a set too, has a count above 128, or a word past its last pair that is not 0.
     Ledger = 14,
     /// A controller is not below the number of controllers. A receiver may also be the
     /// [`DESK`](crate::DESK).
     Controller = 3,
-    /// The message number is 0, or above the messages sent.
+    /// The message number, or one of a set, is 0 or above the messages sent.
     Message = 4,
     /// The controllers aren't 1 to 8, a degree is above their number, or a gap is above 64.
     Degree = 5,
-    /// The two controllers of a sending or a telling are equal.
+    /// The two controllers of a sending or a telling are equal; a set has no messages or more than
+    /// [`SET_MOST`](crate::SET_MOST), or names one twice.
     SameController = 6,
     /// The message to release is not held, or that to deliver not released; one to the desk is never
-    /// delivered.
+    /// delivered. One message of a set is not held.
     State = 7,
+    /// The messages of a set have more than one sender.
+    Senders = 15,
     /// The count is 0, or above the live intervals that are not stable.
     LogCount = 8,
     /// No crash of that controller ended that incarnation.
@@ -39,15 +42,15 @@ pub enum Refusal {
     PlacesUsedUp = 12,
     /// A crash, or a hearing that must undo, in incarnation 15.
     IncarnationsUsedUp = 13,
-    /// A release that would publish, with all 128 pairs of the ledger used. Steps after an opening never
-    /// come to it: messages are as few.
+    /// A release that would publish, with all 128 pairs of the ledger used; of a set, with too few left for
+    /// all its messages to the desk. Steps after an opening never come to it: messages are as few.
     LedgerUsedUp = 18,
 }
 
 impl Refusal {
     /// All of them, in the order in which they are given where several apply: that of their numbers,
-    /// but for the first of the two that concern the ledger.
-    pub const ALL: [Refusal; 15] = [
+    /// but for the first of the two that concern the ledger, and for [`Senders`](Refusal::Senders).
+    pub const ALL: [Refusal; 16] = [
         Refusal::Length,
         Refusal::Form,
         Refusal::Ledger,
@@ -56,6 +59,7 @@ impl Refusal {
         Refusal::Degree,
         Refusal::SameController,
         Refusal::State,
+        Refusal::Senders,
         Refusal::LogCount,
         Refusal::NoSuchCrash,
         Refusal::AlreadyHeard,
@@ -89,8 +93,11 @@ impl Display for Refusal {
             Refusal::Degree => {
                 "not 1 to 8 controllers, a degree above their number, or a gap above 64"
             }
-            Refusal::SameController => "the two controllers are equal",
+            Refusal::SameController => {
+                "the two controllers are equal, or a set has none, too many or one twice"
+            }
             Refusal::State => "the message is not held, or not released",
+            Refusal::Senders => "the messages have more than one sender",
             Refusal::LogCount => "not so many intervals to log, or none asked for",
             Refusal::NoSuchCrash => "no crash ended that incarnation",
             Refusal::AlreadyHeard => "that crash has been heard of",

@@ -78,6 +78,11 @@ impl Table {
         crate::set_gap(&mut self.words[..], gap)
     }
 
+    /// Releases a set of messages, as [`release_set`](crate::release_set()) does on lent words.
+    pub fn release_set(&mut self, messages: &[u32]) -> Result<Answer, Refusal> {
+        crate::release_set(&mut self.words[..], &mut self.ledger[..], messages)
+    }
+
     /// Whether the newest live interval of a controller is a checkpoint, as
     /// [`is_checkpoint`](crate::is_checkpoint()) tells it of lent words: where a gap is set, ask it after a
     /// step that has begun an interval.

@@ -1,13 +1,15 @@
 //! Every number, length, letter and call of `include/goulvizad.h` is the one that is used here.
 
-use goulvizad::raw::{returned, ANSWER_WORDS, LEDGER_WORDS, STEP_WORDS, TABLE_WORDS, VALUE_WORDS};
+use goulvizad::raw::{
+    returned, ANSWER_WORDS, LEDGER_WORDS, SET_MOST, STEP_WORDS, TABLE_WORDS, VALUE_WORDS,
+};
 use goulvizad::{Refusal, Step, DESK};
 use std::fs;
 use std::path::Path;
 
 /// The entries of the header's enums, by their names without the prefix. The refusals come last, in the
 /// order in which they are given.
-const NAMED: [(&str, u32); 28] = [
+const NAMED: [(&str, u32); 31] = [
     ("DONE", returned::DONE),
     ("SENT", returned::SENT),
     ("RELEASED", returned::RELEASED),
@@ -19,6 +21,8 @@ const NAMED: [(&str, u32); 28] = [
     ("HEARD", returned::HEARD),
     ("ROLLED", returned::ROLLED),
     ("REFUSED", returned::REFUSED),
+    ("SET_RELEASED", returned::SET_RELEASED),
+    ("SET_HELD", returned::SET_HELD),
     ("UNKNOWN_LETTER", returned::UNKNOWN_LETTER),
     ("WRONG_VALUES", returned::WRONG_VALUES),
     ("LENGTH", Refusal::Length as u32),
@@ -29,6 +33,7 @@ const NAMED: [(&str, u32); 28] = [
     ("DEGREE", Refusal::Degree as u32),
     ("SAME_CONTROLLER", Refusal::SameController as u32),
     ("STATE", Refusal::State as u32),
+    ("SENDERS", Refusal::Senders as u32),
     ("LOG_COUNT", Refusal::LogCount as u32),
     ("NO_SUCH_CRASH", Refusal::NoSuchCrash as u32),
     ("ALREADY_HEARD", Refusal::AlreadyHeard as u32),
@@ -38,19 +43,20 @@ const NAMED: [(&str, u32); 28] = [
     ("LEDGER_USED_UP", Refusal::LedgerUsedUp as u32),
 ];
 
-/// What the header defines: the lengths of the buffers, of a step and of an answer, and the receiver that is
-/// no controller.
-const DEFINED: [(&str, u32); 6] = [
+/// What the header defines: the lengths of the buffers, of a step and of an answer, the most messages of a
+/// set, and the receiver that is no controller.
+const DEFINED: [(&str, u32); 7] = [
     ("TABLE_WORDS", TABLE_WORDS as u32),
     ("LEDGER_WORDS", LEDGER_WORDS as u32),
     ("VALUE_WORDS", VALUE_WORDS as u32),
     ("STEP_WORDS", STEP_WORDS as u32),
     ("ANSWER_WORDS", ANSWER_WORDS as u32),
+    ("SET_MOST", SET_MOST as u32),
     ("DESK", DESK),
 ];
 
 /// The calls that `raw.rs` declares.
-const CALLS: [&str; 5] = [
+const CALLS: [&str; 6] = [
     "uint32_t goulvizad_step(uint32_t *table, size_t table_words, uint32_t *ledger, \
      size_t ledger_words, uint32_t letter, uint32_t a, uint32_t b, uint32_t c, uint32_t d, \
      uint32_t *values, size_t values_words)",
@@ -62,6 +68,9 @@ const CALLS: [&str; 5] = [
      uint32_t controller)",
     "uint32_t goulvizad_set_gap(uint32_t *table, size_t table_words, uint32_t gap, \
      uint32_t *values, size_t values_words)",
+    "uint32_t goulvizad_release_set(uint32_t *table, size_t table_words, uint32_t *ledger, \
+     size_t ledger_words, const uint32_t *messages, size_t message_count, uint32_t *values, \
+     size_t values_words)",
 ];
 
 /// One step of each kind, with its numbers in the order of the names that the header has for them.

@@ -1,8 +1,8 @@
 //! Houses that are saved, lent, cloned, cited from, and used from several threads at once.
 
 use goulvizad::{
-    citations, in_form, is_checkpoint, run, step, Answer, Citation, Refusal, Step, Table, DESK,
-    LEDGER_WORDS, TABLE_WORDS,
+    citations, in_form, is_checkpoint, release_set, run, step, Answer, Citation, Refusal, Step,
+    Table, DESK, LEDGER_WORDS, SET_MOST, TABLE_WORDS,
 };
 use std::thread;
 
@@ -249,6 +249,42 @@ fn readings_are_cited_in_the_order_of_publishing() {
     let cited = cited.map(|(message, payload)| Citation { message, payload });
     assert!(table.citations().eq(cited));
     assert!(citations(table.ledger()).eq(cited));
+}
+
+/// The second controller's readings leave together once it has written its work, in the order given.
+#[test]
+fn a_set_goes_whole_or_not_at_all() {
+    let mut table = working();
+    for step in [reading(1, 24), reading(1, 25), reading(0, 26)] {
+        assert!(table.step(step).is_ok());
+    }
+    let before = table.clone();
+    let Ok(Answer::SetHeld { mask }) = table.release_set(&[4, 3]) else {
+        panic!("work that isn't written goes out");
+    };
+    assert!(mask.controllers().eq([1]));
+    for (messages, refusal) in [
+        (&[][..], Refusal::SameController),
+        (&[3; SET_MOST + 1], Refusal::SameController),
+        (&[9; SET_MOST + 1], Refusal::Message),
+        (&[3, 2], Refusal::State),
+        (&[3, 5], Refusal::Senders),
+    ] {
+        assert_eq!(table.release_set(messages), Err(refusal), "{messages:?}");
+    }
+    assert_eq!(table, before);
+    let taken = table.step(Step::Checkpoint { controller: 1 });
+    assert_eq!(taken, Ok(Answer::Done));
+    let (mut words, mut ledger) = (table.words().to_vec(), *table.ledger());
+    let Ok(Answer::SetReleased { mask }) = table.release_set(&[4, 3]) else {
+        panic!("written work is held");
+    };
+    assert_eq!(mask.bits(), 0);
+    assert!(table.citations().map(|cited| cited.message).eq([1, 4, 3]));
+    assert!(release_set(&mut words, &mut ledger, &[4, 3]).is_ok());
+    assert_eq!((&words[..], ledger), (&table.words()[..], *table.ledger()));
+    let cut = release_set(&mut words[1..], &mut ledger, &[4, 3]);
+    assert_eq!(cut, Err(Refusal::Length));
 }
 
 /// Only an opening that is done takes them away.
