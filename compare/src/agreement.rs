@@ -79,17 +79,22 @@ pub struct Parting {
 /// Walks a list of the reference, or of a faulty machine, and does each of its steps with the proved
 /// machine too, on a table and a ledger of its own. `look` is shown every step with the proved machine's
 /// answer, and what that left.
-pub fn beside(mut walk: Walk, mut look: impl FnMut(Command, Answer, &Lent)) -> Result<(), Parting> {
+pub fn beside(
+    mut walk: Walk,
+    mut look: impl FnMut(Command, Answer, &Lent),
+) -> Result<(), Box<Parting>> {
     let mut lent = Lent::by(&walk);
     let mut agreed = 0;
     while let Some((command, other)) = walk.next() {
         let answer = lent.step(command);
         look(command, answer, &lent);
         let others = (other, walk.table(), walk.ledger());
-        agree(answer, &lent, others).map_err(|difference| Parting {
-            agreed,
-            command,
-            difference,
+        agree(answer, &lent, others).map_err(|difference| {
+            Box::new(Parting {
+                agreed,
+                command,
+                difference,
+            })
         })?;
         agreed += 1;
     }

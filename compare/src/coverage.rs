@@ -10,7 +10,7 @@ use std::collections::{BTreeMap, BTreeSet};
 use std::ops::RangeBounds;
 
 /// The answers but the refusals, in the order of the alphabet.
-const ANSWERS: [&str; 10] = [
+const ANSWERS: [&str; 12] = [
     "crashed",
     "delivered",
     "done",
@@ -20,29 +20,41 @@ const ANSWERS: [&str; 10] = [
     "released",
     "rolled",
     "sent",
+    "set_held",
+    "set_released",
     "waits",
 ];
 
-/// Stands for the step that sets the gap, which has no letter.
-pub const SET_GAP: char = 'q';
+/// Stand for the step that sets the gap and the one that releases a set, which have no letter.
+const SET_GAP: char = 'q';
+const RELEASE_SET: char = 's';
+
+fn letter(command: Command) -> char {
+    let letter = lines::write(command).and_then(|line| line.chars().next());
+    letter.unwrap_or(match command {
+        Command::ReleaseSet { .. } => RELEASE_SET,
+        _ => SET_GAP,
+    })
+}
 
 /// Which steps can be given each refusal, in the order of their letters.
-const REFUSED: [(Refusal, &str); 15] = [
-    (refusal::LENGTH, "CDHKLORSTXq"),
-    (refusal::FORM, "CDHKLRSTXq"),
+const REFUSED: [(Refusal, &str); 16] = [
+    (refusal::LENGTH, "CDHKLORSTXqs"),
+    (refusal::FORM, "CDHKLRSTXqs"),
     (refusal::CONTROLLER, "CHKLSTX"),
-    (refusal::MESSAGE, "DR"),
+    (refusal::MESSAGE, "DRs"),
     (refusal::DEGREE, "KOq"),
-    (refusal::SAME_CONTROLLER, "ST"),
-    (refusal::STATE, "DR"),
+    (refusal::SAME_CONTROLLER, "STs"),
+    (refusal::STATE, "DRs"),
+    (refusal::SENDERS, "s"),
     (refusal::LOG_COUNT, "L"),
     (refusal::NO_SUCH_CRASH, "H"),
     (refusal::ALREADY_HEARD, "H"),
     (refusal::MESSAGES_USED_UP, "S"),
     (refusal::PLACES_USED_UP, "DX"),
     (refusal::INCARNATIONS_USED_UP, "HX"),
-    (refusal::LEDGER, "OR"),
-    (refusal::LEDGER_USED_UP, "R"),
+    (refusal::LEDGER, "ORs"),
+    (refusal::LEDGER_USED_UP, "Rs"),
 ];
 
 /// How far a house went.
@@ -103,7 +115,7 @@ pub struct Seen {
     answers: BTreeSet<String>,
     /// The refusals, each with the letter of its step.
     refusals: BTreeSet<(Refusal, char)>,
-    /// How often each case of causes, of rollbacks, of the desk and of the gap came up.
+    /// How often each case of causes, of rollbacks, of the desk, of the gap and of sets came up.
     cases: BTreeMap<String, u64>,
     /// How far the houses went.
     pub extent: Extent,
@@ -114,9 +126,7 @@ impl Seen {
     pub fn note(&mut self, command: Command, answer: Answer) {
         self.steps += 1;
         if let Answer::Refused { number } = answer {
-            let line = lines::write(command);
-            let letter = line.map_or(Some(SET_GAP), |line| line.chars().next());
-            self.refusals.extend(letter.map(|letter| (number, letter)));
+            self.refusals.insert((number, letter(command)));
         } else {
             let line = lines::render(&answer);
             let name = line.split(' ').next();
@@ -124,9 +134,9 @@ impl Seen {
         }
     }
 
-    /// Takes note of what became of causes, of rollbacks, of readings for the desk and of new intervals by
-    /// the gap, in the words of [`reference::causes`], [`reference::rollbacks`], [`desk`](crate::desk) and
-    /// [`reference::forced`].
+    /// Takes note of what became of causes, of rollbacks, of readings for the desk, of new intervals by the gap
+    /// and of sets, in the words of [`reference::causes`], [`reference::rollbacks`], [`desk`](crate::desk),
+    /// [`reference::forced`] and [`reference::sets`].
     pub fn note_cases(&mut self, cases: impl IntoIterator<Item = String>) {
         for case in cases {
             *self.cases.entry(case).or_default() += 1;

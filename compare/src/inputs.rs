@@ -4,13 +4,14 @@
 use crate::agreement::Lent;
 use crate::effort;
 use reference::generate::{
-    damaged, damaged_gap, damaged_ledger, gap, gapped_table, in_form_table, named, noise,
-    senseless, sound_ledger, wrong_length, Profile, Random,
+    damaged, damaged_gap, damaged_ledger, gap, gapped_table, in_form_table, named,
+    nearly_full_ledger, noise, senseless, set, set_table, sound_ledger, with_damage, wrong_length,
+    Profile, Random,
 };
 use reference::machine::Command;
 
-/// How many lists of each profile. In the first seven no gap is set.
-pub const LISTS: [(&Profile, u64); 10] = [
+/// How many lists of each profile. In the first seven no gap is set, and only the last two have sets.
+pub const LISTS: [(&Profile, u64); 12] = [
     (&Profile::MIXED, 1_600),
     (&Profile::CRASHES, 700),
     (&Profile::PARTIAL, 500),
@@ -21,6 +22,8 @@ pub const LISTS: [(&Profile, u64); 10] = [
     (&Profile::GAPS, 700),
     (&Profile::CEILING, 700),
     (&Profile::LONG, 100),
+    (&Profile::SETS, 700),
+    (&Profile::REELS, 300),
 ];
 
 /// Random lent tables of one kind.
@@ -34,8 +37,19 @@ pub struct Tables {
     count: u64,
     /// Makes one.
     make: fn(&mut Random) -> Vec<u32>,
-    /// Whether gaps are set, too. In tables where they aren't the gap is off, or the form is damaged.
-    gaps: bool,
+    /// What is done on them.
+    steps: Steps,
+}
+
+/// What is done on lent tables.
+#[derive(Clone, Copy, Debug)]
+enum Steps {
+    /// Steps that have a letter. The gap is off there, or the form is damaged.
+    Lettered,
+    /// The same, and gaps are set.
+    WithGaps,
+    /// Sets are released, with ledgers that often have little room.
+    Sets,
 }
 
 impl Tables {
@@ -45,7 +59,7 @@ impl Tables {
         seed: 1,
         count: 4_000,
         make: in_form_table,
-        gaps: false,
+        steps: Steps::Lettered,
     };
     /// The same with one word changed. Many of them are in form still.
     pub const DAMAGED: Tables = Tables {
@@ -53,7 +67,7 @@ impl Tables {
         seed: 2,
         count: 3_000,
         make: |random| damaged(random).0,
-        gaps: false,
+        steps: Steps::Lettered,
     };
     /// Words of another length, and noise.
     pub const NOISE: Tables = Tables {
@@ -64,7 +78,7 @@ impl Tables {
             0 => noise(random),
             _ => wrong_length(random),
         },
-        gaps: false,
+        steps: Steps::Lettered,
     };
     /// Tables in form with any gap.
     pub const GAPPED: Tables = Tables {
@@ -72,7 +86,7 @@ impl Tables {
         seed: 7,
         count: 4_000,
         make: gapped_table,
-        gaps: true,
+        steps: Steps::WithGaps,
     };
     /// Tables with a gap that is too wide, and others that are refused; some are in form still.
     pub const GAP_DAMAGED: Tables = Tables {
@@ -83,9 +97,33 @@ impl Tables {
             0 => gapped_table(random),
             _ => damaged_gap(random),
         },
-        gaps: true,
+        steps: Steps::WithGaps,
     };
-    /// All of them.
+    /// Tables in form with many messages held by one sender.
+    pub const SETS: Tables = Tables {
+        name: "lent tables for sets",
+        seed: 9,
+        count: 4_000,
+        make: set_table,
+        steps: Steps::Sets,
+    };
+    /// The same with one word changed, and others that are refused; some are in form still.
+    pub const SETS_DAMAGED: Tables = Tables {
+        name: "lent sets damaged",
+        seed: 10,
+        count: 1_000,
+        make: |random| match random.below(6) {
+            0 => noise(random),
+            1 => wrong_length(random),
+            2 => damaged(random).0,
+            _ => {
+                let table = set_table(random);
+                with_damage(random, table).0
+            }
+        },
+        steps: Steps::Sets,
+    };
+    /// Those on which steps with letters are done.
     pub const ALL: [Tables; 5] = [
         Tables::IN_FORM,
         Tables::DAMAGED,
@@ -93,22 +131,37 @@ impl Tables {
         Tables::GAPPED,
         Tables::GAP_DAMAGED,
     ];
+    /// Those on which sets are released.
+    pub const FOR_SETS: [Tables; 2] = [Tables::SETS, Tables::SETS_DAMAGED];
 
     /// Each table with a ledger, and the steps for it.
     pub fn with_steps(self) -> impl Iterator<Item = (Lent, Vec<Command>)> {
         let mut random = Random::new(self.seed);
         (0..effort(self.count)).map(move |_| {
-            let lent = Lent {
-                table: (self.make)(&mut random),
-                ledger: any_ledger(&mut random),
+            let table = (self.make)(&mut random);
+            let ledger = match self.steps {
+                Steps::Sets if random.chance(50) => nearly_full_ledger(&mut random),
+                _ => any_ledger(&mut random),
             };
-            let mut steps = steps(&mut random, &lent.table);
-            if self.gaps {
-                steps.extend(gaps_set(&mut random));
-            }
-            (lent, steps)
+            let steps = match self.steps {
+                Steps::Lettered => steps(&mut random, &table),
+                Steps::WithGaps => {
+                    let mut steps = steps(&mut random, &table);
+                    steps.extend(gaps_set(&mut random));
+                    steps
+                }
+                Steps::Sets => sets(&mut random, &table).to_vec(),
+            };
+            (Lent { table, ledger }, steps)
         })
     }
+}
+
+/// Sets that are released, mostly of messages that are there.
+pub fn sets(random: &mut Random, words: &[u32]) -> [Command; 10] {
+    [(); 10].map(|()| Command::ReleaseSet {
+        messages: set(random, words),
+    })
 }
 
 /// Gaps that are set, with any numbers.
@@ -117,7 +170,7 @@ pub fn gaps_set(random: &mut Random) -> [Command; 2] {
 }
 
 /// A step of each letter with sensible numbers, where the table has its length, and ten with any. None
-/// sets the gap.
+/// sets the gap or releases a set.
 pub fn steps(random: &mut Random, words: &[u32]) -> Vec<Command> {
     let mut steps = named(random, words);
     steps.extend((0..10).map(|_| senseless(random)));

@@ -2,7 +2,7 @@
 //! refusals are matched by name, so that a name with another meaning is a difference.
 
 use goulvizad::{raw, Refusal, Step};
-use reference::machine::{Answer, Command};
+use reference::machine::{Answer, Command, Messages};
 use reference::refusal;
 
 /// Does one step on a lent table and a lent ledger of any length and content.
@@ -13,31 +13,33 @@ pub fn step(table: &mut [u32], ledger: &mut [u32], command: Command) -> Answer {
     told(match asked(command) {
         Call::Step(step) => goulvizad::step(table, ledger, step).map(answered),
         Call::SetGap(gap) => goulvizad::set_gap(table, gap).map(|()| Answer::Done),
+        Call::ReleaseSet(messages) => {
+            goulvizad::release_set(table, ledger, &messages).map(answered)
+        }
     })
 }
 
-/// Does a list of steps in one call. A step that sets the gap has a call of its own, between two lists.
+/// Does a list of steps in one call. A step that has no letter has a call of its own, between two lists.
 ///
 /// # Panics
 /// As [`step`], and if a list is not done.
 pub fn run(table: &mut [u32], ledger: &mut [u32], commands: &[Command]) -> Vec<Answer> {
     let (mut answers, mut steps) = (Vec::with_capacity(commands.len()), Vec::new());
-    let mut listed = |table: &mut [u32], steps: &mut Vec<Step>, answers: &mut Vec<Answer>| {
-        let ran = goulvizad::run(table, ledger, steps);
-        answers.extend(ran.into_iter().map(|answer| told(answer.map(answered))));
+    let listed = |table: &mut [u32], ledger: &mut [u32], steps: &mut Vec<Step>| {
+        let ran = goulvizad::run(table, ledger, steps).into_iter();
         steps.clear();
+        ran.map(|answer| told(answer.map(answered)))
     };
     for &command in commands {
         match asked(command) {
             Call::Step(step) => steps.push(step),
-            Call::SetGap(gap) => {
-                listed(table, &mut steps, &mut answers);
-                let set = goulvizad::set_gap(table, gap);
-                answers.push(told(set.map(|()| Answer::Done)));
+            Call::SetGap(_) | Call::ReleaseSet(_) => {
+                answers.extend(listed(table, ledger, &mut steps));
+                answers.push(step(table, ledger, command));
             }
         }
     }
-    listed(table, &mut steps, &mut answers);
+    answers.extend(listed(table, ledger, &mut steps));
     answers
 }
 
@@ -71,11 +73,14 @@ enum Call {
     Step(Step),
     /// One that has none, and takes no ledger.
     SetGap(u32),
+    /// One that has none either.
+    ReleaseSet(Messages),
 }
 
 fn asked(command: Command) -> Call {
     let step = match command {
         Command::SetGap { gap } => return Call::SetGap(gap),
+        Command::ReleaseSet { messages } => return Call::ReleaseSet(messages),
         Command::Open { n, degree } => Step::Open { n, degree },
         Command::SetDegree { controller, degree } => Step::SetDegree { controller, degree },
         Command::Send {
@@ -161,6 +166,8 @@ fn answered(answer: goulvizad::Answer) -> Answer {
             undone,
             replayed,
         },
+        Proved::SetReleased { mask } => Answer::SetReleased { mask: mask.bits() },
+        Proved::SetHeld { mask } => Answer::SetHeld { mask: mask.bits() },
     }
 }
 
@@ -174,6 +181,7 @@ fn number(refusal: Refusal) -> refusal::Refusal {
         Refusal::Degree => refusal::DEGREE,
         Refusal::SameController => refusal::SAME_CONTROLLER,
         Refusal::State => refusal::STATE,
+        Refusal::Senders => refusal::SENDERS,
         Refusal::LogCount => refusal::LOG_COUNT,
         Refusal::NoSuchCrash => refusal::NO_SUCH_CRASH,
         Refusal::AlreadyHeard => refusal::ALREADY_HEARD,

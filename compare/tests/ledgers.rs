@@ -227,7 +227,10 @@ fn other_steps_do_not_look_at_the_ledger() {
             let mut walk = Walk::new(seed, profile);
             let mut lent = Lent::by(&walk);
             while let Some((command, expected)) = walk.next() {
-                let looks = matches!(command, Command::Open { .. } | Command::Release { .. });
+                let looks = matches!(
+                    command,
+                    Command::Open { .. } | Command::Release { .. } | Command::ReleaseSet { .. }
+                );
                 if !looks {
                     let right = std::mem::replace(&mut lent.ledger, foreign(&mut random));
                     let foreign = lent.ledger.clone();

@@ -10,7 +10,7 @@ use reference::causes::{self, Offers};
 use reference::demand::Judge;
 use reference::generate::{Profile, Walk};
 use reference::machine::{Answer, Command, Fault};
-use reference::{facts, forced, refusal, rollbacks};
+use reference::{facts, forced, refusal, rollbacks, sets};
 use std::thread;
 
 fn compare_list(profile: &'static Profile, seed: u64, seen: &mut Seen) {
@@ -23,7 +23,7 @@ fn compare_list(profile: &'static Profile, seed: u64, seen: &mut Seen) {
         let label = || format!("{} list {seed}: {command:?}, {answer:?}", profile.name);
         opened |= matches!((command, answer), (Command::Open { .. }, Answer::Done));
         assert_eq!(in_form(&lent.table), opened, "{}", label());
-        if let Answer::Refused { .. } = answer {
+        if let Answer::Refused { .. } | Answer::SetHeld { .. } = answer {
             assert!(*lent == before, "{}: words changed", label());
         }
         let before_it = judge.history();
@@ -40,6 +40,7 @@ fn compare_list(profile: &'static Profile, seed: u64, seen: &mut Seen) {
         seen.note_cases(rollbacks::case(before_it, answer));
         seen.note_cases(desk::case(&before, command, answer));
         seen.note_cases(forced::cases(before_it, command, answer, after_it));
+        seen.note_cases(sets::cases(before_it, &before.ledger, command, answer));
         seen.note_extent(lent);
         before.clone_from(lent);
     });
@@ -67,6 +68,7 @@ fn the_machines_agree_on_every_step() {
     // No list is lent a table that is too short or, after its opening, not in form; nor a ledger that
     // is refused. And there are no more messages than pairs in the ledger.
     seen.assert_all(refusal::CONTROLLER..=refusal::INCARNATIONS_USED_UP);
+    seen.assert_all(refusal::SENDERS..=refusal::SENDERS);
     assert_eq!(seen.refused(refusal::LEDGER), "");
     assert_eq!(seen.refused(refusal::LEDGER_USED_UP), "");
     seen.assert_cases(
@@ -76,19 +78,22 @@ fn the_machines_agree_on_every_step() {
             &desk::IN_LISTS,
             &forced::IN_LISTS,
             &forced::BESIDE_THE_CEILING,
+            &sets::IN_LISTS,
         ],
     );
     assert_eq!(seen.extent, Extent::UTMOST);
 }
 
 /// Where the proved machine parts from a faulty one, if it does in one of these lists.
-fn parting(fault: Fault) -> Option<Parting> {
+fn parting(fault: Fault) -> Option<Box<Parting>> {
     let profiles = [
         &Profile::CRASHES,
         &Profile::PARTIAL,
         &Profile::WORN,
         &Profile::GAPS,
         &Profile::CEILING,
+        &Profile::SETS,
+        &Profile::REELS,
     ];
     profiles.into_iter().find_map(|profile| {
         (0..20).find_map(|seed| {
@@ -123,6 +128,8 @@ fn faults_are_found_by_answers_and_by_words() {
         (Fault::CrashStartNotCounted, Buffer::Table),
         (Fault::PublishedWithoutEntry, Buffer::Ledger),
         (Fault::EntryOutOfOrder, Buffer::Ledger),
+        (Fault::FirstLetOut, Buffer::Table),
+        (Fault::PublishedInTableOrder, Buffer::Ledger),
     ] {
         let by_word = difference(fault);
         let found = matches!(by_word, Some(Difference::Word { buffer, .. }) if buffer == place);

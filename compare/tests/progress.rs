@@ -1,8 +1,8 @@
 //! Nothing is held for ever, and what is cited stands: the theorems on messages in `paper/specs/Theorems.antt`
 //! (theorem-A-1-messages, theorem-A-2 and those under its name), and `AllCitable` in `history/specs/Citable.antt`.
 //!
-//! In random lists both machines are held to these at every release and every delivery. Where a release was held, or
-//! let a message out, or a delivery waits, the list goes on for a second time: those whom the mask names are asked, or
+//! In random lists both machines are held to these at every release, of a set too, and every delivery. Where a release
+//! was held, or let a message out, or a delivery waits, the list goes on for a second time: those whom the mask names are asked, or
 //! all but K of them, each by a checkpoint or a crash and by a telling after it, and the sender or the receiver hears
 //! every crash; in any order, and among other steps. Then the message goes out, or comes in, or its work is gone. At
 //! the end of a list everyone is asked so for one controller, and all its messages and all those to it are tried.
@@ -17,7 +17,7 @@ use std::thread;
 use woven::{named, refused, weave, Aim, Broken, House, Met, Trial};
 
 /// How many lists of each profile.
-const LISTS: [(&Profile, u64); 10] = [
+const LISTS: [(&Profile, u64); 12] = [
     (&Profile::MIXED, 1_600),
     (&Profile::CRASHES, 700),
     (&Profile::PARTIAL, 500),
@@ -28,6 +28,8 @@ const LISTS: [(&Profile, u64); 10] = [
     (&Profile::GAPS, 700),
     (&Profile::CEILING, 700),
     (&Profile::LONG, 60),
+    (&Profile::SETS, 700),
+    (&Profile::REELS, 200),
 ];
 
 /// How many other steps stand among those that are needed, of a hundred: none, half of them, most.
@@ -35,7 +37,7 @@ const OTHERS: [u32; 3] = [0, 50, 80];
 
 /// What comes up, and how often at least: by what those of a mask were secured; what is tried after an answer, or at
 /// the end of a list, by what was done for it; and what stands in the lists themselves.
-const CASES: [(&str, u64); 41] = [
+const CASES: [(&str, u64); 50] = [
     ("asked by a checkpoint", 20_000),
     ("asked by a crash", 12_000),
     ("asked by a rollback", 4_000),
@@ -62,8 +64,11 @@ const CASES: [(&str, u64); 41] = [
     ("end: release, not all heard: held", 50),
     ("end: release, not all heard: released", 60),
     ("entries cited", 60_000),
+    ("list: a set refused", 2_500),
     ("list: dropped", 5_000),
     ("list: fewer named again", 3_000),
+    ("list: messages held in a set", 10_000),
+    ("list: messages let out in a set", 20_000),
     ("list: not dropped", 90_000),
     ("list: the same named again", 15_000),
     ("no place: refused 12", 40),
@@ -76,22 +81,28 @@ const CASES: [(&str, u64); 41] = [
     ("release, all but K asked: held, then released", 800),
     ("release, gone: held, then refused 7", 3_500),
     ("release, not all heard: held, then held", 100),
+    ("set with a reading, all asked: held, then released 0", 600),
+    ("set with a reading, gone: held, then refused 7", 300),
+    ("set, all asked: held, then released 0", 100),
+    ("set, all but K asked: held, then released 0", 1),
+    ("set, all but K asked: held, then released", 15),
+    ("set, gone: held, then refused 7", 60),
     ("steps in between", 180_000),
 ];
 
 /// How many of a hundred such answers are followed by a trial.
 fn tried(answer: Answer) -> u32 {
     match answer {
-        Answer::Held { .. } => 60,
+        Answer::Held { .. } | Answer::SetHeld { .. } => 60,
         Answer::Released { .. } => 10,
         Answer::Waits { .. } => 20,
         _ => 0,
     }
 }
 
-/// What is to be tried after an answer, and what is to be done before.
-fn trial_after(house: &House, answer: Answer) -> Option<(Trial, Aim)> {
-    let trial = Trial::after(answer)?;
+/// What is to be tried after a step, and what is to be done before.
+fn trial_after(house: &House, step: (Command, Answer)) -> Option<(Trial, Aim)> {
+    let trial = Trial::after(step.0, step.1)?;
     Some((trial, trial.aim(house)?))
 }
 
@@ -104,19 +115,19 @@ struct Check {
 impl Check {
     /// Goes through a list, and after some of its answers for a second time on from there.
     fn list(&mut self, house: &mut House) -> Result<(), Broken> {
-        while let Some(answer) = house.go_on()? {
-            self.met.note_delivery(answer);
-            if self.random.chance(tried(answer)) {
-                self.second_time(house, answer)?;
+        while let Some(step) = house.go_on()? {
+            self.met.note_step(step);
+            if self.random.chance(tried(step.1)) {
+                self.second_time(house, step)?;
             }
         }
         self.met.note_masks(house);
         self.end(house)
     }
 
-    /// Does what is needed for the message of an answer, and tries it.
-    fn second_time(&mut self, house: &House, answer: Answer) -> Result<(), Broken> {
-        let Some((trial, aim)) = trial_after(house, answer) else {
+    /// Does what is needed for the message or the set of a step, and tries it.
+    fn second_time(&mut self, house: &House, step: (Command, Answer)) -> Result<(), Broken> {
+        let Some((trial, aim)) = trial_after(house, step) else {
             return Ok(());
         };
         let all_but_k = self.random.chance(50);
@@ -125,7 +136,7 @@ impl Check {
         self.weave(&mut house, aim)?;
         self.met.note_asked(&house, aim);
         let (case, then) = self.attempt(&mut house, trial)?;
-        let [answer, then] = [answer, then].map(named);
+        let [answer, then] = [step.1, then].map(named);
         self.met.note(format!("{case}: {answer}, then {then}"));
         self.end(&house)
     }
@@ -254,21 +265,26 @@ impl Recipe {
 }
 
 fn is_stuck(answer: Answer) -> bool {
-    matches!(answer, Answer::Held { .. } | Answer::Waits { .. })
+    matches!(
+        answer,
+        Answer::Held { .. } | Answer::SetHeld { .. } | Answer::Waits { .. }
+    )
 }
 
 /// Tries every recipe after each answer of a list that holds a message or lets it wait.
 fn try_recipes(profile: &'static Profile, seed: u64, met: &mut Met) -> Result<(), Broken> {
     let mut house = House::open(seed, profile, Fault::None)?;
-    while let Some(answer) = house.go_on()? {
-        let stuck = trial_after(&house, answer).filter(|_| is_stuck(answer));
+    while let Some(step) = house.go_on()? {
+        let stuck = trial_after(&house, step).filter(|_| is_stuck(step.1));
         let Some((trial, aim)) = stuck else {
             continue;
         };
         for recipe in Recipe::ALL {
             let then = recipe.then(house.clone(), trial, aim)?;
             let then = if is_stuck(then) { "still" } else { "not" };
-            met.note(format!("{recipe:?}: {}, then {then}", named(answer)));
+            let set = matches!(trial, Trial::Set(_));
+            let set = if set { "a set " } else { "" };
+            met.note(format!("{recipe:?}: {set}{}, then {then}", named(step.1)));
         }
     }
     Ok(())
@@ -280,7 +296,7 @@ fn try_recipes(profile: &'static Profile, seed: u64, met: &mut Met) -> Result<()
 #[test]
 fn all_that_is_done_is_needed() {
     let mut met = Met::default();
-    for profile in [&Profile::CRASHES, &Profile::PARTIAL] {
+    for profile in [&Profile::CRASHES, &Profile::PARTIAL, &Profile::SETS] {
         for seed in 0..effort(40) {
             let tried = try_recipes(profile, seed, &mut met);
             assert_eq!(tried, Ok(()), "{} list {seed}", profile.name);
@@ -296,6 +312,11 @@ fn all_that_is_done_is_needed() {
         ("TellingsFirst: held, then still", 100),
         ("NoHearings: held, then still", 150),
         ("NoHearings: waits, then still", 15),
+        ("Whole: a set held, then not", 100),
+        ("NoCheckpoints: a set held, then still", 50),
+        ("NoTellings: a set held, then still", 20),
+        ("TellingsFirst: a set held, then still", 5),
+        ("NoHearings: a set held, then still", 10),
     ]);
     let mut whole = met.cases().filter(|case| case.starts_with("Whole"));
     assert_eq!(whole.find(|case| case.ends_with("still")), None);
@@ -303,7 +324,12 @@ fn all_that_is_done_is_needed() {
 
 /// What a machine with this fault does that it must not, if one of these lists shows it.
 fn broken(fault: Fault) -> Option<Broken> {
-    let profiles = [&Profile::CRASHES, &Profile::PARTIAL, &Profile::CEILING];
+    let profiles = [
+        &Profile::CRASHES,
+        &Profile::PARTIAL,
+        &Profile::CEILING,
+        &Profile::SETS,
+    ];
     profiles
         .into_iter()
         .find_map(|profile| (0..20).find_map(|seed| check_list(profile, seed, fault).err()))
@@ -321,6 +347,7 @@ fn machines_that_hold_for_ever_are_found() {
         Fault::KnownNotRaised,
         Fault::ForcedNotKnown,
         Fault::HeldKept,
+        Fault::StoredPairsJoined,
     ] {
         let found = broken(fault);
         println!("{fault:?}: {found:?}");

@@ -159,7 +159,7 @@ fn shows_in_answers(fault: Fault) -> bool {
         fault,
         Fault::PublishedWithoutEntry | Fault::LedgerWrittenOnHeld | Fault::EntryOutOfOrder
     );
-    fault.shows_in_lists() && !in_the_ledger_alone && !fault.needs_a_gap()
+    fault.shows_in_lists() && !in_the_ledger_alone && !fault.needs_a_gap() && !fault.needs_a_set()
 }
 
 /// The comparison through the program can fail: every planted fault shows in some answer, but for those

@@ -3,10 +3,11 @@
 
 use compare::agreement::{on_lent, on_lent_with, Lent};
 use compare::coverage::Seen;
-use compare::inputs::{any_ledger, gaps_set, steps, Tables};
+use compare::inputs::{any_ledger, gaps_set, sets, steps, Tables};
 use compare::{desk, effort, in_form};
 use reference::generate::{
-    damaged, damaged_gap, gapped_table, in_form_table, Profile, Random, Walk,
+    damaged, damaged_gap, gapped_table, in_form_table, nearly_full_ledger, set_table, Profile,
+    Random, Walk,
 };
 use reference::machine::{self, Answer, Command, Fault};
 use reference::table::state::{DROPPED, HELD, PUBLISHED};
@@ -20,7 +21,7 @@ fn compare_table(lent: &Lent, steps: Vec<Command>, seen: &mut Seen) {
         let agreed = on_lent(lent, command);
         let (answer, after) =
             agreed.unwrap_or_else(|difference| panic!("{command:?}: {difference:?}"));
-        if let Answer::Refused { .. } = answer {
+        if let Answer::Refused { .. } | Answer::SetHeld { .. } = answer {
             assert!(after == *lent, "{command:?}: words changed");
         }
         seen.note(command, answer);
@@ -28,6 +29,8 @@ fn compare_table(lent: &Lent, steps: Vec<Command>, seen: &mut Seen) {
         seen.note_cases(rollbacks::case(&lent.table, answer));
         seen.note_cases(desk::case(lent, command, answer));
         seen.note_cases(forced::cases(&lent.table, command, answer, &after.table));
+        let sets = reference::sets::cases(&lent.table, &lent.ledger, command, answer);
+        seen.note_cases(sets);
     }
 }
 
@@ -54,7 +57,13 @@ fn tables_in_form() {
         &causes::on_lent_tables(),
         &[&rollbacks::CASES, &desk::ON_LENT, &by_the_gap.concat()],
     );
-    seen.join(gapped).assert_all(refusal::CONTROLLER..);
+    let with_sets = compare_tables(Tables::SETS);
+    assert!(with_sets.steps >= 40_000);
+    let of_sets: [&[&str]; 2] = [&reference::sets::IN_LISTS, &reference::sets::ON_LENT_TOO];
+    with_sets.assert_cases::<&str>(&[], &of_sets);
+    seen.join(gapped)
+        .join(with_sets)
+        .assert_all(refusal::CONTROLLER..);
 }
 
 #[test]
@@ -64,7 +73,10 @@ fn damaged_tables() {
     let gaps = compare_tables(Tables::GAP_DAMAGED);
     assert!(gaps.steps >= 20_000);
     assert_eq!(gaps.refused(refusal::LENGTH), "CDHKLORSTXq");
-    seen.join(gaps).assert_all(refusal::FORM..);
+    let sets = compare_tables(Tables::SETS_DAMAGED);
+    assert!(sets.steps >= 10_000);
+    assert_eq!(sets.refused(refusal::LENGTH), "s");
+    seen.join(gaps).join(sets).assert_all(refusal::FORM..);
 }
 
 #[test]
@@ -97,11 +109,12 @@ fn every_wrong_length_is_refused() {
         for _ in 0..10 {
             let mut steps = steps(&mut random, &lent.table);
             steps.extend(gaps_set(&mut random));
+            steps.extend(sets(&mut random, &lent.table));
             compare_table(&lent, steps, &mut seen);
         }
         assert!(!in_form(&lent.table), "{length} words");
     }
-    assert_eq!(seen.refused(refusal::LENGTH), "CDHKLORSTXq");
+    assert_eq!(seen.refused(refusal::LENGTH), "CDHKLORSTXqs");
     assert!(in_form(&whole[..WORDS]));
 }
 
@@ -114,15 +127,21 @@ fn every_planted_fault_that_no_list_shows_is_found() {
     left.retain(|fault| !fault.shows_in_lists());
     assert!(!left.is_empty());
     for round in 0..1_000 {
-        let table = match round % 4 {
+        let table = match round % 5 {
             0 => in_form_table(&mut random),
             1 => gapped_table(&mut random),
             2 => damaged_gap(&mut random),
+            3 => set_table(&mut random),
             _ => damaged(&mut random).0,
         };
-        let ledger = any_ledger(&mut random);
+        let ledger = match round % 10 {
+            3 => nearly_full_ledger(&mut random),
+            _ => any_ledger(&mut random),
+        };
         let lent = Lent { table, ledger };
-        for command in steps(&mut random, &lent.table) {
+        let mut steps = steps(&mut random, &lent.table);
+        steps.extend(sets(&mut random, &lent.table));
+        for command in steps {
             left.retain(|&fault| on_lent_with(fault, &lent, command).is_ok());
         }
         if left.is_empty() {

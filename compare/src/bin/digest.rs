@@ -76,7 +76,9 @@ fn main() {
         let worker = thread::spawn(move || of_lists(profile, lists));
         (profile.name, worker)
     });
-    let tables = Tables::ALL.map(|tables| (tables.name, thread::spawn(move || of_tables(tables))));
+    let tables = Tables::ALL.into_iter().chain(Tables::FOR_SETS);
+    let tables = tables.map(|tables| (tables.name, thread::spawn(move || of_tables(tables))));
+    let tables: Vec<_> = tables.collect();
     for (name, worker) in lists.into_iter().chain(tables) {
         let Digest { steps, hash } = worker.join().expect("steps that all had an answer");
         println!("{name:<22} {steps:>9} steps  {hash:016x}");

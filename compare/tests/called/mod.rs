@@ -12,7 +12,7 @@ use std::collections::BTreeSet;
 pub const LETTERS: &[u8] = b"OKSRDLCTXH";
 
 /// The answers in the order of their numbers.
-const NAMES: [&str; 11] = [
+const NAMES: [&str; 13] = [
     "done",
     "sent",
     "released",
@@ -24,6 +24,8 @@ const NAMES: [&str; 11] = [
     "heard",
     "rolled",
     "refused",
+    "set_released",
+    "set_held",
 ];
 
 /// What a call asks for.

@@ -2,27 +2,31 @@
 //! `paper/specs/Theorems.antt`, their words in `Progress`, `Asked` and `Citable` of `history/specs`.
 
 use super::{refused, House, Told};
+use goulvizad::SET_MOST;
 use reference::history::{IntervalId, Message};
 use reference::ledger::{Entry, Ledger};
 use reference::machine::{Answer, Command};
 use reference::refusal::{self, Refusal};
 use reference::table::{DESK, LAST_NUMBER};
+use std::collections::BTreeSet;
 
-/// How a message stands with its holder: with its sender while it is held, with its receiver once it is let out.
+/// How a message stands with its holder: with its sender while it is held, with its receiver once it is let out. Or how
+/// the messages of a set do, all together.
 #[derive(Clone, Copy, Debug)]
 pub struct Standing {
     /// Those whom its latest release named, or everyone if there was none.
     pub named: u32,
     /// Those of them who were not asked for the holder since the sending interval began.
     left: u32,
-    /// The owners of what the sending interval rests on and the holder has no word of.
-    unlearned: u32,
     /// Whether the holder has heard every crash.
     heard: bool,
-    /// Whether the sending interval rests on a lost one.
-    orphan: bool,
+    /// Whether no lost work is in the way that the holder may not have heard of.
+    sure: bool,
     /// The owners of what the sending interval rests on and isn't stable.
     at_risk: u32,
+    /// Those who may still stand in its way: not who was asked, nor who has nothing under it that the holder lacks word
+    /// of. Less is known where lost work may not have been heard of.
+    in_the_way: u32,
     /// How many its release may name.
     pub most: u32,
 }
@@ -38,31 +42,28 @@ impl Standing {
         }
     }
 
-    /// No lost work is in the way that the holder may not have heard of.
-    fn is_sure(&self) -> bool {
-        self.heard || !self.orphan
-    }
-
-    /// Those who may still stand in its way: not who was asked, nor who has nothing under it that the holder lacks word
-    /// of. Less is known where lost work may not have been heard of.
-    fn in_the_way(&self) -> u32 {
-        let in_the_way = if self.is_sure() {
-            self.left & self.unlearned
-        } else {
-            self.left | self.at_risk
-        };
-        self.named & in_the_way
-    }
-
-    /// Nothing and nobody does.
+    /// Nothing and nobody stands in its way.
     fn is_cleared(&self) -> bool {
-        self.is_sure() && self.in_the_way() == 0
+        self.sure && self.in_the_way == 0
     }
 
     /// Whether its release may show this mask: it names whoever could revoke the message (theorem-A-3), and nobody else
     /// but who stands in its way (theorem-A-2-masks, -cause).
     fn may_name(&self, mask: u32) -> bool {
-        self.at_risk & !mask == 0 && mask & !self.in_the_way() == 0
+        self.at_risk & !mask == 0 && mask & !self.in_the_way == 0
+    }
+
+    /// Two messages of a set: its union names whom each of them names, and it may name no more than each may.
+    fn joined(self, other: Standing) -> Standing {
+        Standing {
+            named: self.named | other.named,
+            left: self.left | other.left,
+            heard: self.heard && other.heard,
+            sure: self.sure && other.sure,
+            at_risk: self.at_risk | other.at_risk,
+            in_the_way: self.in_the_way | other.in_the_way,
+            most: self.most.min(other.most),
+        }
     }
 }
 
@@ -73,6 +74,7 @@ impl House {
         match command {
             Command::Release { message } => self.allows_release(message, answer),
             Command::Deliver { message } => self.allows_delivery(message, answer),
+            Command::ReleaseSet { messages } => self.allows_set(&messages, answer),
             _ => true,
         }
     }
@@ -86,6 +88,20 @@ impl House {
             }
             (Ok((standing, _)), Answer::Held { mask, .. }) => {
                 standing.may_name(mask) && mask.count_ones() > standing.most
+            }
+            (Ok(_), _) => false,
+            (Err(number), _) => answer == refused(number),
+        }
+    }
+
+    /// The same of a set by its union, all its messages together.
+    fn allows_set(&self, messages: &[u32], answer: Answer) -> bool {
+        match (self.held_set(messages), answer) {
+            (Ok(set), Answer::SetReleased { mask }) => {
+                set.may_name(mask) && mask.count_ones() <= set.most
+            }
+            (Ok(set), Answer::SetHeld { mask }) => {
+                set.may_name(mask) && mask.count_ones() > set.most
             }
             (Ok(_), _) => false,
             (Err(number), _) => answer == refused(number),
@@ -141,6 +157,24 @@ impl House {
         Ok((standing.ok_or(refusal::STATE)?, sent))
     }
 
+    /// How the messages of a set stand with their sender, if they are one, and else why it is refused.
+    pub(super) fn held_set(&self, messages: &[u32]) -> Result<Standing, Refusal> {
+        let sent = messages.iter().map(|&m| self.sent(m));
+        let sent = sent.collect::<Result<Vec<&Message>, Refusal>>()?;
+        let distinct: BTreeSet<&u32> = messages.iter().collect();
+        if distinct.len() < messages.len() || messages.len() > SET_MOST {
+            return Err(refusal::SAME_CONTROLLER);
+        }
+        let standings = messages.iter().map(|&m| Ok(self.held(m)?.0));
+        let standings = standings.collect::<Result<Vec<Standing>, Refusal>>()?;
+        let senders: BTreeSet<u32> = sent.into_iter().map(|sent| self.sender(sent)).collect();
+        if senders.len() > 1 {
+            return Err(refusal::SENDERS);
+        }
+        let together = standings.into_iter().reduce(Standing::joined);
+        together.ok_or(refusal::SAME_CONTROLLER)
+    }
+
     fn sent(&self, message: u32) -> Result<&Message, Refusal> {
         let sent = self.history.messages().get(&message);
         sent.ok_or(refusal::MESSAGE)
@@ -155,15 +189,27 @@ impl House {
         let owners = |mask, id: IntervalId| mask | 1 << intervals[id].owner;
         let unlearned = rests_on().filter(|&id| !self.asked.has_word(holder, id, &self.history));
         let at_risk = rests_on().filter(|&id| !intervals[id].stable);
-        let for_desk = sent.receiver == DESK;
+        let at_risk = at_risk.fold(0, owners);
+        let heard = self.unheard(holder).next().is_none();
+        let sure = heard || rests_on().all(|id| intervals[id].lost_in.is_none());
+        let left = self.asked.left(since, holder, named);
+        let in_the_way = if sure {
+            left & unlearned.fold(0, owners)
+        } else {
+            left | at_risk
+        };
         Standing {
             named,
-            left: self.asked.left(since, holder, named),
-            unlearned: unlearned.fold(0, owners),
-            heard: self.unheard(holder).next().is_none(),
-            orphan: rests_on().any(|id| intervals[id].lost_in.is_some()),
-            at_risk: at_risk.fold(0, owners),
-            most: if for_desk { 0 } else { self.degree(holder) },
+            left,
+            heard,
+            sure,
+            at_risk,
+            in_the_way: named & in_the_way,
+            most: if sent.receiver == DESK {
+                0
+            } else {
+                self.degree(holder)
+            },
         }
     }
 }

@@ -2,7 +2,7 @@
 
 use super::asked::Secured;
 use super::{Aim, House};
-use reference::machine::Answer;
+use reference::machine::{Answer, Command};
 use std::collections::BTreeMap;
 
 /// How often each case came up.
@@ -37,11 +37,19 @@ impl Met {
         }
     }
 
-    /// A delivery of a list itself, which is dropped exactly where it rests on lost work that was heard of.
-    pub fn note_delivery(&mut self, answer: Answer) {
-        match answer {
-            Answer::Dropped { .. } => self.note("list: dropped"),
-            Answer::Delivered { .. } | Answer::Waits { .. } => self.note("list: not dropped"),
+    /// What a list itself comes across: deliveries, which are dropped exactly where they rest on lost work that was
+    /// heard of, and sets.
+    pub fn note_step(&mut self, step: (Command, Answer)) {
+        match step {
+            (_, Answer::Dropped { .. }) => self.note("list: dropped"),
+            (_, Answer::Delivered { .. } | Answer::Waits { .. }) => self.note("list: not dropped"),
+            (Command::ReleaseSet { messages }, Answer::SetReleased { .. }) => {
+                self.add("list: messages let out in a set", messages.len() as u64);
+            }
+            (Command::ReleaseSet { messages }, Answer::SetHeld { .. }) => {
+                self.add("list: messages held in a set", messages.len() as u64);
+            }
+            (Command::ReleaseSet { .. }, _) => self.note("list: a set refused"),
             _ => {}
         }
     }

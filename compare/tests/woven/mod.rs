@@ -24,12 +24,12 @@ use std::collections::BTreeMap;
 use std::ops::Range;
 
 /// Where a house breaks what is claimed of it.
-#[derive(Clone, Copy, Debug, PartialEq, Eq)]
+#[derive(Clone, Debug, PartialEq, Eq)]
 pub enum Broken {
     /// A step has an answer that it must not have.
     Answer(Command, Answer),
     /// The machines part at a step.
-    Parting(Command, Difference),
+    Parting(Box<(Command, Difference)>),
     /// They have the same answers, and leave other words.
     Words,
     /// The ledger has an entry that may not be cited.
@@ -89,12 +89,12 @@ impl House {
     }
 
     /// Goes on with the list, if it has a step left.
-    pub fn go_on(&mut self) -> Result<Option<Answer>, Broken> {
+    pub fn go_on(&mut self) -> Result<Option<(Command, Answer)>, Broken> {
         let Some((command, answer)) = self.walk.next() else {
             return Ok(None);
         };
         self.take(command, answer)?;
-        Ok(Some(answer))
+        Ok(Some((command, answer)))
     }
 
     /// Does a step that the list doesn't ask for.
@@ -127,7 +127,7 @@ impl House {
         };
         if self.proved.is_some() {
             let answer = on_lent(&lent, command).map(|(answer, _)| answer);
-            return answer.map_err(|difference| Broken::Parting(command, difference));
+            return answer.map_err(|difference| Broken::Parting(Box::new((command, difference))));
         }
         let Lent { table, ledger } = &mut lent;
         Ok(step_with(self.fault, table, ledger, command))
@@ -140,7 +140,7 @@ impl House {
             let proved = lent.step(command);
             if proved != other {
                 let difference = Difference::Answer { proved, other };
-                return Err(Broken::Parting(command, difference));
+                return Err(Broken::Parting(Box::new((command, difference))));
             }
         }
         let read = self.allows(command, other) && self.read(command, other).is_ok();
@@ -156,7 +156,18 @@ impl House {
             self.history.feed(command, answer)?;
         }
         self.asked.feed(command, answer, &self.history);
-        self.hear_of_message(answer);
+        match (command, answer) {
+            (
+                Command::ReleaseSet { messages },
+                Answer::SetHeld { mask } | Answer::SetReleased { mask },
+            ) => {
+                let let_out = matches!(answer, Answer::SetReleased { .. });
+                messages
+                    .iter()
+                    .for_each(|&m| self.hear_of_set(m, mask, let_out));
+            }
+            _ => self.hear_of_message(answer),
+        }
         Ok(())
     }
 
@@ -175,6 +186,15 @@ impl House {
             }
             _ => {}
         }
+    }
+
+    /// The union of a set names those whom a message of it names, and may name others, too; but none of them that an
+    /// earlier release of the message didn't name, as masks only shrink.
+    fn hear_of_set(&mut self, message: u32, union: u32, let_out: bool) {
+        let told = self.told.entry(message).or_default();
+        let named = told.latest_mask().map_or(union, |latest| latest & union);
+        told.masks.push(named);
+        told.let_out |= let_out;
     }
 }
 

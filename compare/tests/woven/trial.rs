@@ -1,25 +1,28 @@
-//! A release or a delivery that is to be tried, and in words what was done for it and what came of it.
+//! A release, of a set too, or a delivery that is to be tried, and in words what was done for it and what came of it.
 
 use super::claims::Standing;
 use super::{refused, Aim, Broken, House};
-use reference::history::Message;
 use reference::lines;
-use reference::machine::{Answer, Command};
+use reference::machine::{Answer, Command, Messages};
 use reference::refusal::{self, Refusal};
 
-/// What is tried, of which message.
+/// What is tried, of which message or messages.
 #[derive(Clone, Copy, Debug)]
 pub enum Trial {
     Release(u32),
     Delivery(u32),
+    Set(Messages),
 }
 
 impl Trial {
-    /// What is still to come for a message, after an answer.
-    pub fn after(answer: Answer) -> Option<Self> {
-        match answer {
-            Answer::Held { message, .. } => Some(Trial::Release(message)),
-            Answer::Released { message, .. } | Answer::Waits { message } => {
+    /// What is still to come for a message or a set, after a step and its answer.
+    pub fn after(command: Command, answer: Answer) -> Option<Self> {
+        match (command, answer) {
+            (Command::ReleaseSet { messages }, Answer::SetHeld { .. }) => {
+                Some(Trial::Set(messages))
+            }
+            (_, Answer::Held { message, .. }) => Some(Trial::Release(message)),
+            (_, Answer::Released { message, .. } | Answer::Waits { message }) => {
                 Some(Trial::Delivery(message))
             }
             _ => None,
@@ -36,57 +39,78 @@ impl Trial {
         for_holder.then_some(Trial::Delivery(message))
     }
 
-    fn message(self) -> u32 {
-        let (Trial::Release(message) | Trial::Delivery(message)) = self;
-        message
+    fn messages(self) -> Messages {
+        match self {
+            Trial::Release(message) | Trial::Delivery(message) => Messages::of(&[message]),
+            Trial::Set(messages) => messages,
+        }
+    }
+
+    fn command(self) -> Command {
+        match self {
+            Trial::Release(message) => Command::Release { message },
+            Trial::Delivery(message) => Command::Deliver { message },
+            Trial::Set(messages) => Command::ReleaseSet { messages },
+        }
+    }
+
+    /// Whether it is to publish something.
+    fn is_for_desk(self, house: &House) -> bool {
+        let mut messages = self.messages().to_vec().into_iter();
+        messages.any(|message| house.is_for_desk(message))
     }
 
     /// Does it. If it is to publish, it is tried beside a full ledger, too.
     pub fn attempt(self, house: &mut House) -> Result<Answer, Broken> {
-        match self {
-            Trial::Release(message) if house.is_for_desk(message) => {
-                house.step_beside_any_ledger(Command::Release { message })
-            }
-            Trial::Release(message) => house.step(Command::Release { message }),
-            Trial::Delivery(message) => house.step(Command::Deliver { message }),
+        if self.is_for_desk(house) {
+            house.step_beside_any_ledger(self.command())
+        } else {
+            house.step(self.command())
         }
     }
 
-    /// Those whom the release of the message named are asked for its sender or its receiver. The desk asks nobody.
+    /// Those whom the release named are asked for the sender or the receiver, since the newest of the sending intervals
+    /// began. The desk asks nobody.
     pub fn aim(self, house: &House) -> Option<Aim> {
-        let (standing, sent) = self.standing(house).ok()?;
+        let standing = self.standing(house).ok()?;
+        let messages = self.messages();
+        let sent = messages.iter().map(|m| &house.history.messages()[m]);
+        let latest = sent.max_by_key(|sent| sent.sending_interval)?;
         let holder = match self {
-            Trial::Release(_) => house.sender(sent),
-            Trial::Delivery(_) => sent.receiver,
+            Trial::Release(_) | Trial::Set(_) => house.sender(latest),
+            Trial::Delivery(_) => latest.receiver,
         };
         Some(Aim {
             holder,
             mask: standing.named,
-            since: sent.sending_interval,
-            message: Some(self.message()),
+            since: latest.sending_interval,
+            messages,
             all_but_k: false,
         })
     }
 
-    fn standing(self, house: &House) -> Result<(Standing, &Message), Refusal> {
+    fn standing(self, house: &House) -> Result<Standing, Refusal> {
         match self {
-            Trial::Release(message) => house.held(message),
-            Trial::Delivery(message) => house.released(message),
+            Trial::Release(message) => Ok(house.held(message)?.0),
+            Trial::Delivery(message) => Ok(house.released(message)?.0),
+            Trial::Set(messages) => house.held_set(&messages),
         }
     }
 
     /// Of what kind it is, and what was done for it.
     pub fn case(self, house: &House) -> String {
-        let message = self.message();
         let kind = match self {
             Trial::Delivery(_) => "delivery",
-            Trial::Release(_) if house.is_for_desk(message) => "publishing",
+            Trial::Release(_) if self.is_for_desk(house) => "publishing",
             Trial::Release(_) => "release",
+            Trial::Set(_) if self.is_for_desk(house) => "set with a reading",
+            Trial::Set(_) => "set",
         };
+        let let_out = |message: &u32| house.is_let_out(*message);
         let done = match self.standing(house) {
-            Err(_) if house.is_let_out(message) => "let out",
+            Err(_) if self.messages().iter().any(let_out) => "let out",
             Err(_) => "gone",
-            Ok((standing, _)) => standing.done(),
+            Ok(standing) => standing.done(),
         };
         format!("{kind}, {done}")
     }
@@ -97,7 +121,11 @@ impl Trial {
 pub fn named(answer: Answer) -> String {
     let line = lines::render(&answer);
     match (answer, line.split_once(' ')) {
-        (Answer::Released { mask: 0, .. }, _) => "released 0".to_owned(),
+        (Answer::Released { mask: 0, .. } | Answer::SetReleased { mask: 0 }, _) => {
+            "released 0".to_owned()
+        }
+        (Answer::SetReleased { .. }, _) => "released".to_owned(),
+        (Answer::SetHeld { .. }, _) => "held".to_owned(),
         (Answer::Delivered { .. }, _) => "begins".to_owned(),
         _ if answer == refused(refusal::PLACES_USED_UP) => "begins".to_owned(),
         (Answer::Refused { .. }, _) | (_, None) => line,

@@ -4,7 +4,7 @@
 use super::{refused, Broken, House};
 use reference::generate::Random;
 use reference::history::{Crash, IntervalId};
-use reference::machine::{Answer, Command};
+use reference::machine::{Answer, Command, Messages};
 use reference::refusal;
 use reference::table::CONTROLLERS;
 use std::collections::BTreeSet;
@@ -18,9 +18,9 @@ pub struct Aim {
     pub mask: u32,
     /// Since when it counts: since this interval began.
     pub since: IntervalId,
-    /// The message that it is done for, if it is for one: no other step releases or delivers it.
-    pub message: Option<u32>,
-    /// Whether as many as the release of that message may name can be left out.
+    /// The messages that it is done for, if it is for some: no other step releases or delivers one of them.
+    pub messages: Messages,
+    /// Whether as many as the release of these messages may name can be left out.
     pub all_but_k: bool,
 }
 
@@ -31,7 +31,7 @@ impl Aim {
             holder,
             mask: house.everyone(),
             since: house.history.intervals().len() - 1,
-            message: None,
+            messages: Messages::of(&[]),
             all_but_k: false,
         }
     }
@@ -109,9 +109,9 @@ impl Weave<'_> {
 
     /// How many of them need not be asked, by the degree of now.
     fn spared(&self) -> u32 {
-        let message = self.aim.message.filter(|_| self.aim.all_but_k);
-        let held = message.and_then(|message| self.house.held(message).ok());
-        held.map_or(0, |(standing, _)| standing.most)
+        let held = self.house.held_set(&self.aim.messages).ok();
+        let held = held.filter(|_| self.aim.all_but_k);
+        held.map_or(0, |standing| standing.most)
     }
 
     fn meet(&mut self, need: Need) -> Result<(), Broken> {
@@ -163,7 +163,7 @@ impl Weave<'_> {
         Ok(())
     }
 
-    /// A step that the list could go on with, but for openings and for what would decide about the message.
+    /// A step that the list could go on with, but for openings and for what would decide about the messages.
     fn do_another(&mut self) -> Result<(), Broken> {
         let command = loop {
             let command = self.house.walk.choose();
@@ -178,7 +178,10 @@ impl Weave<'_> {
         match command {
             Command::Open { .. } => true,
             Command::Release { message } | Command::Deliver { message } => {
-                self.aim.message == Some(message)
+                self.aim.messages.contains(&message)
+            }
+            Command::ReleaseSet { messages } => {
+                messages.iter().any(|m| self.aim.messages.contains(m))
             }
             _ => false,
         }

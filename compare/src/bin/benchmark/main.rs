@@ -1,10 +1,11 @@
 //! Times the proved machine and the reference on the same scripts, in one run: by the step, by the step of
-//! a list that is done in one call, by the line of the program, by the check that a table is in form, and by
-//! single steps in a house with many live intervals: the hearing of a crash, and what the gap has a part in.
+//! a list that is done in one call, by the line of the program, by the check that a table is in form, by single
+//! steps in a house with many live intervals: the hearing of a crash, and what the gap has a part in; and by
+//! a set of messages beside its single releases.
 //!
 //! With the argument `house_reference` it is the program of the reference, so that one command builds
-//! both sides. With the name of a single step and a number it does that step so often with the proved
-//! machine and no clock, to have its instructions counted.
+//! both sides. With the name of a row of the last three parts and a number it does that so often with the
+//! proved machine and no clock, to have its instructions counted.
 
 mod mixes;
 mod singles;
@@ -66,6 +67,8 @@ fn main() -> io::Result<()> {
     singles::hearings().iter().for_each(Single::time);
     heading("microseconds a step, 63 live, one checkpoint at place 0");
     singles::by_the_gap().iter().for_each(Single::time);
+    heading("microseconds for 16 messages of one sender, 114 held");
+    singles::sets().iter().for_each(Single::time);
     Ok(())
 }
 

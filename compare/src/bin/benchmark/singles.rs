@@ -1,10 +1,12 @@
-//! Single steps that are timed, each in a copy of a house that has many live intervals.
+//! Single steps that are timed, each in a copy of a house that has many live intervals, and the release of many
+//! messages at once or one by one.
 
 use compare::agreement::{on_lent, Lent};
 use compare::proved;
+use goulvizad::SET_MOST;
 use reference::lines;
-use reference::machine::{self, Command};
-use reference::table::LAST_NUMBER;
+use reference::machine::{self, Answer, Command, Messages};
+use reference::table::{DESK, LAST_MESSAGE, LAST_NUMBER};
 use std::hint::black_box;
 use std::io::{self, ErrorKind};
 use std::time::{Duration, Instant};
@@ -15,12 +17,12 @@ use crate::{medians, row, Machine};
 /// The steps in a round.
 const TIMES: usize = 3_000;
 
-/// A step, and the house that it is done in.
+/// A step, or some that belong together, and the house that it is done in.
 pub struct Single {
     name: &'static str,
     house: Lent,
-    command: Command,
-    /// The line of its answer.
+    commands: Vec<Command>,
+    /// The line of its answer, or of the last one's.
     answer: &'static str,
 }
 
@@ -35,11 +37,11 @@ pub fn hearings() -> [Single; 3] {
     .map(|(name, crashed, answer)| Single {
         name,
         house: house.clone(),
-        command: Command::Hear {
+        commands: vec![Command::Hear {
             hearer: 0,
             crashed,
             incarnation: 0,
-        },
+        }],
         answer,
     })
 }
@@ -85,7 +87,7 @@ pub fn by_the_gap() -> [Single; 7] {
     .map(|(name, gap, command, answer)| Single {
         name,
         house: led_to(&long(gap, command == crash)),
-        command,
+        commands: vec![command],
         answer,
     })
 }
@@ -108,6 +110,92 @@ fn long(gap: u32, stable: bool) -> Vec<Command> {
     steps
 }
 
+/// The messages by which the house of a [`reel`] comes to its work.
+const BROUGHT: u32 = 14;
+
+/// Sets of 16 in the house of a [`reel`], and their releases one by one.
+pub fn sets() -> [Single; 6] {
+    let [held, stable] = [false, true].map(|stable| led_to(&reel(stable)));
+    let [inside, readings] = [1, 2].map(|first| {
+        let messages: Vec<u32> = (BROUGHT + first..).step_by(2).take(SET_MOST).collect();
+        messages
+    });
+    let at_once = |messages: &[u32]| {
+        let messages = Messages::of(messages);
+        vec![Command::ReleaseSet { messages }]
+    };
+    let one_by_one = |messages: &[u32]| {
+        let releases = messages.iter().map(|&message| Command::Release { message });
+        releases.collect::<Vec<Command>>()
+    };
+    let single = |name, house: &Lent, commands, answer| Single {
+        name,
+        house: house.clone(),
+        commands,
+        answer,
+    };
+    [
+        single(
+            "a set of 16 held",
+            &held,
+            at_once(&readings),
+            "set_held 255",
+        ),
+        single(
+            "16 releases held",
+            &held,
+            one_by_one(&readings),
+            "held 46 255",
+        ),
+        single(
+            "a set of 16 released",
+            &held,
+            at_once(&inside),
+            "set_released 255",
+        ),
+        single(
+            "16 releases let out",
+            &held,
+            one_by_one(&inside),
+            "released 45 255",
+        ),
+        single(
+            "a set of 16 published",
+            &stable,
+            at_once(&readings),
+            "set_released 0",
+        ),
+        single(
+            "16 releases published",
+            &stable,
+            one_by_one(&readings),
+            "released 46 0",
+        ),
+    ]
+}
+
+/// Steps to a house of eight with degree 8, in which 0 works on from what all others have sent it, and has sent all
+/// messages that are left to 1 and to the desk in turn. The work of all is stable and told to 0, or that of none.
+fn reel(stable: bool) -> Vec<Command> {
+    let mut steps = vec![Command::Open { n: 8, degree: 8 }];
+    for c in 1..8 {
+        // A delivery that isn't logged gives the sender something to lose.
+        steps.extend(passed(2 * c - 1, c % 7 + 1, c));
+        steps.extend(passed(2 * c, c, 0));
+    }
+    if stable {
+        steps.extend((0..8).map(|controller| Command::Checkpoint { controller }));
+        steps.extend((1..8).map(|owner| Command::Tell { owner, holder: 0 }));
+    }
+    let sent = BROUGHT + 1..=LAST_MESSAGE;
+    steps.extend(sent.map(|message| Command::Send {
+        sender: 0,
+        receiver: [DESK, 1][message as usize % 2],
+        payload: message,
+    }));
+    steps
+}
+
 impl Single {
     /// Prints its times by both machines.
     ///
@@ -115,15 +203,17 @@ impl Single {
     /// If they differ, or answer something else: there is nothing to be timed then.
     pub fn time(&self) {
         let Single { name, answer, .. } = self;
-        let agreed = on_lent(&self.house, self.command);
-        let (answered, _) = agreed.unwrap_or_else(|difference| panic!("{name}: {difference:?}"));
-        assert_eq!(lines::render(&answered), *answer, "{name}");
+        let (mut house, mut last) = (self.house.clone(), Answer::Done);
+        for &command in &self.commands {
+            let agreed = on_lent(&house, command);
+            (last, house) = agreed.unwrap_or_else(|difference| panic!("{name}: {difference:?}"));
+        }
+        assert_eq!(lines::render(&last), *answer, "{name}");
         let times = medians(|| self.play(proved::step), || self.play(machine::step));
         row(name, TIMES, times);
     }
 
-    /// The time of all steps of a round with a machine, each in a copy of the house. Only the steps are
-    /// timed.
+    /// The time of a round with a machine, each time in a copy of the house. Only the steps are timed.
     fn play(&self, machine: Machine) -> Duration {
         let step = |_| {
             let Lent {
@@ -131,21 +221,26 @@ impl Single {
                 mut ledger,
             } = self.house.clone();
             let start = Instant::now();
-            black_box(machine(&mut table, &mut ledger, black_box(self.command)));
+            for &command in &self.commands {
+                black_box(machine(&mut table, &mut ledger, black_box(command)));
+            }
             start.elapsed()
         };
         (0..TIMES).map(step).sum()
     }
 }
 
-/// Does the step of this name so many times with the proved machine, each in a copy of its house.
+/// Does what has this name so many times with the proved machine, each in a copy of its house.
 pub fn repeat(name: &str, times: &str) -> io::Result<()> {
-    let mut singles = hearings().into_iter().chain(by_the_gap());
+    let mut singles = hearings().into_iter().chain(by_the_gap()).chain(sets());
     let single = singles.find(|single| single.name == name);
     let single = single.ok_or(ErrorKind::InvalidInput)?;
     let times: usize = times.parse().map_err(io::Error::other)?;
     for _ in 0..times {
-        black_box(single.house.clone().step(single.command));
+        let mut house = single.house.clone();
+        for &command in &single.commands {
+            black_box(house.step(command));
+        }
     }
     Ok(())
 }
