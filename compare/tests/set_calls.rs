@@ -2,27 +2,19 @@
 //! leaves what its releases leave one by one, and nothing else is written.
 
 mod margins;
+mod set_told;
 
 use compare::agreement::Lent;
 use compare::effort;
 use compare::inputs::{any_ledger, Tables};
 use goulvizad::raw::returned::{HELD, RELEASED, SET_HELD, SET_RELEASED, WRONG_VALUES};
 use goulvizad::raw::{call, release_set, VALUE_WORDS};
-use margins::{inner, within_margins, UNTOUCHED};
+use margins::{inner, within_margins};
 use reference::generate::{noise, set, set_table, wrong_length, Profile, Random, Walk};
 use reference::ledger;
 use reference::machine::Messages;
 use reference::table::WORDS;
-
-type Told = (u32, [u32; VALUE_WORDS]);
-
-/// A set in one call: its number and its values.
-fn told(lent: &mut Lent, messages: &[u32]) -> Told {
-    let mut values = [UNTOUCHED; VALUE_WORDS];
-    let Lent { table, ledger } = lent;
-    let number = release_set(table, ledger, messages, &mut values);
-    (number, values)
-}
+use set_told::{told, Told, UNTOUCHED};
 
 /// A single release.
 fn released(lent: &mut Lent, message: u32) -> Told {

@@ -1,21 +1,20 @@
 //! Sets of messages: of every size and with every fault, alone and together; with readings beside ledgers of
 //! little room; and that a set goes whole or not at all, by the union of its masks alone.
 
+mod set_told;
+
 use compare::agreement::{on_lent, on_lent_with, Lent};
 use compare::effort;
 use compare::inputs::Tables;
 use goulvizad::raw::returned::{REFUSED, SET_HELD, SET_RELEASED};
-use goulvizad::raw::{release_set, VALUE_WORDS};
 use reference::generate::Random;
 use reference::ledger::{self, words_of, Entry, ENTRIES};
 use reference::machine::{Answer, Command, Fault, Messages};
 use reference::refusal::{self, Refusal};
 use reference::table::{self, state, Message, Table, DESK, WORDS};
 use reference::vector::Pair;
+use set_told::{told, UNTOUCHED};
 use std::ops::RangeInclusive;
-
-/// What stands where nobody shall write; no answer has it.
-const UNTOUCHED: u32 = 0xA5A5_A5A5;
 
 /// The messages of [`house`]: one that was delivered; one of controller 1, which that one could revoke; some of
 /// controller 0 for a controller and some for the desk, which nobody could; some of controller 1 for the desk,
@@ -63,16 +62,6 @@ fn with_entries(count: u32) -> Vec<u32> {
         payload: UNTOUCHED,
     };
     words_of(&vec![entry; count as usize])
-}
-
-type Told = (u32, [u32; VALUE_WORDS]);
-
-/// One call: its number and its values.
-fn told(lent: &mut Lent, messages: &[u32]) -> Told {
-    let mut values = [UNTOUCHED; VALUE_WORDS];
-    let Lent { table, ledger } = lent;
-    let number = release_set(table, ledger, messages, &mut values);
-    (number, values)
 }
 
 /// One call that must give this, and change no word unless it lets the set out. A list that the reference takes
