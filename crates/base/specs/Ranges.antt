@@ -189,6 +189,12 @@ first-hit (suc n) f h = go (f 0) refl (first-hit n (λ i. f (suc i))) h
     go true q r h = q
     go false q r h = r (omega arith)
 
+-- and it is, where some index passes
+pub first-some : (n : ℕ) (f : ℕ → Bool) → anyb n f ≡ true → first n f < n
+first-some n f e =
+    let s = anyb-some f n e in
+    le? n (first n f) (λ l. absurd (true≢false (sym (s .passes) ∙ first-before n f (s .index) (omega (arith, s .below))))) (λ l. l)
+
 -- how many of the first n numbers pass a test
 unfoldable pub count : ℕ → (ℕ → Bool) → ℕ
 count zero test = 0

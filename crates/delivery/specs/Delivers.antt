@@ -1,29 +1,32 @@
 -- What each function of a delivery counts on and leaves, from what it has read and what its calls have left.
-use mathlib.Core.Path.{_≡_, sym, ap, _∙_}
+use mathlib.Core.Path.{_≡_, sym, ap, _∙_, subst}
 use mathlib.Core.Bool.{Bool, true, false}
 use mathlib.Core.List.{List}
 use Prim.Native.Nat.{ℕ, _+_, _<_}
+use native.Mathlib.Omega.{arith}
 use lib.ListN.{length, set}
 use Rattle.base.specs.Cases.{firstOf}
 use Rattle.table.specs.Field.{State, OfPlace, Incarnation, LiveCount, MessageState, Receiver}
 use Rattle.table.specs.Change.{put, putPart}
-use Rattle.table.specs.Layout.{messages, tableWords}
-use Rattle.table.specs.Words.{state, words, words-state, then-put}
+use Rattle.table.specs.Layout.{controllers, tableWords}
+use Rattle.table.specs.Words.{state, words, then-put}
 use Rattle.table.specs.Numbering.{numberOf, recordOf}
 use Rattle.rules.specs.Limits.{house}
-use Rattle.rules.specs.Refusal.{PLACES-USED-UP}
-use Rattle.rules.specs.Vector.{Vector, pair, placeVector, messageVector, filtered, condemned, conflict, merged}
-use Rattle.rules.specs.Form.{stateReleased, stateDelivered, stateDropped}
-use Rattle.rules.specs.Shared.{newestPlace, placeRecord, capped}
-use Rattle.rules.specs.Steps.{intervalAdded, intervalBegins, noPlace, chainFull, deliver, messageRefusals, stepDeliver}
+use Rattle.rules.specs.Vector.{Vector, pair, incarnation, pairOf, messageVector, filtered, condemned, condemning, conflict, merged}
+use Rattle.rules.specs.Form.{stateReleased, stateDelivered}
+use Rattle.rules.specs.Shared.{placeRecord, capped}
+use Rattle.rules.specs.Steps.{intervalAdded, intervalBegins, noPlace, chainFull, ours, theirs, prospect, comesOf, deliver, messageRefusals, stepDeliver}
 use Rattle.rules.specs.Step.{out, written}
 use Rattle.rules.specs.declared.Answer.{Answer}
-use Rattle.rules.specs.declared.Answer.the-variants.{Delivered, Dropped, Waits, Refused}
-use Rattle.laws.specs.Facts.{Near}
+use Rattle.rules.specs.declared.Answer.the-variants.{Delivered, Refused}
+use Rattle.rules.specs.declared.Prospect.{Prospect}
+use Rattle.rules.specs.declared.Prospect.the-variants.{WouldDrop, WouldWait, NoPlaceLeft, WouldBegin}
 use Rattle.laws.specs.Allowed.{Room}
 use Rattle.laws.specs.Chain.{Counts, counts-words, counts-added, Chain, Taken}
 use Rattle.laws.specs.Kept.{then-capped}
-use Rattle.message.specs.Ready.{message-refused, message-granted, taken-near}
+use Rattle.laws.specs.Found.{condemning-lt}
+use Rattle.laws.specs.Delivering.{prospect-cases}
+use Rattle.message.specs.Ready.{message-refused, message-granted}
 
 -- an interval more at c: its place, the live count and the state of its cause were put
 pub writes-added : (t u w y : List ℕ) (c m r i live x : ℕ) (v : Vector) → i ≡ state t (Incarnation c) → live ≡ state t (LiveCount c) → x ≡ numberOf (state t) c (live + 1) →
@@ -46,60 +49,71 @@ module _ (t u : List ℕ) (c m r : ℕ) (v : Vector) (k : Counts (state t) c) (r
       let left = then-capped _ c (counts-added (state t) c m r v k room) e we in
       λ d. out (Delivered m (ie d) (number d)) (left d)
 
--- the message in record r goes to c, and its vector v is not condemned to c
-pub record Spared (σ : State) (r c : ℕ) (v : Vector) : Type 0 where
-  pub record-lt : r < messages
-  pub chain : Chain σ c
-  pub near : Near v
-  pub receiver-is : c ≡ σ (Receiver r)
-  pub vector-is : v ≡ messageVector σ r
-  pub spared : condemned σ c v ≡ false
-  pub room : chainFull house σ c ≡ false → Room house σ c (σ (LiveCount c))
-
--- D: c is the receiver and v the message's vector; b says whether that is condemned
+-- WHAT WOULD COME OF A DELIVERY
+-- c is the receiver of the message in record r and v its vector; b says whether that is condemned
 module _ (t : List ℕ) (r c : ℕ) (v : Vector) (b : Bool) (ce : c ≡ state t (Receiver r)) (ve : v ≡ messageVector (state t) r) (be : b ≡ condemned (state t) c v) where
-  -- it is: dropped
-  pub dropped : (m : ℕ) (u : List ℕ) → b ≡ true → u ≡ words (put (state t) (MessageState r) stateDropped) → out (Dropped m) u ≡ written (deliver house (state t) m r)
+  -- it is, by this owner
+  pub condemns : b ≡ true → (owner : ℕ) → owner ≡ condemning (state t) c v → owner < controllers
+  condemns h owner e = subst (λ k. k < controllers) (sym e) (condemning-lt (state t) c v (sym be ∙ h))
+
+  pub would-drop : b ≡ true → (owner : ℕ) → owner ≡ condemning (state t) c v → WouldDrop owner (incarnation (pairOf v owner)) ≡ prospect house (state t) r
+  unfolding prospect
+  would-drop h owner e = rw (← ce, ← ve, ← be, h) (ap (λ k. WouldDrop k (incarnation (pairOf v k))) e)
+
+-- it is not, and x and y are the newest vector of c and the message's, filtered for c
+pub record Spared (t : List ℕ) (r c : ℕ) (x y : Vector) : Type 0 where
+  pub receiver-is : c ≡ state t (Receiver r)
+  pub spared : condemned (state t) c (messageVector (state t) r) ≡ false
+  pub ours-is : x ≡ ours (state t) c
+  pub theirs-is : y ≡ theirs (state t) c r
+
+pub spares : (t : List ℕ) (r c : ℕ) (v x y : Vector) (b : Bool) → c ≡ state t (Receiver r) → v ≡ messageVector (state t) r → b ≡ condemned (state t) c v → b ≡ false →
+    x ≡ ours (state t) c → y ≡ filtered (state t) c v → Spared t r c x y
+spares t r c v x y b ce ve be h xe ye =
+    record { receiver-is = ce; spared = ap (condemned (state t) c) (sym ve) ∙ sym be ∙ h; ours-is = xe; theirs-is = ye ∙ ap (filtered (state t) c) ve }
+
+-- d says whether they conflict
+module _ {t : List ℕ} {r c : ℕ} {x y : Vector} (w : Spared t r c x y) (d : Bool) (de : d ≡ conflict c x y) where
+  -- they do
+  pub would-wait : d ≡ true → WouldWait ≡ prospect house (state t) r
+  unfolding prospect
+  would-wait q = rw (← w .receiver-is, w .spared, ← w .ours-is, ← w .theirs-is, ← de, q)
+
+  -- they do not, and c has this many live intervals
+  module _ (q : d ≡ false) (live : ℕ) (le : live ≡ state t (LiveCount c)) (full : Bool) (fe : full ≡ noPlace house (state t) c live) where
+    -- no place is left
+    pub no-place-left : full ≡ true → NoPlaceLeft ≡ prospect house (state t) r
+    unfolding prospect
+    no-place-left z = rw (← w .receiver-is, w .spared, ← w .ours-is, ← w .theirs-is, ← de, q, ← le, ← fe, z)
+
+    -- or one is
+    pub would-begin : full ≡ false → WouldBegin ≡ prospect house (state t) r
+    unfolding prospect
+    would-begin z = rw (← w .receiver-is, w .spared, ← w .ours-is, ← w .theirs-is, ← de, q, ← le, ← fe, z)
+
+-- WHAT COMES OF IT
+-- the receiver of a message that D may take has its chain
+pub receiver-chain : (σ : State) (r c : ℕ) → Taken σ r → c ≡ σ (Receiver r) → Chain σ c
+receiver-chain σ r c k ce = subst (Chain σ) (sym ce) (k .receiver)
+
+-- an interval begins only where a place is left
+pub has-room : (σ : State) (r c : ℕ) → Taken σ r → c ≡ σ (Receiver r) → prospect house σ r ≡ WouldBegin → Room house σ c (σ (LiveCount c))
+has-room σ r c k ce e =
+    rw ce (k .room (prospect-cases house σ r (λ q. q ≡ WouldBegin → chainFull house σ (σ (Receiver r)) ≡ false) (λ _ z. absurd (let w : _≡_ {A = ℕ} 0 1 = cc in omega arith))
+    (λ _ z. absurd (let w : _≡_ {A = ℕ} 0 1 = cc in omega arith)) (λ _ z. absurd (let w : _≡_ {A = ℕ} 0 1 = cc in omega arith)) (λ _ _ room _. room) e))
+
+-- then it begins with the two vectors merged
+pub next-begins : (t : List ℕ) (m r c : ℕ) → c ≡ state t (Receiver r) → (v : Vector) → v ≡ messageVector (state t) r → (x y : Vector) → x ≡ ours (state t) c → y ≡ filtered (state t) c v →
+    (w : Vector) → w ≡ merged x y → (a : Answer) (u : List ℕ) → out a u ≡ written (intervalBegins (state t) c m r w) → out a u ≡ written (comesOf (state t) m r WouldBegin)
+unfolding comesOf
+next-begins t m r c ce v ve x y xe ye w we a u h = rw (← ce, ← ve, ← xe, ← ye, ← we) h
+
+-- D, of which p would come
+module _ (t : List ℕ) (m r : ℕ) (p : Prospect) (pe : p ≡ prospect house (state t) r) where
+  -- and comes
+  pub comes : (q : Prospect) → p ≡ q → (a : Answer) (u : List ℕ) → out a u ≡ written (comesOf (state t) m r q) → out a u ≡ written (deliver house (state t) m r)
   unfolding deliver
-  dropped m u h e = rw (← ce, ← ve, ← be, h, e)
-
-  -- it is not
-  pub spares : Taken (state t) r → b ≡ false → Spared (state t) r c v
-  spares k h =
-      record {
-        record-lt = k .record-lt;
-        chain = rw ce (k .receiver);
-        near = taken-near (state t) r v k ve;
-        receiver-is = ce;
-        vector-is = ve;
-        spared = sym be ∙ h;
-        room = rw ce (k .room);
-      }
-
--- the code has found that a place is left
-pub has-room : (t : List ℕ) (r c : ℕ) (v : Vector) → Spared (state t) r c v → (live : ℕ) → live ≡ state t (LiveCount c) → (full : Bool) →
-    full ≡ noPlace house (state t) c live → full ≡ false → Room house (state t) c (state t (LiveCount c))
-has-room t r c v k live n full e z = k .room (ap (noPlace house (state t) c) (sym n) ∙ sym e ∙ z)
-
--- ours and theirs are c's newest vector and the message's, filtered for c, and b says whether they conflict
-module _ (t : List ℕ) (m r c : ℕ) (v : Vector) (k : Spared (state t) r c v) (ours theirs : Vector) (oe : ours ≡ filtered (state t) c (placeVector (state t) c (newestPlace (state t) c)))
-    (te : theirs ≡ filtered (state t) c v) (b : Bool) (be : b ≡ conflict c ours theirs) where
-  -- they do: it waits
-  pub waits : b ≡ true → length t ≡ tableWords → out (Waits m) t ≡ written (deliver house (state t) m r)
-  unfolding deliver
-  waits h l = rw (← k .receiver-is, ← k .vector-is, k .spared, ← oe, ← te, ← be, h) (ap (out (Waits m)) (words-state t l))
-
-  -- they do not, and no place is free
-  pub no-place-free : b ≡ false → (live : ℕ) → live ≡ state t (LiveCount c) → (full : Bool) → full ≡ noPlace house (state t) c live → full ≡ true → length t ≡ tableWords → out (Refused PLACES-USED-UP) t ≡ written (deliver house (state t) m r)
-  unfolding deliver
-  no-place-free h live n full fe z l =
-      rw (← k .receiver-is, ← k .vector-is, k .spared, ← oe, ← te, ← be, h, ← n, ← fe, z) (ap (out (Refused PLACES-USED-UP)) (words-state t l))
-
-  -- they do not, and an interval begins with the two merged
-  pub begins : b ≡ false → (live : ℕ) → live ≡ state t (LiveCount c) → (full : Bool) → full ≡ noPlace house (state t) c live → full ≡ false → (x : Vector) → x ≡ merged ours theirs → (a : Answer) (u : List ℕ) →
-      out a u ≡ written (intervalBegins (state t) c m r x) → out a u ≡ written (deliver house (state t) m r)
-  unfolding deliver
-  begins h live n full fe z x xe a u e = rw (← k .receiver-is, ← k .vector-is, k .spared, ← oe, ← te, ← be, h, ← n, ← fe, z, ← xe) e
+  comes q e a u h = h ∙ ap (λ q. written (comesOf (state t) m r q)) (sym e ∙ pe)
 
 -- D m, whose record was found: refused, or done
 module _ (t : List ℕ) (m r n : ℕ) (q : r ≡ recordOf (state t) m) (e : n ≡ firstOf (messageRefusals (state t) r stateReleased)) where

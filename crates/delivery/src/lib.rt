@@ -6,13 +6,14 @@ ghost use Rattle.table.specs.Field.{LiveCount};
 ghost use Rattle.table.specs.Layout.{controllers, messages, tableWords};
 ghost use Rattle.table.specs.Words.{state, words};
 ghost use Rattle.rules.specs.Limits.{house};
-ghost use Rattle.rules.specs.Steps.{intervalAdded, intervalBegins, deliver, stepDeliver};
+ghost use Rattle.rules.specs.Steps.{intervalAdded, intervalBegins, prospect, comesOf, deliver, stepDeliver};
 ghost use Rattle.rules.specs.Step.{out, written};
+ghost use Rattle.rules.specs.declared.Prospect.the-variants.{WouldBegin};
 ghost use Rattle.laws.specs.Allowed.{Room};
 ghost use Rattle.laws.specs.Answering.{Lent};
 ghost use Rattle.laws.specs.Chain.{Counts, Taken};
-ghost use Rattle.delivery.specs.Delivers.{Spared};
 use rules::Answer;
+use rules::Prospect;
 use rules::refusal;
 
 // The chain of c gets an interval with cause m, in record r, and the merged vector v.
@@ -43,19 +44,37 @@ pub fn begin_interval(t: &mut [u32], c: usize, m: u32, r: usize, v: vector::Vect
     Answer::Delivered(m, i, x)
 }
 
-// D on message m in record r, for c, whose vector `sent` is not condemned.
-pub fn deliver_spared(t: &mut [u32], m: u32, r: usize, c: usize, sent: vector::Vector) -> Answer
-    requires { ⌜ (length (now t) ≡ tableWords) × Spared (state (now t)) r c sent ⌝ }
-    ensures { λ a. ⌜ out a (now (t .exit)) ≡ written (deliver house (state (now (t .entry))) m r) ⌝ }
+// What would come of delivering the message in record r.
+pub fn prospect(t: &[u32], r: usize) -> Prospect
+    requires { ⌜ (length (now t) ≡ tableWords) × Taken (state (now t)) r ⌝ }
+    ensures { λ p. ⌜ p ≡ prospect house (state (now (t .entry))) r ⌝ }
 {
+    let c = table::receiver(t, r) as usize;
+    let sent = vector::message_vector(t, r);
+    if vector::condemned_vector(t, c, sent) {
+        let owner = vector::condemning(t, c, sent);
+        return Prospect::WouldDrop(owner as u32, sent[owner][0]);
+    }
     let ours = message::newest_vector(t, c);
     let theirs = vector::filter_vector(t, c, sent);
     if vector::conflict(c, ours, theirs) {
-        return Answer::Waits(m);
+        return Prospect::WouldWait;
     }
     if interval::no_place(t, c, table::live_count(t, c)) {
-        return Answer::Refused(refusal::PLACES_USED_UP);
+        return Prospect::NoPlaceLeft;
     }
+    Prospect::WouldBegin
+}
+
+// Message m, in record r, begins an interval of its receiver. The two vectors are taken once more: a prospect can't hold
+// them.
+pub fn deliver_next(t: &mut [u32], m: u32, r: usize) -> Answer
+    requires { ⌜ (length (now t) ≡ tableWords) × Taken (state (now t)) r × (prospect house (state (now t)) r ≡ WouldBegin) ⌝ }
+    ensures { λ a. ⌜ out a (now (t .exit)) ≡ written (comesOf (state (now (t .entry))) m r WouldBegin) ⌝ }
+{
+    let c = table::receiver(t, r) as usize;
+    let ours = message::newest_vector(t, c);
+    let theirs = vector::filter_vector(t, c, vector::message_vector(t, r));
     begin_interval(t, c, m, r, vector::merge_vector(ours, theirs))
 }
 
@@ -64,13 +83,16 @@ pub fn deliver_record(t: &mut [u32], m: u32, r: usize) -> Answer
     requires { ⌜ (length (now t) ≡ tableWords) × Taken (state (now t)) r ⌝ }
     ensures { λ a. ⌜ out a (now (t .exit)) ≡ written (deliver house (state (now (t .entry))) m r) ⌝ }
 {
-    let c = table::receiver(t, r) as usize;
-    let sent = vector::message_vector(t, r);
-    if vector::condemned_vector(t, c, sent) {
-        table::set_message_state(t, r, table::DROPPED);
-        return Answer::Dropped(m);
+    let p = prospect(t, r);
+    match p {
+        Prospect::WouldDrop(owner, i) => {
+            table::set_message_state(t, r, table::DROPPED);
+            Answer::Dropped(m, owner, i)
+        }
+        Prospect::WouldWait => Answer::Waits(m),
+        Prospect::NoPlaceLeft => Answer::Refused(refusal::PLACES_USED_UP),
+        Prospect::WouldBegin => deliver_next(t, m, r),
     }
-    deliver_spared(t, m, r, c, sent)
 }
 
 // D m, on a table in form.

@@ -1,13 +1,12 @@
 -- Beyond demand 3, also for every list: a done opening forgets what stood in the table and in the ledger, each controller that a
--- release names owns what the sender doesn't know to be stable, no delivery answers `dropped` without cause, the ledger says what was
--- sent to the desk and let out, and where no crash is accepted no call answers `rolled` or `dropped`.
+-- release names owns what the sender doesn't know to be stable, the ledger says what was sent to the desk and let out, and where no crash
+-- is accepted no call answers `rolled` or `dropped`.
 use mathlib.Core.Path.{_≡_, refl, sym, _∙_, ap, subst}
 use mathlib.Core.Bool.{Bool, true, false}
 use mathlib.Core.List.{List, [], _∷_, _++_, append-nil}
 use Prim.Native.Nat.{ℕ, _≤_, _<_}
 use native.Mathlib.Omega.{arith}
 use lib.ListN.{length}
-use Rattle.base.specs.Choice.{cond-ind}
 use Rattle.table.specs.Field.{Known}
 use Rattle.table.specs.Words.{state}
 use Rattle.rules.specs.Limits.{house}
@@ -17,14 +16,14 @@ use Rattle.rules.specs.Step.{OutBoth, step, Call, asks, releaseSet, stepCall}
 use Rattle.rules.specs.declared.Answer.{Answer}
 use Rattle.rules.specs.declared.Answer.the-variants.{Done, Released, Dropped, Crashed, Rolled, SetReleased}
 use Rattle.rules.specs.declared.Command.{Command}
-use Rattle.rules.specs.declared.Command.the-variants.{Open, Release, Deliver, Crash}
-use Rattle.history.specs.History.{Interval, History, member, joined, stabilized, flagging, degreeSet, sentFrom, gapSet, delivering, logging, checkpointing, forcedAt, capping, beginning, opening, answers, fedStep, fed}
-use Rattle.history.specs.Demand.{Run, callIn, stepIn, next, justOpened, RestsOnLost, named, LetsGo, FromOpening, upTo, end, Cited}
+use Rattle.rules.specs.declared.Command.the-variants.{Open, Release, Crash}
+use Rattle.history.specs.History.{Interval, History, member, joined, stabilized, flagging, degreeSet, sentFrom, gapSet, delivering, logging, checkpointing, beginning, opening, answers, fedStep, fed}
+use Rattle.history.specs.Demand.{Run, callIn, stepIn, next, justOpened, named, LetsGo, FromOpening, upTo, end, Cited}
 use Rattle.model.specs.Model.{Model, full, releasedVec}
 use Rattle.model.specs.Tests.{Is, fails}
 use Rattle.model.specs.Invariant.{Inv, ext-refl}
 use Rattle.model.specs.Consequences.{release-covers, release-named, sending-begun, unheard-end, unheard-not-condemned, unheard-live}
-use Rattle.model.specs.Paper.{theorem-3-message}
+use Rattle.model.specs.Blaming.{capped-heard}
 use Rattle.model.specs.Recovery.{HearsOf}
 use Rattle.laws.specs.Facts.{form, controllerForm}
 use Rattle.laws.specs.Together.{named-own, own-may}
@@ -59,8 +58,8 @@ pub record Reason (r : Run) (m c : ℕ) : Type 0 where
 
 -- answers that undo or drop
 pub data Undoes : Answer → Type 0 where
-  answersRolled : (b k undone replayed : ℕ) → Undoes (Rolled b k undone replayed)
-  answersDropped : (m : ℕ) → Undoes (Dropped m)
+  answersRolled : (b k undone replayed owner i : ℕ) → Undoes (Rolled b k undone replayed owner i)
+  answersDropped : (m owner i : ℕ) → Undoes (Dropped m owner i)
 
 -- a set is no such
 set-undoes-nothing : {t g l : List ℕ} {o : OutBoth} → SetIn t g l o → Undoes (o .answer) → ⊥
@@ -75,22 +74,6 @@ pub data CrashAccepted : Answer → Type 0 where
 -- no crash is heard by any controller
 abbrev Unheard : History → Type 0
 Unheard h = (hearer crashed i : ℕ) → h .heard hearer crashed i ≡ false
-
--- a checkpoint, forced or not, marks none as heard
-pub capped-heard : (h : History) (c : ℕ) → capping h c .heard ≡ h .heard
-unfolding capping checkpointing flagging stabilized
-capped-heard h c = cond-ind (λ (q : History). q .heard ≡ h .heard) (forcedAt h c) (λ e. refl) (λ e. refl)
-
--- a delivery that drops message m has its reason
-dropping : {n : ℕ} {μ : Model} {h : History} {m j : ℕ} {μ′ : Model} → Inv n μ h → Outcome n μ (Deliver m) (Dropped m) j μ′ →
-    RestsOnLost h h (h .receiver m) (h .sending m)
-dropping {h = h} v (O.dropped m p l w z) =
-    subst (λ c. RestsOnLost h h c (h .sending m)) (sym (v .message-ok m p l .receiver-is)) (theorem-3-message v m _ p l w .0 z)
-
--- the same of an answer that is said to be so
-dropped-reason : {n : ℕ} {μ : Model} {h : History} {m : ℕ} {y : Answer} {j : ℕ} {μ′ : Model} → Inv n μ h → Outcome n μ (Deliver m) y j μ′ → y ≡ Dropped m →
-    RestsOnLost h h (h .receiver m) (h .sending m)
-dropped-reason {n} {μ} {h} {m} {y} {j} {μ′} v o e = dropping v (subst (λ z. Outcome n μ (Deliver m) z j μ′) e o)
 
 module _ {n : ℕ} {μ : Model} {h : History} (v : Inv n μ h) (u : Unheard h) where
   -- where no crash is heard, none can be heard of
@@ -107,7 +90,7 @@ module _ {n : ℕ} {μ : Model} {h : History} (v : Inv n μ h) (u : Unheard h) w
   stays-unheard (O.sent s r payload sender receiver ne) o c = u
   stays-unheard (O.released m mask l w) o c = u
   stays-unheard (O.held m mask) o c = u
-  stays-unheard (O.dropped m p l w z) o c = u
+  stays-unheard (O.dropped m owner p l w z) o c = u
   stays-unheard (O.waits m) o c = u
   stays-unheard (O.delivered m d e w) o c = λ b a i. ap (λ (f : ℕ → ℕ → ℕ → Bool). f b a i) (capped-heard _ _) ∙ u b a i
   stays-unheard (O.logged d q below pos fits) o c = u
@@ -119,17 +102,18 @@ module _ {n : ℕ} {μ : Model} {h : History} (v : Inv n μ h) (u : Unheard h) w
   stays-unheard (O.gap-set q l) o c = u
 
   -- nothing is dropped
-  none-dropped : {x : Command} {m j : ℕ} {μ′ : Model} → Outcome n μ x (Dropped m) j μ′ → ⊥
-  none-dropped (O.dropped m p l w z) = unheard-not-condemned v (μ .message m .to) w (u (μ .message m .to)) (μ .message m .vec) z
+  none-dropped : {x : Command} {m owner i j : ℕ} {μ′ : Model} → Outcome n μ x (Dropped m owner i) j μ′ → ⊥
+  none-dropped (O.dropped m owner p l w z) =
+      unheard-not-condemned v (μ .message m .to) w (u (μ .message m .to)) (μ .message m .vec) (record { owner = owner; by = z .by })
 
   -- and nothing is rolled back
-  none-rolled : {x : Command} {b k undone replayed j : ℕ} {μ′ : Model} → Outcome n μ x (Rolled b k undone replayed) j μ′ → ⊥
+  none-rolled : {x : Command} {b k undone replayed owner i j : ℕ} {μ′ : Model} → Outcome n μ x (Rolled b k undone replayed owner i) j μ′ → ⊥
   none-rolled (O.rolled b a i j undone f w) = none-heard f
 
   -- so no step undoes
   none-undone : {x : Command} {y : Answer} {j : ℕ} {μ′ : Model} → Outcome n μ x y j μ′ → Undoes y → ⊥
-  none-undone o (answersRolled b k undone replayed) = none-rolled o
-  none-undone o (answersDropped m) = none-dropped o
+  none-undone o (answersRolled b k undone replayed owner i) = none-rolled o
+  none-undone o (answersDropped m owner i) = none-dropped o
 
 module _ (t g : List ℕ) (n k : ℕ) (l : List Call) (O : FromOpening t g n k l) where
   -- a message that is there, and a controller whose pair filtering leaves of its vector: it has its reason
@@ -191,17 +175,6 @@ module _ (t g : List ℕ) (n k : ℕ) (l : List Call) (O : FromOpening t g n k l
       let s = in-list (follows n) t g k l O before x after e .holds in
       let o = follows n .lets-out s x m mask out in
       o .covers (y .owner) (release-covers (s .inv) m (o .pos) (o .sent) (ext-refl (upTo t g n k before .history)) refl y rests unstable .1)
-
-  -- "no reading be undone without cause": where a delivery drops its message, the sending interval rests on one lost in a crash
-  -- that the receiver has heard. (For hearings this is in demand 3.)
-  pub drop-causes : (before after : List Call) (m : ℕ) → l ≡ before ++ asks (Deliver m) ∷ after →
-      stepIn (upTo t g n k before) (Deliver m) .answer ≡ Dropped m →
-      let h = upTo t g n k before .history in
-      RestsOnLost h h (h .receiver m) (h .sending m)
-  unfolding stepCall
-  drop-causes before after m e answer =
-      let s = in-list (follows n) t g k l O before (asks (Deliver m)) after e .holds in
-      dropped-reason (s .inv) (outcome (Deliver m) (s .reads)) answer
 
   -- what is lost anywhere in the list is stable at no time in it
   pub lost-unstable : (before rest : List Call) → l ≡ before ++ rest → (y : Interval) (crash : ℕ) →

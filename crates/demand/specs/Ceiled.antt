@@ -31,7 +31,7 @@ outcome-close (degree-set c k p q) o v on within close = close-same close c p _ 
 outcome-close (sent s r payload p q ne) o v on within close = close-controllers refl close
 outcome-close (released m mask l w) o v on within close = close-controllers refl close
 outcome-close (held m mask) o v on within close = close
-outcome-close (dropped m p l w z) o v on within close = close
+outcome-close (dropped m owner p l w z) o v on within close = close
 outcome-close (waits m) o v on within close = close
 outcome-close {n} (delivered m c e d) o v on within close =
     close-capped close c (subst (λ b. b < n) (sym e) (d .to-below)) _ (carries-begun c _ _) on within
@@ -59,7 +59,7 @@ module _ {n : ℕ} {μ : Model} {h : History} (v : Inv n μ h) where
       record { gap-same = cap-gap _ c; above = λ M close. close .above-lt c l _ (v .controller-ok c l .shape .stable-le) }
 
   -- and a rollback up to the number that it kept
-  roll-replays : {b a i echoed kept undone replayed j : ℕ} {μ′ : Model} → Outcome n μ (Hear b a i) (Rolled echoed kept undone replayed) j μ′ →
+  roll-replays : {b a i echoed kept undone replayed owner ended j : ℕ} {μ′ : Model} → Outcome n μ (Hear b a i) (Rolled echoed kept undone replayed owner ended) j μ′ →
       Replays n μ μ′ replayed
   unfolding putController noteController
   roll-replays (rolled b a i x undone f w) =
@@ -108,6 +108,6 @@ module _ (t g : List ℕ) (n k : ℕ) where
     ceiling =
         record {
           crashes = λ before after c echoed i kept lost replayed e answer. below-largest before after _ _ e answer replayed (λ μ μ′ h j v o. crash-replays v o);
-          rollbacks = λ before after hearer crashed i echoed kept undone replayed e answer.
+          rollbacks = λ before after hearer crashed i echoed kept undone replayed owner ended e answer.
               below-largest before after _ _ e answer replayed (λ μ μ′ h j v o. roll-replays v o);
         }

@@ -33,6 +33,7 @@ use Rattle.history.specs.Citations.{noCitations, ledgerOf}
 use Rattle.history.specs.Demand.{Run, callIn, stepIn, next, runs, justOpened, Accepted, answersHeard, answersRolled, RestsOnLost, named, LetsGo, alone, together, FromOpening, upTo, end, Cited, Demand3}
 use Rattle.history.specs.Citable.{Citable, AllCitable}
 use Rattle.history.specs.Ceiling.{largestGap, NeverOff, Ceiling}
+use Rattle.history.specs.Blame.{OrphanBy, Blame}
 use Rattle.history.specs.Uses.{orphan-is-not-live}
 use Rattle.history.specs.Examples.{ListingLine}
 use Rattle.image.specs.Tables.{opening-done}
@@ -46,6 +47,7 @@ use Rattle.demand.specs.Demanded.{demand-3}
 use Rattle.demand.specs.Beyond.{ledger-cites}
 use Rattle.demand.specs.Citable.{all-citable}
 use Rattle.demand.specs.Ceiled.{ceiling}
+use Rattle.demand.specs.Blamed.{blame}
 use Rattle.demand.specs.InForm.{sound-after}
 use Rattle.keeping.specs.StepSame.{same-written, step-words}
 use Rattle.testers.specs.Refused.{keeps-refused}
@@ -99,7 +101,7 @@ module _ (t g : List ℕ) (long : length t ≡ tableWords) (wide : length g ≡ 
   pub undone-rests-on-lost : RestsOnLost (end t g 3 1 list) (sampleAt t g 11 .history) 2 (interval 2 0 2)
   unfolding runs
   undone-rests-on-lost =
-      said .hearings (take 10 list) (drop 11 list) 2 1 0 refl (subst Accepted (sym (sample-answer t g long wide 10 refl)) (answersRolled 2 1 1 0))
+      said .hearings (take 10 list) (drop 11 list) 2 1 0 refl (subst Accepted (sym (sample-answer t g long wide 10 refl)) (answersRolled 2 1 1 0 1 0))
       (interval 2 0 2) (live-before t g long wide) .0 (gone-after t g long wide)
 
   pub kept-rests-on-none : RestsOnLost (end t g 3 1 list) (sampleAt t g 10 .history) 0 (interval 0 0 1) → ⊥
@@ -113,6 +115,14 @@ module _ (t g : List ℕ) (long : length t ≡ tableWords) (wide : length g ≡ 
   undone-is-not-live =
       orphan-is-not-live t g 3 1 list said 2 (omega arith) (interval 2 0 2)
       (record { on = interval 1 0 2; crash = 0; rests = undone-rests t g long wide; lost = lost-later t g long wide; heard = heard-later t g long wide })
+
+  -- W6: "For a rollback it is the crash just heard": that interval is an orphan by the crash which the answer names, that of controller 1's
+  -- incarnation 0.
+  pub undone-by-the-crash-named : OrphanBy (sampleAt t g 11 .history) 2 (interval 2 0 2) 1 0
+  unfolding runs
+  undone-by-the-crash-named =
+      let (_, _, rolled) = blame t g 3 1 list (sample-from-opening t g long wide) .rolled (take 10 list) (drop 11 list) 2 1 0 2 1 1 0 1 0 refl (sample-answer t g long wide 10 refl) in
+      rolled .each-orphan (interval 2 0 2) (live-before t g long wide) (gone-after t g long wide)
 
   -- a release of the list that answered so let its message out
   out-at : (j m echoed mask : ℕ) → stepIn (upTo t g 3 1 (take j list)) (Release m) .answer ≡ Released echoed mask →
@@ -269,7 +279,7 @@ module _ (t g : List ℕ) (long : length t ≡ tableWords) (wide : length g ≡ 
   gaps-at-the-crash = (gap-largest t g long wide crashes, gap-newest t g long wide crashes)
 
   pub rollback-replays-one : 1 < largestGap (justOpened t g 3 1) (first 12 rolling)
-  rollback-replays-one = ceiling-of rolls .rollbacks (first 12 rolling) [] 2 1 0 2 2 1 1 refl (gap-answer t g long wide rolls)
+  rollback-replays-one = ceiling-of rolls .rollbacks (first 12 rolling) [] 2 1 0 2 2 1 1 1 0 refl (gap-answer t g long wide rolls)
 
   pub gaps-at-the-rollback : Gaps rolling 12
   gaps-at-the-rollback = (gap-largest t g long wide rolls, gap-newest t g long wide rolls)
@@ -281,7 +291,13 @@ no-letter-sets-the-gap = no-letter
 pub no-line-sets-the-gap : (line : List ℕ) (q : ℕ) → parse line ≢ Asks (SetGap q)
 no-line-sets-the-gap = no-line
 
--- 13. A house in form stays in form: from an opening that is done, no call of any list is refused for its buffers, with 1 (the table's
+-- 13. W6: "Operators read `dropped` and `rolled` and ask which controller to look at." For every list from an opening the answer names a crash that
+-- the controller had heard, or hears, and in which work was lost that the message or the undone interval rests on; of a dropped delivery no controller
+-- with a lower number has lost such work.
+pub answers-name-the-crash : (t g : List ℕ) (n k : ℕ) (l : List Call) → FromOpening t g n k l → Blame t g n k l
+answers-name-the-crash = blame
+
+-- 14. A house in form stays in form: from an opening that is done, no call of any list is refused for its buffers, with 1 (the table's
 -- length), 2 (its form) or 14 (the ledger). Whatever calls stand before it, openings too, are done or refused as they may be.
 pub never-refused-for-its-buffers : (t g : List ℕ) (n k : ℕ) → step t g (Open n k) .answer ≡ Done → (before : List Call) (x : Call) (number : ℕ) →
     callIn (upTo t g n k before) x .answer ≡ Refused number → (number ≢ LENGTH) × (number ≢ FORM) × (number ≢ LEDGER)

@@ -55,7 +55,7 @@ outcome-keeps (degree-set c k p q) o v = keeps-degree v c k p
 outcome-keeps (sent s r payload sender receiver ne) o v = keeps-send v s r sender
 outcome-keeps (released m mask l w) o v = keeps-release v m (l .pos) (l .sent)
 outcome-keeps (held m mask) o v = keeps-refl v
-outcome-keeps (dropped m p l w z) o v = keeps-refl v
+outcome-keeps (dropped m owner p l w z) o v = keeps-refl v
 outcome-keeps (waits m) o v = keeps-refl v
 outcome-keeps {n} {μ} {h = h} (delivered m c e d) o v =
     subst (λ b. Keeps n μ h (capModel (putController μ b (beginController b (μ .controller b) (μ .message m .vec))) b) (delivering h m)) (sym e) (keeps-deliver v m d)

@@ -4,6 +4,7 @@ pub mod Beyond
 pub mod Citable
 pub mod Agreement
 pub mod Ceiled
+pub mod Blamed
 pub mod InForm
 pub mod Claims
 pub mod SetClaims

@@ -13,19 +13,19 @@ use Rattle.rules.specs.Limits.{house, lastEntry}
 use Rattle.rules.specs.Refusal.{STATE, PLACES-USED-UP, LEDGER-USED-UP}
 use Rattle.rules.specs.Step.{Call, asks}
 use Rattle.rules.specs.declared.Answer.{Answer}
-use Rattle.rules.specs.declared.Answer.the-variants.{Done, Released, Held, Delivered, Dropped, Crashed, Rolled, Refused}
+use Rattle.rules.specs.declared.Answer.the-variants.{Done, Released, Held, Delivered, Crashed, Rolled, Refused}
 use Rattle.rules.specs.declared.Command.{Command}
 use Rattle.rules.specs.declared.Command.the-variants.{Release, Deliver, Checkpoint, Tell, Crash, Hear}
 use Rattle.history.specs.History.{Interval, History, newest}
 use Rattle.history.specs.Demand.{Run, callIn, stepIn, named, upTo, end}
-use Rattle.history.specs.Progress.{Orphan, SendingLive, HeldIn, LetOutIn, NotLetOut, HasHeard}
+use Rattle.history.specs.Progress.{Orphan, Drops, SendingLive, HeldIn, LetOutIn, NotLetOut, HasHeard}
 
 -- A step with this answer secures controller c, so that all its live intervals are stable then: C c that is done; or a crash of c, or a hearing
 -- at which c undoes intervals.
 pub data Secures (c : ℕ) : Command → Answer → Type 0 where
   checkpoints : Secures c (Checkpoint c) Done
   crashes : (echoed i kept lost replayed : ℕ) → Secures c (Crash c) (Crashed echoed i kept lost replayed)
-  undoes : (crashed i echoed kept undone replayed : ℕ) → Secures c (Hear c crashed i) (Rolled echoed kept undone replayed)
+  undoes : (crashed i echoed kept undone replayed owner ended : ℕ) → Secures c (Hear c crashed i) (Rolled echoed kept undone replayed owner ended)
 
 -- an answer to a release that shows a mask
 pub data Names : ℕ → Answer → Type 0 where
@@ -130,7 +130,7 @@ module _ (t g : List ℕ) (n k : ℕ) (l : List Call) where
 
   -- it answers `dropped` exactly where its sending interval rests on a lost one, and otherwise doesn't wait
   pub record Arrives (m : ℕ) : Type 0 where
-    pub dropped : (stepIn last (Deliver m) .answer ≡ Dropped m) ↔ Orphan h (h .sending m)
+    pub dropped : Drops m (stepIn last (Deliver m) .answer) ↔ Orphan h (h .sending m)
     pub otherwise : (Orphan h (h .sending m) → ⊥) → Begins m
 
   -- "Eventually": from where one stands, after some more checkpoints and tellings, each of which is done.

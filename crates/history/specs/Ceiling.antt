@@ -27,8 +27,8 @@ module _ (t g : List ℕ) (n k : ℕ) (l : List Call) where
     pub crashes : (before after : List Call) (c echoed i kept lost replayed : ℕ) → l ≡ before ++ asks (Crash c) ∷ after →
         stepIn (upTo t g n k before) (Crash c) .answer ≡ Crashed echoed i kept lost replayed →
         replayed < largestGap (justOpened t g n k) before
-    pub rollbacks : (before after : List Call) (hearer crashed i echoed kept undone replayed : ℕ) → l ≡ before ++ asks (Hear hearer crashed i) ∷ after →
-        stepIn (upTo t g n k before) (Hear hearer crashed i) .answer ≡ Rolled echoed kept undone replayed →
+    pub rollbacks : (before after : List Call) (hearer crashed i echoed kept undone replayed owner ended : ℕ) → l ≡ before ++ asks (Hear hearer crashed i) ∷ after →
+        stepIn (upTo t g n k before) (Hear hearer crashed i) .answer ≡ Rolled echoed kept undone replayed owner ended →
         replayed < largestGap (justOpened t g n k) before
 
 -- Q after each first part of a list is at most the largest

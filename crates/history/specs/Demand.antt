@@ -50,7 +50,7 @@ justOpened t g n k =
 -- a hearing is accepted
 pub data Accepted : Answer → Type 0 where
   answersHeard : (hearer : ℕ) → Accepted (Heard hearer)
-  answersRolled : (hearer k undone replayed : ℕ) → Accepted (Rolled hearer k undone replayed)
+  answersRolled : (hearer k undone replayed owner i : ℕ) → Accepted (Rolled hearer k undone replayed owner i)
 
 -- y rests on one lost, as the history `whole` tells, in a crash that the hearer has heard by the history `then`; a crash is told
 -- by its controller and the incarnation that it ended

@@ -38,7 +38,7 @@ listing =
     -- 11 and 12: controller 1 crashes, and message 3 is delivered
     ∷ line (Crash 1) (Crashed 1 0 1 1 0) ∷ line (Deliver 3) (Delivered 3 0 2)
     -- 13 to 15: controllers 2 and 0 hear of the crash
-    ∷ line (Hear 2 1 0) (Rolled 2 1 1 0) ∷ line (Hear 0 1 0) (Rolled 0 1 1 0) ∷ line (Deliver 3) (Refused 7)
+    ∷ line (Hear 2 1 0) (Rolled 2 1 1 0 1 0) ∷ line (Hear 0 1 0) (Rolled 0 1 1 0 1 0) ∷ line (Deliver 3) (Refused 7)
     ∷ []
 
 -- the history after all lines of a list
@@ -210,9 +210,9 @@ pub record Deliveries : Type 0 where
   pub heard-chain : then (crash ∷ line (Hear 2 1 0) (Heard 2) ∷ []) .chain 2 ≡ interval 2 0 1 ∷ []
   -- `rolled`: what rests on the lost interval leaves, and the kept interval becomes stable
   pub rolled-before : then (crash ∷ []) .stable (interval 0 0 2) ≡ false
-  pub rolled-kept : then (crash ∷ line (Hear 0 1 0) (Rolled 0 2 2 1) ∷ []) .stable (interval 0 0 2) ≡ true
-  pub rolled-gone : then (crash ∷ line (Hear 0 1 0) (Rolled 0 2 2 1) ∷ []) .stable (interval 0 0 3) ≡ false
-  pub rolled-chain : then (crash ∷ line (Hear 0 1 0) (Rolled 0 2 2 1) ∷ []) .chain 0 ≡ interval 0 1 3 ∷ interval 0 0 2 ∷ interval 0 0 1 ∷ []
+  pub rolled-kept : then (crash ∷ line (Hear 0 1 0) (Rolled 0 2 2 1 1 0) ∷ []) .stable (interval 0 0 2) ≡ true
+  pub rolled-gone : then (crash ∷ line (Hear 0 1 0) (Rolled 0 2 2 1 1 0) ∷ []) .stable (interval 0 0 3) ≡ false
+  pub rolled-chain : then (crash ∷ line (Hear 0 1 0) (Rolled 0 2 2 1 1 0) ∷ []) .chain 0 ≡ interval 0 1 3 ∷ interval 0 0 2 ∷ interval 0 0 1 ∷ []
   -- an opening that is done begins anew
   pub opened-anew : then (line (Open 3 0) Done ∷ []) .chain 0 ≡ interval 0 0 1 ∷ []
 
@@ -277,7 +277,7 @@ pub record Gapped : Type 0 where
   pub started : afterGap 10 (line (SetGap 1) Done ∷ line (Crash 0) (Crashed 0 0 3 1 0) ∷ []) .flagged (interval 0 1 4) ≡ true
   pub not-started : afterGap 10 (line (Crash 0) (Crashed 0 0 3 1 0) ∷ []) .flagged (interval 0 1 4) ≡ false
   -- so is the start after a rollback: number 3 is 2 above the first, since what was flagged above it is undone
-  pub restarted : afterGap 10 (line (Crash 1) (Crashed 1 0 1 0 0) ∷ line (Hear 0 1 0) (Rolled 0 2 2 1) ∷ []) .flagged (interval 0 1 3) ≡ true
+  pub restarted : afterGap 10 (line (Crash 1) (Crashed 1 0 1 0 0) ∷ line (Hear 0 1 0) (Rolled 0 2 2 1 1 0) ∷ []) .flagged (interval 0 1 3) ≡ true
   -- 0 is off
   pub off : afterGap 4 (line (SetGap 0) Done ∷ line (Send 1 0 0) (Sent 2) ∷ line (Deliver 2) (Delivered 2 0 3) ∷ []) .flagged (interval 0 0 3) ≡ false
   -- an opening that is done begins anew

@@ -329,7 +329,7 @@ fedStep (Crash c) a h = cond (answers a (Crashed 0 0 0 0 0)) (crashing h c) h
 fedStep (Hear b crashed i) a h =
     let informed = hearing h b crashed i in
     cond (answers a (Heard 0)) informed
-    (cond (answers a (Rolled 0 0 0 0)) (rollingBack informed b (valueAt a 1)) h)
+    (cond (answers a (Rolled 0 0 0 0 0 0)) (rollingBack informed b (valueAt a 1)) h)
 fedStep (SetGap q) a h = cond (answers a Done) (gapSet h q) h
 
 -- asking for a step feeds that step; a set changes nothing, as its releases would

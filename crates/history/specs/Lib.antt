@@ -3,6 +3,7 @@ pub mod Citations
 pub mod Demand
 pub mod Examples
 pub mod Ceiling
+pub mod Blame
 pub mod Progress
 pub mod Citable
 pub mod Asked

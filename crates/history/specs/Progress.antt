@@ -16,7 +16,7 @@ use Rattle.rules.specs.Refusal.{MESSAGE, STATE, INCARNATIONS-USED-UP}
 use Rattle.rules.specs.Sets.{nth}
 use Rattle.rules.specs.Step.{Call, asks, releaseSet}
 use Rattle.rules.specs.declared.Answer.{Answer}
-use Rattle.rules.specs.declared.Answer.the-variants.{Sent, Held, Crashed, Refused, SetHeld}
+use Rattle.rules.specs.declared.Answer.the-variants.{Sent, Held, Dropped, Crashed, Refused, SetHeld}
 use Rattle.rules.specs.declared.Command.the-variants.{Send, Release, Deliver, Crash, Hear}
 use Rattle.history.specs.History.{Interval, History, member}
 use Rattle.history.specs.Demand.{Run, callIn, stepIn, Accepted, LetsGo, upTo, end}
@@ -33,6 +33,10 @@ pub record Orphan (h : History) (y : Interval) : Type 0 where
 pub data HoldsBack : Call → Answer → ℕ → ℕ → Type 0 where
   held-alone : (m echoed mask : ℕ) → HoldsBack (asks (Release m)) (Held echoed mask) m mask
   held-together : (messages : List ℕ) (i mask : ℕ) → i < length messages → HoldsBack (releaseSet messages) (SetHeld mask) (nth messages i) mask
+
+-- the answer `dropped`, whatever crash it names (Blame.antt says which)
+pub data Drops (m : ℕ) : Answer → Type 0 where
+  drops : (crashed i : ℕ) → Drops m (Dropped m crashed i)
 
 -- lists from the opening of t, beside the ledger g, with n and k
 module _ (t g : List ℕ) (n k : ℕ) (l : List Call) where

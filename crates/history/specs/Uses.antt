@@ -1,5 +1,5 @@
 -- Uses of the public statements, so that an edit that empties one of these clauses, or narrows one of these hypotheses, is refused here: what
--- demand 3 gives, what is a message that was sent or that can be delivered, when a crash can be heard, when a controller was asked, and what
+-- demand 3 gives, which crash it was, what is a message that was sent or that can be delivered, when a crash can be heard, when a controller was asked, and what
 -- "eventually" gives. (Clauses that are not here are used in `demand` and `paper`, where the statements are proved, and in `instances`, where
 -- lists are shown of which they speak.)
 use mathlib.Core.Path.{_≡_, refl, sym, _∙_, ap, subst}
@@ -15,10 +15,11 @@ use Rattle.table.specs.Field.{desk}
 use Rattle.rules.specs.Limits.{lastIncarnation}
 use Rattle.rules.specs.Sets.{nth}
 use Rattle.rules.specs.Step.{Call, asks, releaseSet, stepCall}
-use Rattle.rules.specs.declared.Answer.the-variants.{Done, Sent, Released, Waits, Rolled, SetReleased, SetHeld}
+use Rattle.rules.specs.declared.Answer.the-variants.{Done, Sent, Released, Dropped, Waits, Rolled, SetReleased, SetHeld}
 use Rattle.rules.specs.declared.Command.the-variants.{Send, Release, Deliver, Checkpoint, Tell, Hear}
-use Rattle.history.specs.History.{Interval, History, member}
+use Rattle.history.specs.History.{Interval, History, member, newest}
 use Rattle.history.specs.Demand.{callIn, stepIn, next, Accepted, RestsOnLost, named, LetsGo, alone, together, upTo, end, Demand3}
+use Rattle.history.specs.Blame.{OrphanBy, Blame}
 use Rattle.history.specs.Progress.{SentIn, HoldsBack, held-together, HeldIn, LetOutIn, Deliverable, CrashIn, HasHeard, CanHear}
 use Rattle.history.specs.Asked.{Secures, checkpoints, undoes, SecuredIn, Spreads, by-checkpoint, by-telling, Asked, AllAsked, Learned, its-own, was-told, has-heard, Cleared, held-without, was-asked, each-learned, AllCleared, Eventually}
 
@@ -85,6 +86,44 @@ module _ (t g : List ℕ) (n k : ℕ) (l : List Call) where
         said .degrees before after (releaseSet messages) (nth messages i) mask e
         (subst (λ a. LetsGo (releaseSet messages) a (nth messages i) mask) (sym answer) (together messages i mask below))
 
+  -- WHICH CRASH IT WAS
+  module _ (said : Blame t g n k l) where
+    -- a delivery that is dropped
+    module _ (before after : List Call) (m echoed crashed i : ℕ) (e : l ≡ before ++ asks (Deliver m) ∷ after)
+        (answer : stepIn (upTo t g n k before) (Deliver m) .answer ≡ Dropped echoed crashed i) where
+      abbrev seen : History
+      seen = upTo t g n k before .history
+
+      -- has its cause, in a crash of the controller that it names,
+      pub dropped-with-cause : (seen .heard (seen .receiver m) crashed i ≡ true)
+          × (z : Interval) × (z .owner ≡ crashed) × (seen .rests (seen .sending m) z ≡ true) × (seen .lost z i ≡ true)
+      dropped-with-cause = let o = said .dropped before after m echoed crashed i e answer .is-orphan in (o .heard, o .on, o .owner-is, o .rests, o .lost)
+
+      -- and neither in one of a lower controller,
+      pub lower-loses-nothing : (other j : ℕ) → other < crashed → OrphanBy seen (seen .receiver m) (seen .sending m) other j → ⊥
+      lower-loses-nothing other j below o =
+          ⊎-elim (λ u. omega arith) (λ u. omega (arith, u .0)) (said .dropped before after m echoed crashed i e answer .lowest other j o)
+
+      -- nor in another of that one
+      pub only-crash : (j : ℕ) → OrphanBy seen (seen .receiver m) (seen .sending m) crashed j → j ≡ i
+      only-crash j o = ⊎-elim (λ u. absurd (omega arith)) (λ u. u .1) (said .dropped before after m echoed crashed i e answer .lowest crashed j o)
+
+    -- a hearing that rolls back
+    module _ (before after : List Call) (hearer crashed i echoed kept undone replayed owner ended : ℕ) (e : l ≡ before ++ asks (Hear hearer crashed i) ∷ after)
+        (answer : stepIn (upTo t g n k before) (Hear hearer crashed i) .answer ≡ Rolled echoed kept undone replayed owner ended) where
+      -- names the crash that it was told of,
+      pub rolled-names : (owner ≡ crashed) × (ended ≡ i)
+      rolled-names = let (o, i, _) = said .rolled before after hearer crashed i echoed kept undone replayed owner ended e answer in (o, i)
+
+      -- and something is undone, for that crash, and not for one that was heard before
+      pub rolled-with-cause : let r = upTo t g n k before in
+          let then = next (asks (Hear hearer crashed i)) r .history in
+          member (newest (r .history .chain hearer)) (r .history .chain hearer) ≡ true →
+          OrphanBy then hearer (newest (r .history .chain hearer)) crashed i × (r .history .heard hearer crashed i ≡ false)
+      rolled-with-cause live =
+          let (_, _, f) = said .rolled before after hearer crashed i echoed kept undone replayed owner ended e answer in
+          (f .each-orphan _ live (f .newest-undone), f .unheard)
+
   -- MESSAGES AND CRASHES
   -- a set that is held holds each of its messages back,
   pub set-holds-back : (before after : List Call) (messages : List ℕ) (mask : ℕ) → l ≡ before ++ releaseSet messages ∷ after →
@@ -148,16 +187,16 @@ module _ (t g : List ℕ) (n k : ℕ) (l : List Call) where
       }
 
   -- a hearing at which c undoes serves as a checkpoint
-  pub rollback-secures : (m c crashed i echoed kept undone replayed : ℕ) (before after : List Call) → l ≡ before ++ asks (Hear c crashed i) ∷ after →
-      upTo t g n k before .history .begun (h .sending m) ≡ true → stepIn (upTo t g n k before) (Hear c crashed i) .answer ≡ Rolled echoed kept undone replayed →
+  pub rollback-secures : (m c crashed i echoed kept undone replayed owner ended : ℕ) (before after : List Call) → l ≡ before ++ asks (Hear c crashed i) ∷ after →
+      upTo t g n k before .history .begun (h .sending m) ≡ true → stepIn (upTo t g n k before) (Hear c crashed i) .answer ≡ Rolled echoed kept undone replayed owner ended →
       SecuredIn t g n k l m c
-  rollback-secures m c crashed i echoed kept undone replayed before after e began rolled =
+  rollback-secures m c crashed i echoed kept undone replayed owner ended before after e began rolled =
       record {
         before = before;
         step = Hear c crashed i;
         after = after;
         is-in = e;
-        secures = subst (Secures c (Hear c crashed i)) (sym rolled) (undoes crashed i echoed kept undone replayed);
+        secures = subst (Secures c (Hear c crashed i)) (sym rolled) (undoes crashed i echoed kept undone replayed owner ended);
         began = began;
       }
 

@@ -10,7 +10,7 @@ use Rattle.rules.specs.declared.Answer.the-variants.{Done, Sent, Released, Held
 use Rattle.rules.specs.declared.Command.{Command}
 use Rattle.rules.specs.declared.Command.the-variants.{Open, SetDegree, Send, Release, Deliver, Log, Checkpoint, Tell, Crash, Hear, SetGap}
 use Rattle.model.specs.Model.{Model, putController, degreeController, logController, loggedController, checkpointController, aboveLatest, capModel, gapModel, tellController, endController, beginController, anewController, sendMessage, releaseMessage, openModel}
-use Rattle.model.specs.Vectors.{Condemned}
+use Rattle.model.specs.Vectors.{LowestOwner}
 use Rattle.model.specs.Steps.{Delivers, LetsOut}
 use Rattle.model.specs.Recovery.{HearsOf, notedController, NoneCondemned, LowestCondemned}
 
@@ -29,8 +29,8 @@ module _ (n : ℕ) (μ : Model) where
         Outcome (Send sender receiver payload) (Sent (μ .sent + 1)) n (sendMessage μ (μ .sent + 1) sender receiver)
     released : (m mask : ℕ) → LetsOut μ m mask → ((c : ℕ) → c < n → μ .controller c .incarnation < incarnations) → Outcome (Release m) (Released m mask) n (releaseMessage μ m)
     held : (m mask : ℕ) → Outcome (Release m) (Held m mask) n μ
-    dropped : (m : ℕ) → 1 ≤ m → m ≤ μ .sent → μ .message m .to < n → Condemned n (μ .controller (μ .message m .to)) (μ .message m .vec) →
-        Outcome (Deliver m) (Dropped m) n μ
+    dropped : (m owner : ℕ) → 1 ≤ m → m ≤ μ .sent → μ .message m .to < n → LowestOwner n (μ .controller (μ .message m .to)) (μ .message m .vec) owner →
+        Outcome (Deliver m) (Dropped m owner (μ .message m .vec owner .incarnation)) n μ
     waits : (m : ℕ) → Outcome (Deliver m) (Waits m) n μ
     delivered : (m c : ℕ) → c ≡ μ .message m .to → Delivers n μ m →
         Outcome (Deliver m) (Delivered m (μ .controller c .incarnation) (μ .controller c .live + 1)) n
@@ -46,7 +46,7 @@ module _ (n : ℕ) (μ : Model) where
     heard : (hearer owner i : ℕ) → HearsOf n μ hearer owner i → NoneCondemned n (notedController μ hearer owner i) →
         Outcome (Hear hearer owner i) (Heard hearer) n (putController μ hearer (notedController μ hearer owner i))
     rolled : (hearer owner i x undone : ℕ) → HearsOf n μ hearer owner i → LowestCondemned n (notedController μ hearer owner i) x →
-        Outcome (Hear hearer owner i) (Rolled hearer x undone (aboveLatest (μ .controller hearer) x)) n
+        Outcome (Hear hearer owner i) (Rolled hearer x undone (aboveLatest (μ .controller hearer) x) owner i) n
         (capModel (putController μ hearer (anewController hearer (loggedController hearer (notedController μ hearer owner i) x) x)) hearer)
     gap-set : (q : ℕ) → q ≤ lastGap → Outcome (SetGap q) Done n (gapModel μ q)
 
@@ -58,7 +58,7 @@ kept-size (degree-set c k p q) o = refl
 kept-size (sent sender receiver payload p q ne) o = refl
 kept-size (released m mask h w) o = refl
 kept-size (held m mask) o = refl
-kept-size (dropped m p l w z) o = refl
+kept-size (dropped m owner p l w z) o = refl
 kept-size (waits m) o = refl
 kept-size (delivered m c e h) o = refl
 kept-size (logged c q h i l) o = refl

@@ -16,19 +16,19 @@ use Rattle.table.specs.Layout.{controllers, incarnations}
 use Rattle.table.specs.Numbering.{numberOf, used, recordOf, number-from, number-next, number-add, place-of-count, present-pos, present-given, posted-size}
 use Rattle.rules.specs.Limits.{Limits, lastIncarnation}
 use Rattle.rules.specs.Refusal.{FORM, PLACES-USED-UP, INCARNATIONS-USED-UP, LEDGER-USED-UP}
-use Rattle.rules.specs.Vector.{Vector, pair as pairList, placeVector, messageVector, filtered, condemned, mask, conflict, merged}
+use Rattle.rules.specs.Vector.{Vector, pair as pairList, placeVector, messageVector, filtered, condemned, condemning, mask, conflict, merged}
 use Rattle.rules.specs.Form.{inForm, stateReleased, stateDropped, statePublished, forDesk}
 use Rattle.rules.specs.Shared.{newestPlace, placeRecord, logged, loggedTo, checkpointed, forced, capped, causesIn, causes, placed, entered, restarted, dropHeld, startAnew, removed}
-use Rattle.rules.specs.Steps.{After, after, refusing, AfterBoth, refusingBoth, openHouse, openRefusals, stepOpen, degreeRefusals, stepDegree, sent, noReceiver, sendRefusals, stepSend, messageRefusals, ownVector, letOut, mayGo, releaseRefusals, stepRelease, intervalAdded, intervalBegins, chainFull, deliver, stepDeliver, logRefusals, stepLog, checkpointRefusals, stepCheckpoint, told, tellRefusals, stepTell, crashed, crashRefusals, stepCrash, noted, lowestCondemned, rolledBack, hear, hearRefusals, stepHear, gapRefusals, stepGap}
+use Rattle.rules.specs.Steps.{After, after, refusing, AfterBoth, refusingBoth, openHouse, openRefusals, stepOpen, degreeRefusals, stepDegree, sent, noReceiver, sendRefusals, stepSend, messageRefusals, ownVector, letOut, mayGo, releaseRefusals, stepRelease, intervalAdded, intervalBegins, ours, theirs as theirsFor, stepDeliver, logRefusals, stepLog, checkpointRefusals, stepCheckpoint, told, tellRefusals, stepTell, crashed, crashRefusals, stepCrash, noted, lowestCondemned, rolledBack, hear, hearRefusals, stepHear, gapRefusals, stepGap}
 use Rattle.rules.specs.Step.{perform, looksAtForm, stepOn}
 use Rattle.rules.specs.declared.Answer.{Answer}
-use Rattle.rules.specs.declared.Answer.the-variants.{Sent, Delivered, Crashed, Rolled}
+use Rattle.rules.specs.declared.Answer.the-variants.{Sent, Delivered, Dropped, Crashed, Rolled}
 use Rattle.rules.specs.declared.Command.{Command}
 use Rattle.rules.specs.declared.Command.the-variants.{Open, SetDegree, Send, Release, Deliver, Log, Checkpoint, Tell, Crash, Hear, SetGap}
 use Rattle.history.specs.History.{Interval}
 use Rattle.history.specs.Demand.{named}
 use Rattle.model.specs.Model as M
-use Rattle.model.specs.Vectors.{Condemned}
+use Rattle.model.specs.Vectors.{Condemned, LowestOwner}
 use Rattle.model.specs.Beginning.{Compatible}
 use Rattle.model.specs.Steps.{Delivers, LetsOut}
 use Rattle.model.specs.Recovery.{HearsOf, notedController, NoneCondemned, LowestCondemned}
@@ -38,6 +38,7 @@ use Rattle.laws.specs.Numbers.{numbers-added, numbers-noted}
 use Rattle.laws.specs.Found.{lowest}
 use Rattle.laws.specs.Records.{length-filtered}
 use Rattle.laws.specs.Releasing.{release-cases}
+use Rattle.laws.specs.Delivering.{deliver-cases}
 use Rattle.image.specs.Image.{vecOf, image, putController-own}
 use Rattle.image.specs.Changes.{image-state}
 use Rattle.image.specs.Controllers.{image-degree, image-gap, image-logged, image-told, image-noted}
@@ -156,12 +157,15 @@ module _ {L : Limits} (σ : State) (f : Form L σ) (m : ℕ) (l : recordOf σ m 
   theirs-is : vecOf theirs ≡ image σ .message m .vec
   theirs-is = sym (message-vec-is σ m l)
 
-  -- message m is condemned to its receiver
-  drop-found : receiver < σ Size → condemned σ receiver theirs ≡ true → Condemned (σ Size) (image σ .controller (image σ .message m .to)) (image σ .message m .vec)
+  -- message m is condemned to its receiver, by this owner
+  abbrev blamed : ℕ
+  blamed = condemning σ receiver theirs
+
+  drop-found : receiver < σ Size → condemned σ receiver theirs ≡ true → LowestOwner (σ Size) (image σ .controller (image σ .message m .to)) (image σ .message m .vec) blamed
   drop-found h e =
       let g = messageForm f r l in
-      subst (λ c. Condemned (σ Size) (image σ .controller c) (image σ .message m .vec)) receiver-is
-      (subst (Condemned (σ Size) (image σ .controller receiver)) theirs-is
+      subst (λ c. LowestOwner (σ Size) (image σ .controller c) (image σ .message m .vec) blamed) receiver-is
+      (subst (λ w. LowestOwner (σ Size) (image σ .controller receiver) w blamed) theirs-is
       (condemned-for σ receiver (omega arith) theirs (g .vector) (length-message σ r) e))
 
   -- message m can be delivered
@@ -254,7 +258,7 @@ module _ (L : Limits) (σ : State) (f : Form L σ) where
 
   -- D
   stepped-deliver : Fresh σ → (m : ℕ) → Stepped σ (Deliver m) (stepDeliver L σ m)
-  unfolding stepDeliver deliver intervalBegins intervalAdded put same putPart
+  unfolding stepDeliver intervalBegins intervalAdded put same putPart
   stepped-deliver z m =
       stepped-refusing σ (Deliver m) (messageRefusals σ (recordOf σ m) stateReleased) _
       (λ e. let r = recordOf σ m in
@@ -263,19 +267,16 @@ module _ (L : Limits) (σ : State) (f : Form L σ) where
       let c = σ (Receiver r) in
       let h : c < σ Size = released-lt f r l (a .state-is) in
       let cl : c < controllers = omega arith in
-      let ours = filtered σ c (placeVector σ c (newestPlace σ c)) in
-      let theirs = filtered σ c (messageVector σ r) in
       let x = number-next σ c (σ (LiveCount c)) ∙ ap (λ n. n + 1) (sym (live-is σ c cl)) in
-      cond-ind (Stepped σ (Deliver m)) (condemned σ c (messageVector σ r))
-      (λ q. outcome-as _ _ (Deliver m) refl refl (image-state σ r stateDropped)
-      (O.dropped m (present-pos σ m l) (was-sent σ f m l) (subst (λ c. c < σ Size) (receiver-is σ f m l) h) (drop-found σ f m l h q)))
-      (λ q. cond-ind (Stepped σ (Deliver m)) (conflict c ours theirs) (λ q′. O.waits m)
-      (λ q′. cond-ind (Stepped σ (Deliver m)) (chainFull L σ c) (λ _. O.refused (Deliver m) PLACES-USED-UP)
-      (λ w. let v = merged ours theirs in
+      deliver-cases L σ r m (Stepped σ (Deliver m))
+      (λ q. outcome-as _ _ (Deliver m) (ap (λ (w : M.Vec). Dropped m (blamed σ f m l) (w (blamed σ f m l) .incarnation)) (theirs-is σ f m l)) refl (image-state σ r stateDropped)
+      (O.dropped m (blamed σ f m l) (present-pos σ m l) (was-sent σ f m l) (subst (λ c. c < σ Size) (receiver-is σ f m l) h) (drop-found σ f m l h q)))
+      (λ _. O.waits m) (λ _. O.refused (Deliver m) PLACES-USED-UP)
+      (λ q q′ _. let v = merged (ours σ c) (theirsFor σ c r) in
       outcome-as _ _ (Deliver m) (ap₂ (Delivered m) (sym (incarnation-is σ c cl)) x) (capped-size (intervalAdded σ c m r v) c)
       (image-capped (intervalAdded σ c m r v) c (counted-added σ f c h m r v) (fresh-kept σ _ (numbers-added σ c m r v) z)
       ∙ ap (λ (μ : M.Model). M.capModel μ c) (image-begun σ f c m h l))
-      (O.delivered m c (receiver-is σ f m l) (deliver-found σ f m l h q q′))))))
+      (O.delivered m c (receiver-is σ f m l) (deliver-found σ f m l h q q′))))
 
   -- L
   stepped-log : (c q : ℕ) → Stepped σ (Log c q) (stepLog σ c q)
@@ -363,7 +364,7 @@ module _ (L : Limits) (σ : State) (f : Form L σ) where
       cond-ind (Stepped σ (Hear hearer owner i)) (lastIncarnation ≤? σ (Incarnation hearer)) (λ w. O.refused (Hear hearer owner i) INCARNATIONS-USED-UP)
       (λ w. let w′ = leb-false lastIncarnation (σ (Incarnation hearer)) w in
       outcome-as _ _ (Hear hearer owner i)
-      (ap (Rolled hearer (numberOf σ hearer k) (σ (LiveCount hearer) - k)) (replayed-is σ hearer (counted σ f hearer (d .hearer-lt)) z k (omega arith)))
+      (ap (λ again. Rolled hearer (numberOf σ hearer k) (σ (LiveCount hearer) - k) again owner i) (replayed-is σ hearer (counted σ f hearer (d .hearer-lt)) z k (omega arith)))
       (capped-size _ hearer ∙ loggedTo-size τ hearer k)
       (image-heard-rolled σ hearer owner i k (starting σ f hearer (d .hearer-lt) k (low .pos) (omega arith) w′) z (omega arith) (omega arith))
       (O.rolled hearer owner i (numberOf σ hearer k) _ h

@@ -10,15 +10,15 @@ use Rattle.table.specs.Change.{put}
 use Rattle.table.specs.Layout.{controllers}
 use Rattle.table.specs.Numbering.{numberOf, lastLive, placeOf, used, recordOf, number-from, place-lt, place-next, place-ge, Numbered}
 use Rattle.rules.specs.Limits.{Limits}
-use Rattle.rules.specs.Vector.{Vector, incarnation, number, pairOf, placeVector, messageVector, filtered, condemned, conflict}
+use Rattle.rules.specs.Vector.{Vector, incarnation, number, pairOf, placeVector, messageVector, filtered, condemnedPair, condemned, condemning, conflict}
 use Rattle.rules.specs.Steps.{noted, lowestCondemned}
 use Rattle.history.specs.History.{Interval}
 use Rattle.model.specs.Model.{Pair, Controller, releasedVec, filtered as filteredFor}
-use Rattle.model.specs.Vectors.{Condemned, full-pos}
+use Rattle.model.specs.Vectors.{full-pos, CondemnedBy, Condemned, LowestOwner}
 use Rattle.model.specs.Beginning.{Compatible}
 use Rattle.model.specs.Recovery.{NoneCondemned, LowestCondemned}
 use Rattle.laws.specs.Facts.{VectorForm, Form, controllerForm, placeForm, messageForm, number-is}
-use Rattle.laws.specs.Found.{condemned-some, condemned-none, conflict-none, Lowest, lowest}
+use Rattle.laws.specs.Found.{Lowest, lowest, clear-pair, condemned-pair, condemned-none, condemning-lt, condemning-hit, condemning-before, conflict-none}
 use Rattle.image.specs.Image.{vecOf, image, controller-is}
 use Rattle.image.specs.Vectors.{past, length-place, length-message, filter-vec}
 use Rattle.image.specs.Reads.{live-is, ends-is, vec-is, from-is, message-vec-is}
@@ -28,28 +28,40 @@ module _ (σ : State) (holder : ℕ) (hl : holder < controllers) (v : Vector) {L
   end-of : (owner : ℕ) → owner < controllers → image σ .controller holder .ends owner (vecOf v owner .incarnation) ≡ σ (End holder owner (incarnation (pairOf v owner)))
   end-of owner l = ends-is σ holder hl owner (incarnation (pairOf v owner)) l (form .near owner l)
 
-  -- a vector that is not condemned
-  pub spared : condemned σ holder v ≡ false → Condemned n (image σ .controller holder) (vecOf v) → ⊥
-  spared e z =
+  -- a pair that is not condemned
+  spared-pair : (owner : ℕ) → (owner < controllers → condemnedPair σ holder owner (pairOf v owner) ≡ false) →
+      CondemnedBy n (image σ .controller holder) (vecOf v) owner → ⊥
+  spared-pair owner e z =
       let p = z .ended in
       let u = z .above in
-      le? (z .owner + 1) controllers
-      (λ l. let q = end-of (z .owner) (omega arith) in
-      let h = condemned-none σ holder v e (z .owner) (omega arith) (λ y. omega arith) in omega arith)
-      (λ l. let y : vecOf v (z .owner) .number ≡ 0 = ap (λ (p : Pair). p .number) (past v (z .owner) (omega arith)) in omega arith)
+      le? (owner + 1) controllers
+      (λ l. let q = end-of owner (omega arith) in
+      let h = clear-pair σ holder owner (pairOf v owner) (e (omega arith)) (λ y. omega arith) in omega arith)
+      (λ l. let y : vecOf v owner .number ≡ 0 = ap (λ (p : Pair). p .number) (past v owner (omega arith)) in omega arith)
 
-  -- a condemned vector
-  pub condemned-for : condemned σ holder v ≡ true → Condemned n (image σ .controller holder) (vecOf v)
+  -- a vector that is not condemned
+  pub spared : condemned σ holder v ≡ false → Condemned n (image σ .controller holder) (vecOf v) → ⊥
+  spared e z = spared-pair (z .owner) (condemned-none σ holder v e (z .owner)) (z .by)
+
+  -- a condemned vector, with the lowest owner whose pair is
+  pub condemned-for : condemned σ holder v ≡ true → LowestOwner n (image σ .controller holder) (vecOf v) (condemning σ holder v)
   condemned-for e =
-      let s = condemned-some σ holder v e in
-      let q = end-of (s .owner) (s .owner-lt) in
+      let owner = condemning σ holder v in
+      let l = condemning-lt σ holder v e in
+      let s = condemned-pair σ holder owner (pairOf v owner) (condemning-hit σ holder v e) in
+      let q = end-of owner l in
       let ended = s .ended in
       record {
-        owner = s .owner;
-        below = le? n (s .owner) (λ l. absurd (s .full (form .beyond-number (s .owner) (s .owner-lt) l))) (λ l. l);
-        ended = omega arith;
-        above = omega (arith, s .above);
+        by = record {
+          below = le? n owner (λ beyond. absurd (s .full (form .beyond-number owner l beyond))) (λ below. below);
+          ended = omega arith;
+          above = omega (arith, s .above);
+        };
+        none-lower = λ a lower. spared-pair a (λ _. condemning-before σ holder v a lower);
       }
+
+  pub condemned-model : condemned σ holder v ≡ true → Condemned n (image σ .controller holder) (vecOf v)
+  condemned-model e = record { owner = condemning σ holder v; by = condemned-for e .by }
 
   -- "Filtering a vector for b"
   pub filtered-is : vecOf (filtered σ holder v) ≡ filteredFor (image σ .controller holder) (vecOf v)
@@ -109,7 +121,7 @@ module _ {L : Limits} (σ : State) (c : ℕ) (s : Sound L σ c) (x : ℕ) (x1 : 
   -- number x is condemned
   condemned-number : condemned σ c (placeVector σ c p) ≡ true → Condemned (σ Size) (image σ .controller c) (image σ .controller c .vec x)
   condemned-number e =
-      subst (Condemned (σ Size) (image σ .controller c)) place-is (condemned-for σ c (s .named) (placeVector σ c p) form (length-place σ c p) e)
+      subst (Condemned (σ Size) (image σ .controller c)) place-is (condemned-model σ c (s .named) (placeVector σ c p) form (length-place σ c p) e)
 
   -- the vector of number x, filtered for its controller
   pub filtered-number : vecOf (filtered σ c (placeVector σ c p)) ≡ filteredFor (image σ .controller c) (image σ .controller c .vec x)

@@ -21,7 +21,7 @@ use Rattle.rules.specs.declared.Answer.the-variants.{Done, Released, Held, Deli
 use Rattle.rules.specs.declared.Command.the-variants.{Release, Deliver, Checkpoint, Crash, Hear}
 use Rattle.history.specs.History.{Interval, interval, History, newest, member}
 use Rattle.history.specs.Demand.{stepIn, Accepted, answersRolled, RestsOnLost, named, upTo, end}
-use Rattle.history.specs.Progress.{Orphan, SentIn, SendingLive, LetOutIn, NotLetOut, HasHeard, Deliverable}
+use Rattle.history.specs.Progress.{Orphan, Drops, drops, SentIn, SendingLive, LetOutIn, NotLetOut, HasHeard, Deliverable}
 use Rattle.history.specs.Asked.{checkpoints, crashes, Asked, AllAsked, Cleared, out-without, was-asked, AllCleared, GoesOut, NotHeld, Begins, Arrives, Eventually, Fate, was-let-out, is-discarded, still-held}
 use Rattle.history.specs.Examples.{line}
 use Rattle.model.specs.Model.{Model}
@@ -100,7 +100,7 @@ module _ (t g : List ℕ) (long : length t ≡ tableWords) (wide : length g ≡ 
   one-rollback-a-failure =
       let again = sample ++ line (Hear 2 1 0) (Heard 2) ∷ [] in
       T.one-rollback-a-failure t g 3 1 (callsOf again) (from-opening t g long wide (callsOf again) refl) (callsOf (take 10 sample)) (callsOf (drop 11 sample)) [] 2 1 0 refl
-      (subst Accepted (sym (answer-in t g sample sampled (take 10 sample) (line (Hear 2 1 0) (Rolled 2 1 1 0)) (drop 11 sample) refl)) (answersRolled 2 1 1 0))
+      (subst Accepted (sym (answer-in t g sample sampled (take 10 sample) (line (Hear 2 1 0) (Rolled 2 1 1 0 1 0)) (drop 11 sample) refl)) (answersRolled 2 1 1 0 1 0))
 
   -- A MESSAGE RESTS ON LOST WORK, AND ITS SENDER HAS NOT HEARD
   unheard-shown : Shown t g unheard
@@ -251,13 +251,16 @@ module _ (t g : List ℕ) (long : length t ≡ tableWords) (wide : length g ≡ 
   -- Message 2 can be delivered, and its delivery drops it, with that cause.
   lost-deliverable : Deliverable t g 3 1 q 2
   unfolding report
-  lost-deliverable = deliverable-by t g loss loss-shown 12 2 (Dropped 2) refl refl
+  lost-deliverable = deliverable-by t g loss loss-shown 12 2 (Dropped 2 1 0) refl refl
 
-  pub theorem-A-1-messages : (stepIn (upTo t g 3 1 q) (Deliver 2) .answer ≡ Dropped 2) × RestsOnLost qh qh 2 (qh .sending 2)
+  lost-drops : Drops 2 (stepIn (upTo t g 3 1 q) (Deliver 2) .answer)
+  lost-drops = subst (Drops 2) (sym (answer-in t g loss loss-shown (take 12 loss) (line (Deliver 2) (Dropped 2 1 0)) [] refl)) (drops 1 0)
+
+  pub theorem-A-1-messages : Drops 2 (stepIn (upTo t g 3 1 q) (Deliver 2) .answer) × RestsOnLost qh qh 2 (qh .sending 2)
   theorem-A-1-messages =
       let said = T.theorem-A-1-messages t g 3 1 q (loss-12 .from) 2 lost-deliverable in (
         said .1 (subst (λ b. RestsOnLost qh qh b (qh .sending 2)) (sym lost-receiver) lost-rests),
-        subst (λ b. RestsOnLost qh qh b (qh .sending 2)) lost-receiver (said .0 (answer-in t g loss loss-shown (take 12 loss) (line (Deliver 2) (Dropped 2)) [] refl)),
+        subst (λ b. RestsOnLost qh qh b (qh .sending 2)) lost-receiver (said .0 lost-drops),
       )
 
   -- The same by the mask with which it was let out: controller 1, which it names, crashed after that and told controller 2.
@@ -273,10 +276,10 @@ module _ (t g : List ℕ) (long : length t ≡ tableWords) (wide : length g ≡ 
       (subst (AllAsked t g 3 1 q 2 2) (sym lost-receiver) lost-asked)
       (subst (HasHeard t g 3 1 q) (sym lost-receiver) (has-heard t g (take 12 loss) loss-12 2 (loss-told .all-heard)))
 
-  pub theorem-A-2-delivery-dropped : (stepIn (upTo t g 3 1 q) (Deliver 2) .answer ≡ Dropped 2) × Orphan qh (qh .sending 2)
+  pub theorem-A-2-delivery-dropped : Drops 2 (stepIn (upTo t g 3 1 q) (Deliver 2) .answer) × Orphan qh (qh .sending 2)
   theorem-A-2-delivery-dropped = (
     lost-arrives .dropped .1 (record { on = lost-rests .on; crash = lost-rests .crash; rests = lost-rests .rests; lost = lost-rests .lost }),
-    lost-arrives .dropped .0 (answer-in t g loss loss-shown (take 12 loss) (line (Deliver 2) (Dropped 2)) [] refl),
+    lost-arrives .dropped .0 lost-drops,
   )
 
   -- From wherever one stands checkpoints and tellings would do.

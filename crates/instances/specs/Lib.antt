@@ -4,3 +4,4 @@ pub mod Told
 pub mod GoingOut
 pub mod Arriving
 pub mod Reels
+pub mod Blamed

@@ -81,7 +81,7 @@ loss =
     -- 8 to 10: controller 1 crashes, and (1;0,2) is lost; it tells controller 2, which hears of the crash
     ∷ line (Crash 1) (Crashed 1 0 1 1 0) ∷ line (Tell 1 2) Done ∷ line (Hear 2 1 0) (Heard 2)
     -- 11 and 12: message 3 is delivered, and message 2 is dropped
-    ∷ line (Deliver 3) (Delivered 3 0 2) ∷ line (Deliver 2) (Dropped 2)
+    ∷ line (Deliver 3) (Delivered 3 0 2) ∷ line (Deliver 2) (Dropped 2 1 0)
     ∷ []
 
 -- Message 2, from an interval of one incarnation, waits at a controller that rests on one of the next; then it is delivered.

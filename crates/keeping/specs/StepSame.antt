@@ -17,19 +17,20 @@ use Rattle.table.specs.Words.{state, words, length-words, word-at, words-same, 
 use Rattle.table.specs.Numbering.{numberOf, used, recordOf, number-same, used-agree, last-agree, record-agree}
 use Rattle.rules.specs.Limits.{house, lastIncarnation}
 use Rattle.rules.specs.Refusal.{FORM, LEDGER, CONTROLLER, MESSAGE, DEGREE, SAME-CONTROLLER, STATE, LOG-COUNT, NO-SUCH-CRASH, ALREADY-HEARD, MESSAGES-USED-UP, PLACES-USED-UP, INCARNATIONS-USED-UP}
-use Rattle.rules.specs.Vector.{Vector, placeVector, messageVector, filtered, condemned, mask, conflict, merged}
+use Rattle.rules.specs.Vector.{Vector, incarnation, pairOf, placeVector, messageVector, filtered, condemned, condemning, mask, conflict, merged}
 use Rattle.rules.specs.Form.{inForm, stateHeld, stateReleased, stateDropped}
 use Rattle.rules.specs.Ledger.{countOf}
 use Rattle.rules.specs.Shared.{newestPlace, capped}
-use Rattle.rules.specs.Steps.{After, refuse, refusing, AfterBoth, beside, refusingBoth, stepOpen, stepDegree, stepSend, messageRefusals, mayGo, release, stepRelease, intervalAdded, intervalBegins, deliver, stepDeliver, stepLog, stepCheckpoint, stepTell, crashed, stepCrash, noted, lowestCondemned, hear, hearRefusals, stepHear, stepGap}
+use Rattle.rules.specs.Steps.{After, refuse, refusing, AfterBoth, beside, refusingBoth, stepOpen, stepDegree, stepSend, messageRefusals, mayGo, release, stepRelease, intervalAdded, intervalBegins, prospect, comesOf, deliver, stepDeliver, stepLog, stepCheckpoint, stepTell, crashed, stepCrash, noted, lowestCondemned, hear, hearRefusals, stepHear, stepGap}
 use Rattle.rules.specs.Step.{perform, stepOn, outBoth, writtenBoth, lent, step}
-use Rattle.rules.specs.declared.Answer.the-variants.{Sent, Released, Held, Delivered, Crashed, Rolled, Refused}
+use Rattle.rules.specs.declared.Answer.the-variants.{Sent, Released, Held, Delivered, Dropped, Crashed, Rolled, Refused}
+use Rattle.rules.specs.declared.Prospect.{Prospect}
 use Rattle.rules.specs.declared.Command.{Command}
 use Rattle.rules.specs.declared.Command.the-variants.{Open, SetDegree, Send, Release, Deliver, Log, Checkpoint, Tell, Crash, Hear, SetGap}
 use Rattle.laws.specs.Facts.{Form, form, below-8, controllerForm, released-lt, message-near, house-fits}
 use Rattle.laws.specs.Allowed.{sendAllowed, messageAllowed, releaseAllowed, logAllowed, checkpointAllowed, tellAllowed, crashAllowed, hearAllowed, Room, room-left}
 use Rattle.laws.specs.Numbers.{room-live}
-use Rattle.laws.specs.Agree.{incarnation-same, live-same, stable-same, recordsFull-same, noPlace-same, state-same, placeVector-same, messageVector-same, filtered-same, condemned-same, replayed-same, lowestCondemned-same, agree-logged, agree-checkpointed, agree-capped, agree-sent, agree-begun, agree-noted, agree-told}
+use Rattle.laws.specs.Agree.{incarnation-same, live-same, stable-same, recordsFull-same, noPlace-same, state-same, placeVector-same, messageVector-same, filtered-same, condemned-same, condemning-same, replayed-same, lowestCondemned-same, agree-logged, agree-checkpointed, agree-capped, agree-sent, agree-begun, agree-noted, agree-told}
 use Rattle.laws.specs.Chain.{releasable-there, chain-counts, counts-added, Chain, chain-form, chain-noted, Starts, starts-put}
 use Rattle.laws.specs.Found.{lowest}
 use Rattle.laws.specs.Releasing.{degree-agree, desk-agree, own-agree, agree-gone, ledgerOut-agree}
@@ -182,19 +183,24 @@ module _ (σ τ : State) (e : Agree σ τ) where
 
     -- D
     same-delivered : (m r : ℕ) → r < used σ → σ (MessageState r) ≡ stateReleased → Same (deliver house σ m r) (deliver house τ m r)
-    unfolding deliver
+    unfolding deliver prospect comesOf
     same-delivered m r h st =
         let rl : r < messages = omega (arith, f .used-le) in
         let c = σ (Receiver r) in
         let w = chain-form σ c f (released-lt f r h st) in
-        let ours = newest-filtered c w in
-        let theirs = message-filtered c r (w .named) rl in
-        rw (← e (Receiver r) (rl, omega arith))
-        (same-cond Same (condemned-same σ τ e c _ (w .named) (message-near f r rl) ∙ ap (condemned τ c) (messageVector-same σ τ e r rl))
-        (λ _. record { answer-is = refl; left-is = agree-put σ τ (MessageState r) stateDropped e })
-        (λ _. same-cond Same (ap₂ (conflict c) ours theirs) (λ _. record { answer-is = refl; left-is = e })
-        (λ _. same-cond Same (noPlace-same σ τ e house c (w .named) (live-same σ τ e c (w .named))) (λ _. same-refuse refl)
-        (λ full. same-begins c m r w (room-left house σ f house-fits c _ full) (ap₂ merged ours theirs)))))
+        let near = message-near f r rl in
+        let sent = messageVector-same σ τ e r rl in
+        let blamed = condemning-same σ τ e c _ (w .named) near ∙ ap (condemning τ c) sent in
+        let ours-same = newest-filtered c w in
+        let theirs-same = message-filtered c r (w .named) rl in
+        let receiver-is = e (Receiver r) (rl, omega arith) in
+        let comes : Prospect → Prospect → Type 0 = λ p q. Same (comesOf σ m r p) (comesOf τ m r q) in
+        rw (← receiver-is)
+        (same-cond comes (condemned-same σ τ e c _ (w .named) near ∙ ap (condemned τ c) sent)
+        (λ _. record { answer-is = λ d. Dropped m (blamed d) (incarnation (pairOf (sent d) (blamed d))); left-is = agree-put σ τ (MessageState r) stateDropped e })
+        (λ _. same-cond comes (ap₂ (conflict c) ours-same theirs-same) (λ _. record { answer-is = refl; left-is = e })
+        (λ _. same-cond comes (noPlace-same σ τ e house c (w .named) (live-same σ τ e c (w .named))) (λ _. same-refuse refl)
+        (λ full. rw (← receiver-is) (same-begins c m r w (room-left house σ f house-fits c _ full) (ap₂ merged ours-same theirs-same))))))
 
     same-deliver : (m : ℕ) → Same (stepDeliver house σ m) (stepDeliver house τ m)
     unfolding stepDeliver
@@ -294,7 +300,7 @@ module _ (σ τ : State) (e : Agree σ τ) where
         (λ j. let s = hear-starts hearer owner i w (leb-false (σ (LiveCount hearer)) k l) (leb-false lastIncarnation (σ (Incarnation hearer)) j) in
         let x = number-same σ τ e hearer k (w .named) in
         let again = replayed-same σ τ e hearer k (w .named) (omega (arith, s .room .place-lt)) in
-        record { answer-is = λ d. Rolled hearer (x d) (live d - k) (again d); left-is = agree-rolled _ _ hearer k s heard }))))
+        record { answer-is = λ d. Rolled hearer (x d) (live d - k) (again d) owner i; left-is = agree-rolled _ _ hearer k s heard }))))
 
     -- the gap
     same-gap : (q : ℕ) → Same (stepGap σ q) (stepGap τ q)

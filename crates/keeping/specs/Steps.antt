@@ -14,10 +14,9 @@ use Rattle.table.specs.Change.{put, putPart, clearPlaces, putStates}
 use Rattle.table.specs.Layout.{incarnations}
 use Rattle.table.specs.Numbering.{recordOf, present-given, number-from, numbers-put}
 use Rattle.rules.specs.Limits.{Limits, lastIncarnation}
-use Rattle.rules.specs.Vector.{condemned, conflict}
 use Rattle.rules.specs.Form.{stateHeld, stateReleased, stateDropped, statePublished, forDesk, stateOk, inForm}
 use Rattle.rules.specs.Shared.{newestPlace, loggedTo, causesIn, causes, placed, entered, restarted, startAnew, removed}
-use Rattle.rules.specs.Steps.{After, AfterBoth, refusing, refusingBoth, openRefusals, stepOpen, stepDegree, sent, stepSend, ownVector, stepRelease, intervalAdded, intervalBegins, chainFull, deliver, stepDeliver, stepLog, stepCheckpoint, toldRow, told, stepTell, crashed, stepCrash, noted, lowestCondemned, rolledBack, hear, stepHear, stepGap}
+use Rattle.rules.specs.Steps.{After, AfterBoth, refusing, refusingBoth, openRefusals, stepOpen, stepDegree, sent, stepSend, ownVector, stepRelease, intervalAdded, intervalBegins, stepDeliver, stepLog, stepCheckpoint, toldRow, told, stepTell, crashed, stepCrash, noted, lowestCondemned, rolledBack, hear, stepHear, stepGap}
 use Rattle.rules.specs.Step.{perform, looksAtForm, stepOn}
 use Rattle.rules.specs.declared.Answer.the-variants.{Done}
 use Rattle.rules.specs.declared.Command.{Command}
@@ -27,6 +26,7 @@ use Rattle.laws.specs.Allowed.{openAllowed, degreeAllowed, sendAllowed, message
 use Rattle.laws.specs.Numbers.{numbers-loggedTo, numbers-causes, numbers-noted, room-live, room-same}
 use Rattle.laws.specs.Chain.{logged-word}
 use Rattle.laws.specs.Releasing.{release-cases}
+use Rattle.laws.specs.Delivering.{deliver-cases}
 use Rattle.laws.specs.Records.{length-merged}
 use Rattle.laws.specs.Answering.{not-done}
 use Rattle.keeping.specs.InRange.{held-ok, dropped-ok, filtered-ok, merged-ok}
@@ -96,20 +96,19 @@ module _ (L : Limits) where
 
       -- D
       kept-stepDeliver : (m : ℕ) → In (stepDeliver L σ m .left)
-      unfolding stepDeliver deliver intervalBegins intervalAdded put same putPart
+      unfolding stepDeliver intervalBegins intervalAdded put same putPart
       kept-stepDeliver m =
           kept-refusing _ σ _ e (λ q. let r = recordOf σ m in
           let a = messageAllowed σ r stateReleased q in
           let c = σ (Receiver r) in
           let h = released-lt facts r (a .record-used) (a .state-is) in
           let k = controllerForm facts c h in
-          let ours = filtered-ok L (σ Size) σ c _ (placeForm facts c (newestPlace σ c) h (omega (arith, k .live-pos)) .vector-ok) in
-          let theirs = filtered-ok L (σ Size) σ c _ (messageForm facts r (a .record-used) .vector-ok) in
-          cond-ind (λ (o : After). In (o .left)) (condemned σ c _) (λ _. kept-state L σ r stateDropped (a .record-used) (dropped-ok (forDesk σ r)) e)
-          (λ _. cond-ind (λ (o : After). In (o .left)) (conflict c _ _) (λ _. e)
-          (λ _. cond-ind (λ (o : After). In (o .left)) (chainFull L σ c) (λ _. e)
-          (λ u. kept-capped L fit _ c h
-          (kept-added L σ e c m r _ h (room-left L σ facts fit c (σ (LiveCount c)) u) (present-given σ m (a .record-used)) (a .record-used) refl (length-merged _ _) (merged-ok L (σ Size) _ _ ours theirs))))))
+          let ours-ok = filtered-ok L (σ Size) σ c _ (placeForm facts c (newestPlace σ c) h (omega (arith, k .live-pos)) .vector-ok) in
+          let theirs-ok = filtered-ok L (σ Size) σ c _ (messageForm facts r (a .record-used) .vector-ok) in
+          deliver-cases L σ r m (λ o. In (o .left)) (λ _. kept-state L σ r stateDropped (a .record-used) (dropped-ok (forDesk σ r)) e) (λ _. e) (λ _. e)
+          (λ _ _ u. kept-capped L fit _ c h
+          (kept-added L σ e c m r _ h (room-left L σ facts fit c (σ (LiveCount c)) u) (present-given σ m (a .record-used)) (a .record-used) refl (length-merged _ _)
+          (merged-ok L (σ Size) _ _ ours-ok theirs-ok))))
 
       -- L
       kept-stepLog : (c q : ℕ) → In (stepLog σ c q .left)

@@ -15,10 +15,9 @@ use Rattle.table.specs.Words.{state}
 use Rattle.table.specs.Numbering.{recordOf}
 use Rattle.rules.specs.Limits.{Limits, house, lastIncarnation}
 use Rattle.rules.specs.Refusal.{LENGTH, FORM, LEDGER}
-use Rattle.rules.specs.Vector.{condemned, conflict}
 use Rattle.rules.specs.Form.{inForm}
 use Rattle.rules.specs.Ledger.{ledgerWords, ledgerOk}
-use Rattle.rules.specs.Steps.{After, refuse, AfterBoth, beside, refusing, refusingBoth, openRefusals, stepOpen, stepDegree, stepSend, releaseRefusals, stepRelease, intervalBegins, chainFull, deliver, stepDeliver, stepLog, stepCheckpoint, stepTell, stepCrash, hear, stepHear, stepGap}
+use Rattle.rules.specs.Steps.{After, refuse, AfterBoth, beside, refusing, refusingBoth, openRefusals, stepOpen, stepDegree, stepSend, releaseRefusals, stepRelease, intervalBegins, stepDeliver, stepLog, stepCheckpoint, stepTell, stepCrash, hear, stepHear, stepGap}
 use Rattle.rules.specs.Step.{perform, looksAtForm, stepOn, OutBoth, lent, step}
 use Rattle.rules.specs.declared.Answer.{Answer}
 use Rattle.rules.specs.declared.Answer.the-variants.{Done, Sent, Released, Held, Delivered, Dropped, Waits, Crashed, Heard, Rolled, Refused, SetReleased, SetHeld}
@@ -27,6 +26,7 @@ use Rattle.rules.specs.declared.Command.the-variants.{Open, SetDegree, Send, Re
 use Rattle.laws.specs.Answering.{not-done, Lent}
 use Rattle.laws.specs.Ledger.{ledgerForm, blank-sound, appended-sound}
 use Rattle.laws.specs.Releasing.{release-cases}
+use Rattle.laws.specs.Delivering.{deliver-cases}
 use Rattle.keeping.specs.Kept.{kept, opened}
 
 -- THE LEDGER
@@ -71,11 +71,11 @@ refusedByBuffer (Sent m) = false
 refusedByBuffer (Released m mask) = false
 refusedByBuffer (Held m mask) = false
 refusedByBuffer (Delivered m i x) = false
-refusedByBuffer (Dropped m) = false
+refusedByBuffer (Dropped m owner i) = false
 refusedByBuffer (Waits m) = false
 refusedByBuffer (Crashed c i k lost replayed) = false
 refusedByBuffer (Heard b) = false
-refusedByBuffer (Rolled b k undone replayed) = false
+refusedByBuffer (Rolled b k undone replayed owner i) = false
 refusedByBuffer (Refused number) = byBuffer number
 refusedByBuffer (SetReleased mask) = false
 refusedByBuffer (SetHeld mask) = false
@@ -121,12 +121,8 @@ module _ (L : Limits) (σ : State) (g : List ℕ) where
       (release-cases L σ g m (recordOf σ m) (λ o. Let (o .answer)) (λ _. refl) (λ _ _. refl) (λ _ _. refl) (λ _ _ _. refl))
 
   let-deliver : (m : ℕ) → Let (stepDeliver L σ m .answer)
-  unfolding stepDeliver deliver intervalBegins
-  let-deliver m =
-      let-refusing _ _ refl
-      (cond-ind (λ (o : After). Let (o .answer)) (condemned σ _ _) (λ _. refl)
-      (λ _. cond-ind (λ (o : After). Let (o .answer)) (conflict _ _ _) (λ _. refl)
-      (λ _. cond-ind (λ (o : After). Let (o .answer)) (chainFull L σ _) (λ _. refl) (λ _. refl))))
+  unfolding stepDeliver intervalBegins
+  let-deliver m = let-refusing _ _ refl (deliver-cases L σ (recordOf σ m) m (λ o. Let (o .answer)) (λ _. refl) (λ _. refl) (λ _. refl) (λ _ _ _. refl))
 
   let-hear : (hearer owner i : ℕ) → Let (stepHear σ hearer owner i .answer)
   unfolding stepHear hear

@@ -13,7 +13,7 @@ use Rattle.table.specs.Layout.{controllers, incarnations, places, messages, val
 use Rattle.table.specs.Words.{Agree, agree-put, agree-put-to, agree-value, agree-part-to, agree-values, agree-clear-to, agree-cond, agree-states}
 use Rattle.table.specs.Numbering.{numberOf, messageOf, number-same, used-agree, message-agree, posted-agree}
 use Rattle.rules.specs.Limits.{Limits}
-use Rattle.rules.specs.Vector.{Pair, Vector, pair, noPair, incarnation, number, empty, pairOf, placeVector, messageVector, knownStable, filterPair, filtered, condemnedPair, condemned}
+use Rattle.rules.specs.Vector.{Pair, Vector, pair, noPair, incarnation, number, empty, pairOf, placeVector, messageVector, knownStable, filterPair, filtered, condemnedPair, condemned, condemning}
 use Rattle.rules.specs.Form.{stateHeld, stateReleased, stateDelivered, stateDropped}
 use Rattle.rules.specs.Shared.{newestPlace, placeRecord, logged, loggedTo, checkpointed, forced, capped, causing, causedIn, causesIn, causes, offeredAgain, newVector, placed, entered, restarted, heldOrDropped, dropHeld, startAnew, latestFlagged, replayed}
 use Rattle.rules.specs.Steps.{messageRecord, sent, recordsFull, intervalAdded, noPlace, toldRow, told, noted, lowestCondemned}
@@ -75,6 +75,11 @@ module _ (σ τ : State) (e : Agree σ τ) where
   pub condemned-same : (holder : ℕ) (v : Vector) → holder < controllers → Near v → condemned σ holder v ≡ condemned τ holder v
   unfolding condemned
   condemned-same holder v hl near = anyb-same controllers _ _ (λ owner l. condemnedPair-same holder owner (pairOf v owner) hl l (near owner l))
+
+  -- and by whom
+  pub condemning-same : (holder : ℕ) (v : Vector) → holder < controllers → Near v → condemning σ holder v ≡ condemning τ holder v
+  unfolding condemning
+  condemning-same holder v hl near = first-same controllers _ _ (λ owner l. condemnedPair-same holder owner (pairOf v owner) hl l (near owner l))
 
   -- the state of a cause that is offered again
   pub offeredAgain-same : (c r : ℕ) → c < controllers → r < messages → Near (messageVector σ r) → offeredAgain σ c r ≡ offeredAgain τ c r

@@ -10,11 +10,11 @@ use native.Mathlib.Omega.{arith}
 use borrow.Author.Count.{below-more}
 use borrow.Author.Tests.{ltb-true, ltb-false, eqb-true, eqb-false, ne-eqb, not-true, not-false}
 use Rattle.base.specs.Choice.{_==_, and-left, and-right, cond-ind}
-use Rattle.base.specs.Ranges.{anyb-clear, anyb-some, first-le, first-before, first-hit}
+use Rattle.base.specs.Ranges.{anyb-clear, first-le, first-before, first-hit, first-some}
 use Rattle.table.specs.Field.{State, End, LiveCount, Flag}
 use Rattle.table.specs.Layout.{controllers}
 use Rattle.table.specs.Numbering.{numberOf, number-from}
-use Rattle.rules.specs.Vector.{Pair, Vector, incarnation, number, empty, pairOf, placeVector, condemnedPair, condemned, conflictPair, conflict}
+use Rattle.rules.specs.Vector.{Pair, Vector, incarnation, number, empty, pairOf, placeVector, condemnedPair, condemned, condemning, conflictPair, conflict}
 use Rattle.rules.specs.Shared.{latestFlagged}
 use Rattle.rules.specs.Steps.{lowestCondemned}
 
@@ -89,8 +89,8 @@ flagged-le σ c (suc p) =
     cond-ind (λ x. x ≤ numberOf σ c (suc p)) (σ (Flag c p) == 1) (λ e. omega (arith, number-from σ c (p + 1), number-from σ c (suc p)))
     (λ e. omega (arith, flagged-le σ c p, number-from σ c p, number-from σ c (suc p)))
 
--- a pair that is not condemned is at most the end word, if there is one; a condemned one exceeds it
-clear-pair : (σ : State) (holder owner : ℕ) (p : Pair) → condemnedPair σ holder owner p ≡ false → σ (End holder owner (incarnation p)) ≢ 0 → number p ≤ σ (End holder owner (incarnation p))
+-- a pair that is not condemned is at most the end word, if there is one
+pub clear-pair : (σ : State) (holder owner : ℕ) (p : Pair) → condemnedPair σ holder owner p ≡ false → σ (End holder owner (incarnation p)) ≢ 0 → number p ≤ σ (End holder owner (incarnation p))
 unfolding condemnedPair
 clear-pair σ holder owner p e ne = go (empty p) refl
   where
@@ -99,34 +99,43 @@ clear-pair σ holder owner p e ne = go (empty p) refl
     go false q = ltb-false _ _ (rw (q, ne-eqb (σ (End holder owner (incarnation p))) 0 ne) at e)
 
 -- "Condemned, to b: a non-empty pair (t,x) of a where b's end word for a and t isn't 0 and x exceeds it."
-pub record Condemned (σ : State) (holder : ℕ) (v : Vector) : Type 0 where
-  pub owner : ℕ
-  pub owner-lt : owner < controllers
-  pub full : number (pairOf v owner) ≢ 0
-  pub ended : σ (End holder owner (incarnation (pairOf v owner))) ≢ 0
-  pub above : σ (End holder owner (incarnation (pairOf v owner))) < number (pairOf v owner)
+pub record Condemned (σ : State) (holder owner : ℕ) (p : Pair) : Type 0 where
+  pub full : number p ≢ 0
+  pub ended : σ (End holder owner (incarnation p)) ≢ 0
+  pub above : σ (End holder owner (incarnation p)) < number p
 
--- a condemned vector has such a pair
-pub condemned-some : (σ : State) (holder : ℕ) (v : Vector) → condemned σ holder v ≡ true → Condemned σ holder v
-unfolding condemned condemnedPair
-condemned-some σ holder v e =
-    let s = anyb-some (λ (owner : ℕ). condemnedPair σ holder owner (pairOf v owner)) controllers e in
-    let p = pairOf v (s .index) in
-    let x = σ (End holder (s .index) (incarnation p)) in
-    let q = and-right (not (empty p)) _ (s .passes) in
+-- that is what the test says
+pub condemned-pair : (σ : State) (holder owner : ℕ) (p : Pair) → condemnedPair σ holder owner p ≡ true → Condemned σ holder owner p
+unfolding condemnedPair
+condemned-pair σ holder owner p e =
+    let x = σ (End holder owner (incarnation p)) in
+    let q = and-right (not (empty p)) _ e in
     record {
-      owner = s .index;
-      owner-lt = s .below;
-      full = eqb-false (number p) 0 (not-true _ (and-left (not (empty p)) _ (s .passes)));
+      full = eqb-false (number p) 0 (not-true _ (and-left (not (empty p)) _ e));
       ended = eqb-false x 0 (not-true _ (and-left (not (x == 0)) _ q));
       above = ltb-true _ _ (and-right (not (x == 0)) _ q);
     }
 
--- a vector that is not condemned has none
-pub condemned-none : (σ : State) (holder : ℕ) (v : Vector) → condemned σ holder v ≡ false →
-    (owner : ℕ) → owner < controllers → σ (End holder owner (incarnation (pairOf v owner))) ≢ 0 → number (pairOf v owner) ≤ σ (End holder owner (incarnation (pairOf v owner)))
-unfolding condemned
-condemned-none σ holder v e owner l = clear-pair σ holder owner (pairOf v owner) (anyb-clear (λ (owner : ℕ). condemnedPair σ holder owner (pairOf v owner)) controllers owner e l)
+module _ (σ : State) (holder : ℕ) (v : Vector) where
+  -- a vector that is not condemned has no such pair
+  pub condemned-none : condemned σ holder v ≡ false → (owner : ℕ) → owner < controllers → condemnedPair σ holder owner (pairOf v owner) ≡ false
+  unfolding condemned
+  condemned-none e owner l = anyb-clear (λ (owner : ℕ). condemnedPair σ holder owner (pairOf v owner)) controllers owner e l
+
+  -- one that is has its first: a controller,
+  pub condemning-lt : condemned σ holder v ≡ true → condemning σ holder v < controllers
+  unfolding condemned condemning
+  condemning-lt e = first-some controllers _ e
+
+  -- whose pair is condemned,
+  pub condemning-hit : condemned σ holder v ≡ true → condemnedPair σ holder (condemning σ holder v) (pairOf v (condemning σ holder v)) ≡ true
+  unfolding condemned condemning
+  condemning-hit e = first-hit controllers (λ (owner : ℕ). condemnedPair σ holder owner (pairOf v owner)) (first-some controllers _ e)
+
+  -- and no pair before it
+  pub condemning-before : (owner : ℕ) → owner < condemning σ holder v → condemnedPair σ holder owner (pairOf v owner) ≡ false
+  unfolding condemning
+  condemning-before owner l = first-before controllers (λ (owner : ℕ). condemnedPair σ holder owner (pairOf v owner)) owner l
 
 -- D: no "owner other than c has non-empty pairs of different incarnations in the two"
 pub conflict-none : (c : ℕ) (v w : Vector) → conflict c v w ≡ false → (owner : ℕ) → owner < controllers → owner ≢ c → number (pairOf v owner) ≢ 0 → number (pairOf w owner) ≢ 0 →

@@ -10,6 +10,7 @@ pub mod Mask
 pub mod Bits
 pub mod Kept
 pub mod Releasing
+pub mod Delivering
 pub mod StepWords
 pub mod Fixed
 pub mod Beside

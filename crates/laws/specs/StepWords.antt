@@ -12,12 +12,13 @@ use Rattle.table.specs.Field.{Field, State, OfController, OfPlace, OfMessage, K
 use Rattle.table.specs.Change.{put, putPart, clearPlaces, putStates, put-ind, part-ind, clear-ind, states-ind}
 use Rattle.table.specs.Numbering.{numberOf, recordOf}
 use Rattle.rules.specs.Limits.{Limits, lastIncarnation}
-use Rattle.rules.specs.Vector.{Vector, messageVector, flat, condemned, conflict}
+use Rattle.rules.specs.Vector.{Vector, messageVector, flat, condemned}
 use Rattle.rules.specs.Form.{inForm, stateReleased, stateDelivered, stateDropped, statePublished}
 use Rattle.rules.specs.Shared.{logged, loggedTo, checkpointed, forced, capped, causedIn, offeredAgain, causesIn, causes, placed, entered, restarted, orphaned, heldOrDropped, dropHeld, startAnew, removed}
-use Rattle.rules.specs.Steps.{After, AfterBoth, refusing, refusingBoth, openHouse, stepOpen, stepDegree, sent, stepSend, letOut, stepRelease, intervalAdded, intervalBegins, chainFull, deliver, stepDeliver, stepLog, stepCheckpoint, told, stepTell, crashed, stepCrash, noted, rolledBack, hear, stepHear, stepGap}
+use Rattle.rules.specs.Steps.{After, AfterBoth, refusing, refusingBoth, openHouse, stepOpen, stepDegree, sent, stepSend, letOut, stepRelease, intervalAdded, intervalBegins, stepDeliver, stepLog, stepCheckpoint, told, stepTell, crashed, stepCrash, noted, rolledBack, hear, stepHear, stepGap}
 use Rattle.rules.specs.Step.{perform, looksAtForm, stepOn}
 use Rattle.laws.specs.Releasing.{release-cases}
+use Rattle.laws.specs.Delivering.{deliver-cases}
 use Rattle.rules.specs.declared.Command.{Command}
 use Rattle.rules.specs.declared.Command.the-variants.{Open, SetDegree, Send, Release, Deliver, Log, Checkpoint, Tell, Crash, Hear, SetGap}
 
@@ -130,15 +131,12 @@ module _ (P : Field → ℕ → Type 0) (w : Writable P) where
 
     -- D
     every-deliver : (L : Limits) (m : ℕ) → Every (stepDeliver L σ m .left)
-    unfolding stepDeliver deliver intervalBegins intervalAdded
+    unfolding stepDeliver intervalBegins intervalAdded
     every-deliver L m =
         every-refusing _ _
-        (let kept : After → Type 0 = λ o. Every (o .left) in
-        cond-ind kept (condemned σ _ _) (λ _. every-put (MessageState _) stateDropped (w .dropped _) h)
-        (λ _. cond-ind kept (conflict _ _ _) (λ _. h)
-        (λ _. cond-ind kept (chainFull L σ _) (λ _. h)
-        (λ _. every-capped _ (every-put (MessageState _) stateDelivered (w .delivered _)
-        (every-put (LiveCount _) _ (w .controller _ _ _) (every-part (OfPlace _ _ 0) 0 _ (λ i. w .place _ _ _ _) h)))))))
+        (deliver-cases L σ (recordOf σ m) m (λ o. Every (o .left)) (λ _. every-put (MessageState _) stateDropped (w .dropped _) h) (λ _. h) (λ _. h)
+        (λ _ _ _. every-capped _ (every-put (MessageState _) stateDelivered (w .delivered _)
+        (every-put (LiveCount _) _ (w .controller _ _ _) (every-part (OfPlace _ _ 0) 0 _ (λ i. w .place _ _ _ _) h)))))
 
     -- L
     every-log : (c q : ℕ) → Every (stepLog σ c q .left)

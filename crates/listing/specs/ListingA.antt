@@ -56,8 +56,8 @@ rightColumn =
     ∷ Released 3 2
     ∷ Crashed 1 0 1 1 0
     ∷ Delivered 3 0 2
-    ∷ Rolled 2 1 1 0
-    ∷ Rolled 0 1 1 0
+    ∷ Rolled 2 1 1 0 1 0
+    ∷ Rolled 0 1 1 0 1 0
     ∷ Refused STATE
     ∷ []
 

@@ -19,11 +19,11 @@ use Rattle.table.specs.Layout.{controllers, incarnations}
 use Rattle.table.specs.Change.{put, putPart, clearPlaces, putStates, put-ind, part-ind, clear-ind, states-ind}
 use Rattle.table.specs.Numbering.{numberOf, used, lastGiven, recordOf, messageOf, posted}
 use Rattle.rules.specs.Limits.{house}
-use Rattle.rules.specs.Vector.{placeVector, messageVector, flat, knownStable, filterPair, filtered, condemnedPair, condemned, maskTo, mask, conflictPair, conflict, mergePair, merged}
+use Rattle.rules.specs.Vector.{placeVector, messageVector, flat, knownStable, filterPair, filtered, condemnedPair, condemned, condemning, maskTo, mask, conflictPair, conflict, mergePair, merged}
 use Rattle.rules.specs.Form.{stateHeld, stateOk, zeros, pairOk, vectorOk, controllerOk, highest, rowOk, placeOk, messageOk, headZeros, headOk, inForm}
 use Rattle.rules.specs.Ledger.{ledgerWords, ledgerOk, blankLedger}
 use Rattle.rules.specs.Shared.{newestPlace, placeRecord, logged, loggedTo, checkpointed, forced, capped, causing, causedIn, causesIn, causes, offeredAgain, newVector, placed, entered, restarted, heldOrDropped, dropHeld, startAnew, removed, latestFlagged, replayed}
-use Rattle.rules.specs.Steps.{AfterBoth, afterBoth, refusing, refusingBoth, openHouse, stepOpen, messageRecord, sent, recordsFull, stepSend, messageRefusals, ownVector, letOut, gone, ledgerOut, mayGo, release, stepRelease, intervalAdded, intervalBegins, noPlace, deliver, stepDeliver, stepLog, crashed, stepCrash, noted, lowestCondemned, rolledBack, hear, stepHear, stepGap}
+use Rattle.rules.specs.Steps.{AfterBoth, afterBoth, refusing, refusingBoth, openHouse, stepOpen, messageRecord, sent, recordsFull, stepSend, messageRefusals, ownVector, letOut, gone, ledgerOut, mayGo, release, stepRelease, intervalAdded, intervalBegins, noPlace, prospect, comesOf, deliver, stepDeliver, stepLog, crashed, stepCrash, noted, lowestCondemned, rolledBack, hear, stepHear, stepGap}
 use Rattle.rules.specs.Step.{perform, stepOn}
 use Rattle.laws.specs.Ledger.{blank-sound}
 use Rattle.rules.specs.declared.Answer.{Answer}
@@ -194,5 +194,5 @@ further n h inHouse caused r z = rw (le-ltb r n (omega (arith, leb-true n reach 
 
 -- The rules on the way of these lists: `unfolding steps` opens them all.
 unfoldable pub steps : Unit {0}
-unfolding onesIn ones allb anyb first tab allOf firstOf same put putPart clearPlaces putStates numberOf used lastGiven recordOf messageOf posted placeVector messageVector flat knownStable filterPair filtered condemnedPair condemned maskTo mask conflictPair conflict mergePair merged zeros pairOk vectorOk controllerOk highest rowOk placeOk stateOk messageOk headZeros headOk placeRecord logged loggedTo checkpointed forced capped causing causedIn causesIn causes offeredAgain newVector placed entered restarted heldOrDropped dropHeld startAnew removed latestFlagged replayed refusing refusingBoth openHouse stepOpen messageRecord sent recordsFull stepSend ownVector letOut gone ledgerOut mayGo release stepRelease intervalAdded intervalBegins noPlace deliver stepDeliver stepLog crashed stepCrash noted lowestCondemned rolledBack hear stepHear stepGap perform releaseOf
+unfolding onesIn ones allb anyb first tab allOf firstOf same put putPart clearPlaces putStates numberOf used lastGiven recordOf messageOf posted placeVector messageVector flat knownStable filterPair filtered condemnedPair condemned condemning maskTo mask conflictPair conflict mergePair merged zeros pairOk vectorOk controllerOk highest rowOk placeOk stateOk messageOk headZeros headOk placeRecord logged loggedTo checkpointed forced capped causing causedIn causesIn causes offeredAgain newVector placed entered restarted heldOrDropped dropHeld startAnew removed latestFlagged replayed refusing refusingBoth openHouse stepOpen messageRecord sent recordsFull stepSend ownVector letOut gone ledgerOut mayGo release stepRelease intervalAdded intervalBegins noPlace prospect comesOf deliver stepDeliver stepLog crashed stepCrash noted lowestCondemned rolledBack hear stepHear stepGap perform releaseOf
 steps = tt

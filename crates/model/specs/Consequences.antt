@@ -185,7 +185,7 @@ module _ {n : ℕ} {μ : Model} {h : History} (v : Inv n μ h) (c : ℕ) (below 
   module _ (none : (a i : ℕ) → h .heard c a i ≡ false) where
     -- no vector is condemned
     pub unheard-not-condemned : (w : Vec) → Condemned n (μ .controller c) w → ⊥
-    unheard-not-condemned w z = let e = unheard-end (z .owner) (w (z .owner) .incarnation) (none _ _) in omega (arith, z .ended)
+    unheard-not-condemned w z = let e = unheard-end (z .owner) (w (z .owner) .incarnation) (none _ _) in omega (arith, z .by .ended)
 
     -- every begun interval is live
     pub unheard-live : (y : Interval) → y .owner ≡ c → Is (h .begun y) → Is (member y (h .chain c))

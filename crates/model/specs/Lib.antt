@@ -18,6 +18,7 @@ pub mod Recovery
 pub mod Close
 pub mod Opening
 pub mod Consequences
+pub mod Blaming
 pub mod Paper
 pub mod Securing
 pub mod Lasting

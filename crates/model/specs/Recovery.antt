@@ -7,11 +7,11 @@ use Prim.Native.Nat.{ℕ, _+_, _≤_, _<_}
 use native.Mathlib.Omega.{arith}
 use borrow.Author.Tests.{le-leb, lt-leb}
 use Rattle.base.specs.Choice.{_≤?_}
-use Rattle.history.specs.History.{Interval, interval, History, changedAt, those, joined, leaving, stabilized, hearing, losing, crashing, rollingBack}
+use Rattle.history.specs.History.{Interval, interval, History, changedAt, newest, those, joined, leaving, stabilized, hearing, losing, crashing, rollingBack}
 use Rattle.model.specs.Model.{Controller, Model, changedAt₂, putController, capModel, noteController, endController, loggedController, anewController}
 use Rattle.model.specs.Tests.{Is, fails, eq?, changedAt-ind, changedAt-same, changedAt₂-other}
 use Rattle.model.specs.Chain.{chainOf, member-chain, chain-member, those-chain}
-use Rattle.model.specs.Invariant.{Spoilt, ControllerOk, Flags, EndsAgree, Inv, Ext, ext-trans, frame-trans, controller-on, spoilt-on, spoilt-up}
+use Rattle.model.specs.Invariant.{Spoilt, ControllerOk, Flags, EndsAgree, Inv, Ext, ext-trans, frame-trans, controller-on, spoilt-on, spoilt-up, newest-is}
 use Rattle.model.specs.Vectors.{Condemned, condemned-spoilt, spoilt-condemned}
 use Rattle.model.specs.Growing.{grown-ext, grown-order, grown-frame, grown-back, grown-settled, grown-flags}
 use Rattle.model.specs.Renewing.{Renews, renews-grows, renewed-controller, restarting-is}
@@ -230,6 +230,11 @@ module _ {n : ℕ} {μ : Model} {h : History} (v : Inv n μ h) {b a i : ℕ} (O 
     gone x p q =
         spoilt-up (heard-order marks) (ok-noted .body .live-begun x (omega arith) q) (ok-noted .body .rests-below (j + 1) x (omega arith) (omega arith) q)
         (condemned-live (j + 1) (omega arith) (omega arith) (W .condemned))
+
+    -- so is the newest of all
+    pub newest-spoilt : Spoilt (hearing h b a i) b (newest (h .chain b))
+    unfolding hearing
+    newest-spoilt = subst (Spoilt heard b) (sym (newest-is (ok-noted .shape))) (gone (noted .live) (W .below) (omega arith))
 
     -- they are logged
     logs : Logs n heard b noted j (those kept (heard .chain b))

@@ -235,7 +235,7 @@ fed-secures (Tell teller told) a h own = secures-same h h refl refl
 fed-secures (Crash c) a h own = secures-if (answers a (Crashed 0 0 0 0 0)) (crashing-secures h c (own c))
 fed-secures (Hear b crashed i) a h own =
     cond-ind (Secures h) (answers a (Heard 0)) (λ e. secures-same h _ refl refl)
-    (λ e. secures-if (answers a (Rolled 0 0 0 0)) (hearing-secures h b crashed i _ (own b)))
+    (λ e. secures-if (answers a (Rolled 0 0 0 0 0 0)) (hearing-secures h b crashed i _ (own b)))
 fed-secures (SetGap q) a h own = secures-if (answers a Done) (secures-same h _ refl refl)
 
 -- "Lemma A.1. (s → w ∧ s.p = w.p ∧ stable(w)) ⇒ stable(s)." Of every w, live or not:

@@ -1,12 +1,13 @@
 -- Filtering and merging keep a vector that tracks an interval, and such a vector is condemned exactly where the interval rests
--- on one lost in a crash that the holder has heard.
-use mathlib.Core.Path.{_≡_, sym, _∙_}
+-- on one lost in a crash that the holder has heard, by the pair of its owner.
+use mathlib.Core.Path.{_≡_, refl, sym, _∙_, subst}
 use mathlib.Core.Logic.{_⊎_, inl, inr, ⊎-elim}
 use Prim.Native.Nat.{ℕ, _≤_, _<_}
 use native.Mathlib.Omega.{arith}
 use borrow.Author.Tests.{eqb-false, ne-eqb, leb-true, leb-false, ltb-true, ltb-false, not-true}
 use Rattle.base.specs.Choice.{_==_, _≤?_, _<?_, cond-ind, le?}
 use Rattle.history.specs.History.{Interval, interval, History}
+use Rattle.history.specs.Blame.{OrphanBy, orphan-rests, rests-orphan}
 use Rattle.model.specs.Model.{Pair, pair, intervalOf, Vec, Controller, full, filtered, larger}
 use Rattle.model.specs.Tests.{Is, not-passes}
 use Rattle.model.specs.Invariant.{Spoilt, Covers, Tracks, InOrder, Knows, ControllerOk, EndsAgree}
@@ -70,45 +71,62 @@ module _ (p q : Pair) (j : Interval) (pos : 1 ≤ j .number) (one : Is (full p) 
       (λ e. let l = ltb-false (p .number) (q .number) e in let u = c .upto in
       record { same = one (pos-full p (omega arith)) (pos-full q (omega arith)) ∙ c .same; upto = omega arith })
 
--- Vector v is condemned to a controller: a pair of an owner below n exceeds the controller's end word, which is not 0.
-pub record Condemned (n : ℕ) (k : Controller) (v : Vec) : Type 0 where
-  pub owner : ℕ
+-- The pair of an owner below n in v is condemned to a controller: it exceeds the controller's end word, which is not 0.
+pub record CondemnedBy (n : ℕ) (k : Controller) (v : Vec) (owner : ℕ) : Type 0 where
   pub below : owner < n
   pub ended : 1 ≤ k .ends owner (v owner .incarnation)
   pub above : k .ends owner (v owner .incarnation) < v owner .number
+
+-- Vector v is condemned to it: one of its pairs is.
+pub record Condemned (n : ℕ) (k : Controller) (v : Vec) : Type 0 where
+  pub owner : ℕ
+  pub by : CondemnedBy n k v owner
+
+-- W6: this owner is the lowest whose pair is
+pub record LowestOwner (n : ℕ) (k : Controller) (v : Vec) (owner : ℕ) : Type 0 where
+  pub by : CondemnedBy n k v owner
+  pub none-lower : (a : ℕ) → a < owner → CondemnedBy n k v a → ⊥
 
 -- a vector that tracks an interval is condemned to c exactly where the interval rests on one lost in a crash that c has heard
 module _ {n : ℕ} {h : History} {c : ℕ} {controller : ℕ → Controller} (ho : InOrder n h) (controller-ok : (c : ℕ) → c < n → ControllerOk h c (controller c)) (agree : EndsAgree controller)
     (below : c < n) (v : Vec) (y : Interval) (b : Is (h .begun y)) (o : Tracks h v y) where
   -- a condemned pair is an interval that y rests on, above the end of a crash that was heard
-  pub condemned-spoilt : Condemned n (controller c) v → Spoilt h c y
-  condemned-spoilt e =
-      let a = e .owner in
+  pub condemned-orphan : {a : ℕ} → CondemnedBy n (controller c) v a → OrphanBy h c y a (v a .incarnation)
+  condemned-orphan {a} e =
       let p = v a in
       let l = e .ended in
       let u = e .above in
       let r = o .sound a (pos-full p (omega arith)) in
       let q = agree c a (p .incarnation) l in
       record {
+        heard = controller-ok c below .ended .end-heard a (p .incarnation) l;
         on = interval a (p .incarnation) (p .number);
-        crash = p .incarnation;
+        owner-is = refl;
         rests = r;
         lost = controller-ok a (e .below) .ended .above-lost (p .incarnation) (p .number) (ho .rests-begun y _ b r) (omega arith) (omega arith);
-        heard = controller-ok c below .ended .end-heard a (p .incarnation) l;
       }
 
-  -- what is lost is not stable, so its pair covers it, and it lies above the end of its crash
-  pub spoilt-condemned : Spoilt h c y → Condemned n (controller c) v
-  spoilt-condemned r = ⊎-elim (λ s. absurd (ho .stable-not-lost _ _ s (r .lost))) covered (o .cover (r .on) (r .rests))
+  -- what is lost is not stable, so its pair covers it, in its incarnation, and it lies above the end of its crash
+  pub orphan-condemned : {a i : ℕ} → OrphanBy h c y a i → CondemnedBy n (controller c) v a × (v a .incarnation ≡ i)
+  orphan-condemned {a} {i} r =
+      subst (λ a. Is (h .heard c a i) → CondemnedBy n (controller c) v a × (v a .incarnation ≡ i)) (r .owner-is)
+      (λ heard. ⊎-elim (λ s. absurd (ho .stable-not-lost _ _ s (r .lost))) (covered heard) (o .cover (r .on) (r .rests))) (r .heard)
     where
-      covered : Covers (v (r .on .owner)) (r .on) → Condemned n (controller c) v
-      covered g =
+      covered : Is (h .heard c (r .on .owner) i) → Covers (v (r .on .owner)) (r .on) → CondemnedBy n (controller c) v (r .on .owner) × (v (r .on .owner) .incarnation ≡ i)
+      covered heard g =
           let a = r .on .owner in
           let al = ho .owner-below _ (ho .rests-begun y _ b (r .rests)) in
-          let (te, _, l, u) = controller-ok a al .ended .lost-above (r .on .incarnation) (r .on .number) (r .crash) (r .lost) in
-          let hd = controller-ok c below .ended .heard-end a (r .crash) (r .heard) in
-          let q = agree c a (r .crash) hd in
-          let is : v a .incarnation ≡ r .crash = g .same ∙ sym te in
-          let w : controller a .ends a (r .crash) < r .on .number = rw te u in
+          let (te, _, l, u) = controller-ok a al .ended .lost-above (r .on .incarnation) (r .on .number) i (r .lost) in
+          let hd = controller-ok c below .ended .heard-end a i heard in
+          let q = agree c a i hd in
+          let is : v a .incarnation ≡ i = g .same ∙ sym te in
+          let w : controller a .ends a i < r .on .number = rw te u in
           let z = g .upto in
-          record { owner = a; below = al; ended = rw is hd; above = rw is (omega arith) }
+          (record { below = al; ended = rw is hd; above = rw is (omega arith) }, is)
+
+  -- so of the whole vector
+  pub condemned-spoilt : Condemned n (controller c) v → Spoilt h c y
+  condemned-spoilt e = orphan-rests (condemned-orphan (e .by))
+
+  pub spoilt-condemned : Spoilt h c y → Condemned n (controller c) v
+  spoilt-condemned r = record { owner = r .on .owner; by = orphan-condemned (rests-orphan r) .0 }

@@ -15,7 +15,7 @@ use Rattle.rules.specs.declared.Answer.{Answer}
 use Rattle.rules.specs.declared.Answer.the-variants.{Crashed}
 use Rattle.rules.specs.declared.Command.{Command}
 use Rattle.rules.specs.declared.Command.the-variants.{Release, Crash, Hear}
-use Rattle.history.specs.History.{Interval, History, member, joined, leaving, stabilized, hearing, losing, flagging, degreeSet, sentFrom, gapSet, delivering, logging, checkpointing, beginning, restarting, crashing, rollingBack, opening, answers, fedStep, fed}
+use Rattle.history.specs.History.{Interval, History, member, joined, leaving, stabilized, hearing, losing, flagging, degreeSet, sentFrom, gapSet, delivering, logging, checkpointing, beginning, crashing, rollingBack, opening, answers, fedStep, fed}
 use Rattle.history.specs.Demand.{stepIn, next, justOpened, RestsOnLost, FromOpening, upTo, end}
 use Rattle.history.specs.Progress.{Orphan, CrashIn, HasHeard, CanHear}
 use Rattle.model.specs.Model.{Model, aboveLatest}
@@ -26,20 +26,15 @@ use Rattle.model.specs.Recovery.{HearsOf, hears-other}
 use Rattle.calls.specs.Made.{NoDoneOpening, part-itself}
 use Rattle.model.specs.Runs.{in-list, along, at-end}
 use Rattle.model.specs.Consequences.{unheard-end}
+use Rattle.model.specs.Blaming.{capped-heard, restarted-heard}
 use Rattle.image.specs.Reads.{incarnation-is, ends-is}
 use Rattle.image.specs.Outcome as O
 use Rattle.image.specs.Outcome.{Outcome}
 use Rattle.image.specs.Tables.{modelOf, sizeOf, opening-done}
 use Rattle.demand.specs.Demanded.{fed-refused, outcome, table-inv, follows, demand-3}
-use Rattle.demand.specs.Beyond.{capped-heard}
 use Rattle.demand.specs.InForm.{sound-after}
 use Rattle.laws.specs.Facts.{form, controllerForm}
 use Rattle.progress.specs.Hears.{Hears, hear-answers}
-
--- a new start marks none as heard
-pub restarted-heard : (h : History) (c : ℕ) → restarting h c .heard ≡ h .heard
-unfolding restarting beginning joined
-restarted-heard h c = capped-heard _ c
 
 -- what is heard by one account is heard by the other
 heard-in : {f f′ : ℕ → ℕ → ℕ → Bool} (c i : ℕ) → f ≡ f′ → Is (f c c i) → Is (f′ c c i)
@@ -63,7 +58,7 @@ heard-own v (O.degree-set d k p q) o c i z = inl z
 heard-own v (O.sent s r payload sender receiver ne) o c i z = inl z
 heard-own v (O.released m mask l w) o c i z = inl z
 heard-own v (O.held m mask) o c i z = inl z
-heard-own v (O.dropped m p l w y) o c i z = inl z
+heard-own v (O.dropped m owner p l w y) o c i z = inl z
 heard-own v (O.waits m) o c i z = inl z
 heard-own v (O.delivered m d e w) o c i z = inl (heard-in c i (capped-heard _ _) z)
 heard-own v (O.logged d q below pos fits) o c i z = inl z

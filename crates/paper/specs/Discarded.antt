@@ -50,7 +50,7 @@ lasts {μ = μ} (O.degree-set c k p q) o = lasts-put μ c _ (lasts-same (μ .con
 lasts {μ = μ} (O.sent s r payload sender receiver ne) o = unchanged μ
 lasts {μ = μ} (O.released i mask h w) o = unchanged μ
 lasts {μ = μ} (O.held i mask) o = unchanged μ
-lasts {μ = μ} (O.dropped i p h w y) o = unchanged μ
+lasts {μ = μ} (O.dropped i owner p h w y) o = unchanged μ
 lasts {μ = μ} (O.waits i) o = unchanged μ
 lasts {μ = μ} (O.delivered i c e w) o = lasts-capped μ c _ (lasts-begun c (μ .controller c) (μ .message i .vec))
 lasts {μ = μ} (O.logged c q below pos fits) o = lasts-put μ c _ (lasts-same (μ .controller c))

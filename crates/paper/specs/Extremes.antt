@@ -35,7 +35,7 @@ use Rattle.demand.specs.Demanded.{table-inv, table-outcome, follows, demand-3}
 use Rattle.demand.specs.Beyond.{lost-unstable}
 use Rattle.demand.specs.Claims.{at-most-K-named}
 use Rattle.paper.specs.Ready.{stateOfMessage, there-ok, ready}
-use Rattle.paper.specs.Crashes.{restarted-heard}
+use Rattle.model.specs.Blaming.{restarted-heard}
 use Rattle.paper.specs.Spreading.{first, ready-at}
 use Rattle.paper.specs.Named.{held-names, few-go}
 
@@ -66,7 +66,7 @@ accepted-unheard (O.rolled b a i j undone w z) _ = (w .hearer-below, w .unheard)
 accepted-heard : (h : History) (b a i : ℕ) (y : Answer) → Accepted y → Is (fedStep (Hear b a i) y h .heard b a i)
 unfolding fedStep answers report valueAt rollingBack leaving stabilized
 accepted-heard h b a i _ (answersHeard hearer) = hearing-new h b a i
-accepted-heard h b a i _ (answersRolled hearer kept undone replayed) =
+accepted-heard h b a i _ (answersRolled hearer kept undone replayed owner ended) =
     subst (λ (f : ℕ → ℕ → ℕ → Bool). Is (f b a i)) (sym (restarted-heard _ b)) (hearing-new h b a i)
 
 module _ (t g : List ℕ) (n k : ℕ) (l : List Call) (O : FromOpening t g n k l) where

@@ -59,7 +59,7 @@ newly-sent {μ = μ} (O.sent s r payload sender receiver ne) o m l u =
     subst (λ z. Sends (Send s r payload) (Sent (μ .sent + 1)) z) e (sends s r payload (μ .sent + 1))
 newly-sent (O.released i mask h w) o m l u = absurd (omega arith)
 newly-sent (O.held i mask) o m l u = absurd (omega arith)
-newly-sent (O.dropped i p h w y) o m l u = absurd (omega arith)
+newly-sent (O.dropped i owner p h w y) o m l u = absurd (omega arith)
 newly-sent (O.waits i) o m l u = absurd (omega arith)
 newly-sent {μ = μ} (O.delivered i d e w) o m l u =
     absurd (let z = capped-sent (putController μ d (beginController d (μ .controller d) (μ .message i .vec))) d in omega arith)

@@ -97,13 +97,13 @@ by-checkpoint {μ = μ} v (O.checkpointed c below) = (below, secured-here μ c (
 by-crash : {n : ℕ} {μ : Model} {c echoed i kept lost replayed : ℕ} {j : ℕ} {μ′ : Model} → Outcome n μ (Crash c) (Crashed echoed i kept lost replayed) j μ′ → (c < n) × Secured μ′ c
 by-crash {μ = μ} (O.crashed c lost below) = (below, anew-secured μ c (endController c (μ .controller c)) (μ .controller c .stable))
 
-by-hearing : {n : ℕ} {μ : Model} {c a i echoed kept undone replayed : ℕ} {j : ℕ} {μ′ : Model} → Outcome n μ (Hear c a i) (Rolled echoed kept undone replayed) j μ′ → (c < n) × Secured μ′ c
+by-hearing : {n : ℕ} {μ : Model} {c a i echoed kept undone replayed owner ended : ℕ} {j : ℕ} {μ′ : Model} → Outcome n μ (Hear c a i) (Rolled echoed kept undone replayed owner ended) j μ′ → (c < n) × Secured μ′ c
 by-hearing {μ = μ} (O.rolled c a i x undone w y) = (w .hearer-below, anew-secured μ c (loggedController c (notedController μ c a i) x) x)
 
 secured-after : {n : ℕ} {μ : Model} {h : History} (c : ℕ) {x : Command} {a : Answer} {j : ℕ} {μ′ : Model} → Inv n μ h → Outcome n μ x a j μ′ → Secures c x a → (c < n) × Secured μ′ c
 secured-after c v o checkpoints = by-checkpoint v o
 secured-after c v o (crashes echoed i kept lost replayed) = by-crash o
-secured-after c v o (undoes crashed i echoed kept undone replayed) = by-hearing o
+secured-after c v o (undoes crashed i echoed kept undone replayed owner ended) = by-hearing o
 
 -- what is live at a secured controller is stable
 secured-stable : {n : ℕ} {μ : Model} {h : History} → Inv n μ h → (c : ℕ) → c < n → Secured μ c → (z : Interval) → Is (member z (h .chain c)) → Is (h .stable z)

@@ -181,7 +181,7 @@ grown {μ = μ} (O.released i mask h w) o v =
           (λ m ne. inl refl) m;
     }
 grown {μ = μ} (O.held i mask) o v = grown-self μ
-grown {μ = μ} (O.dropped i p h w y) o v = grown-self μ
+grown {μ = μ} (O.dropped i owner p h w y) o v = grown-self μ
 grown {μ = μ} (O.waits i) o v = grown-self μ
 grown {n} {μ} (O.delivered i c e w) o v =
     let own = own-is (v .controller-ok c (subst (λ b. b < n) (sym e) (w .to-below))) in

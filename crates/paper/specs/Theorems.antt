@@ -12,11 +12,11 @@ use Rattle.table.specs.Field.{desk}
 use Rattle.table.specs.Layout.{controllers}
 use Rattle.rules.specs.Step.{Call, asks}
 use Rattle.rules.specs.declared.Answer.{Answer}
-use Rattle.rules.specs.declared.Answer.the-variants.{Done, Held, Dropped}
+use Rattle.rules.specs.declared.Answer.the-variants.{Done, Held}
 use Rattle.rules.specs.declared.Command.the-variants.{Release, Deliver, Checkpoint, Tell, Hear}
 use Rattle.history.specs.History.{Interval, interval, History, member}
 use Rattle.history.specs.Demand.{callIn, stepIn, next, Accepted, RestsOnLost, named, LetsGo, FromOpening, upTo, end}
-use Rattle.history.specs.Progress.{Orphan, SentIn, SendingLive, HeldIn, LetOutIn, NotLetOut, HasHeard, CanHear, Deliverable}
+use Rattle.history.specs.Progress.{Orphan, Drops, SentIn, SendingLive, HeldIn, LetOutIn, NotLetOut, HasHeard, CanHear, Deliverable}
 use Rattle.history.specs.Asked.{Asked, AllAsked, AllCleared, Names, Unlearned, GoesOut, GoesOutWithin, NotHeld, Begins, Arrives, Eventually, Fate}
 use Rattle.model.specs.Model.{intervalOf, Model, full}
 use Rattle.model.specs.Tests.{contrary, passes, fails}
@@ -129,7 +129,7 @@ module _ (t g : List ℕ) (n k : ℕ) (l : List Call) (O : FromOpening t g n k l
   theorem-A-1 b below heard y mine begun = (theorem-A-1-only b below y mine begun, λ o. fails _ (λ live. live-sure t g n k l O b below heard y live o))
 
   -- of messages: a delivery drops exactly what was sent from an interval that rests on one lost in a crash which the receiver has heard
-  pub theorem-A-1-messages : (m : ℕ) → Deliverable t g n k l m → (stepIn (upTo t g n k l) (Deliver m) .answer ≡ Dropped m) ↔ RestsOnLost h h (h .receiver m) (h .sending m)
+  pub theorem-A-1-messages : (m : ℕ) → Deliverable t g n k l m → Drops m (stepIn (upTo t g n k l) (Deliver m) .answer) ↔ RestsOnLost h h (h .receiver m) (h .sending m)
   theorem-A-1-messages = dropped-exactly t g n k l O
 
   -- and what is left is a consistent state: where all have heard all, what a live interval rests on is live

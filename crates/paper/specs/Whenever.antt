@@ -15,13 +15,13 @@ use Rattle.rules.specs.Form.{stateHeld, stateReleased}
 use Rattle.rules.specs.Steps.{chainFull}
 use Rattle.rules.specs.Step.{Call, asks}
 use Rattle.rules.specs.declared.Answer.{Answer}
-use Rattle.rules.specs.declared.Answer.the-variants.{Done, Delivered, Dropped}
+use Rattle.rules.specs.declared.Answer.the-variants.{Done, Delivered}
 use Rattle.rules.specs.declared.Command.{Command}
 use Rattle.rules.specs.declared.Command.the-variants.{Release, Deliver, Checkpoint, Tell}
 use Rattle.laws.specs.Allowed.{no-place-number}
 use Rattle.history.specs.History.{Interval, History, newest}
 use Rattle.history.specs.Demand.{Run, stepIn, named, RestsOnLost, FromOpening, upTo, end}
-use Rattle.history.specs.Progress.{Orphan, SentIn, SendingLive, HeldIn, LetOutIn, NotLetOut, HasHeard, Deliverable}
+use Rattle.history.specs.Progress.{Orphan, Drops, SentIn, SendingLive, HeldIn, LetOutIn, NotLetOut, HasHeard, Deliverable}
 use Rattle.history.specs.Asked.{Secures, SecuredIn, Asked, AllAsked, Cleared, held-without, out-without, was-asked, AllCleared, Names, Unlearned, GoesOut, GoesOutWithin, NotHeld, Begins, Arrives}
 use Rattle.history.specs.Uses.{mask-cleared}
 use Rattle.model.specs.Model.{Model, full, filtered, releasedVec}
@@ -249,7 +249,7 @@ module _ (t g : List ℕ) (n k : ℕ) (l : List Call) (O : FromOpening t g n k l
     judged = theorem-3-message v m c (present-pos _ m here) (present-sent _ m here) receiver-in
 
     -- so it is dropped there, and only there
-    pub dropped-exactly : (stepIn r (Deliver m) .answer ≡ Dropped m) ↔ RestsOnLost h h c (h .sending m)
+    pub dropped-exactly : Drops m (stepIn r (Deliver m) .answer) ↔ RestsOnLost h h c (h .sending m)
     dropped-exactly = (
       λ e. judged .0 (subst (λ X. X) doomed-is (dropped-condemned u (r .ledger) (s .sound) m here (is-released .1) e)),
       λ o. delivery-drops u (r .ledger) (s .sound) m here (is-released .1) (subst (λ X. X) (sym doomed-is) (judged .1 o)),

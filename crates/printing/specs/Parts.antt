@@ -1,7 +1,7 @@
 -- Bytes written at a place of a list, as the contracts of the code that writes them say it, and the room that they need.
 use mathlib.Core.Path.{_≡_}
 use mathlib.Core.List.{List}
-use Prim.Native.Nat.{ℕ, _+_, _≤_}
+use Prim.Native.Nat.{ℕ, _+_, _*_, _≤_}
 use lib.ListN.{length}
 use Rattle.base.specs.Splice.{splice}
 use Rattle.lines.specs.Lines.{mostDigits}
@@ -10,9 +10,9 @@ use Rattle.lines.specs.Lines.{mostDigits}
 abbrev pub numberRoom : ℕ
 numberRoom = 1 + mostDigits
 
--- the line of any answer: the longest, that of a crash, can have 63 bytes
+-- the line of any answer: the longest is the six letters of `rolled` with six numbers, and a line feed
 abbrev pub answerRoom : ℕ
-answerRoom = 64
+answerRoom = 6 + 6 * numberRoom + 1
 
 -- `bytes` stand from `at` on, the other bytes are as before, and `r` is where they end
 pub record Written (before : List ℕ) (at : ℕ) (bytes : List ℕ) (after : List ℕ) (r : ℕ) : Type 0 where

@@ -9,8 +9,11 @@ use lines::RADIX;
 use lines::ZERO;
 use rules::Answer;
 
-// Room for the line of any answer.
-pub const ANSWER_ROOM: usize = 64;
+// Room for a space and a number.
+const NUMBER_ROOM: usize = 1 + lines::MOST_DIGITS;
+
+// Room for the line of any answer: the longest is the six letters of `rolled` with six numbers, and a line feed.
+pub const ANSWER_ROOM: usize = 6 + 6 * NUMBER_ROOM + 1;
 
 // Writes the bytes of `word` from `at` on, and says where they end.
 fn write_word(out: &mut [u8], at: usize, word: &[u8]) -> usize
@@ -82,14 +85,14 @@ pub fn write_answer(out: &mut [u8], at: usize, a: Answer) -> usize
         Answer::Released(m, mask) => write_line(out, at, b"released", &[m, mask]),
         Answer::Held(m, mask) => write_line(out, at, b"held", &[m, mask]),
         Answer::Delivered(m, i, x) => write_line(out, at, b"delivered", &[m, i, x]),
-        Answer::Dropped(m) => write_line(out, at, b"dropped", &[m]),
+        Answer::Dropped(m, owner, i) => write_line(out, at, b"dropped", &[m, owner, i]),
         Answer::Waits(m) => write_line(out, at, b"waits", &[m]),
         Answer::Crashed(c, i, k, lost, replayed) => {
             write_line(out, at, b"crashed", &[c, i, k, lost, replayed])
         }
         Answer::Heard(b) => write_line(out, at, b"heard", &[b]),
-        Answer::Rolled(b, k, undone, replayed) => {
-            write_line(out, at, b"rolled", &[b, k, undone, replayed])
+        Answer::Rolled(b, k, undone, replayed, owner, i) => {
+            write_line(out, at, b"rolled", &[b, k, undone, replayed, owner, i])
         }
         Answer::Refused(number) => write_line(out, at, b"refused", &[number]),
         Answer::SetReleased(mask) => write_line(out, at, b"released", &[mask]),

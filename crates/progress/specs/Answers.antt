@@ -3,7 +3,7 @@ use mathlib.Core.Path.{_≡_, refl, sym, ap, _∙_, subst}
 use mathlib.Core.Bool.{Bool, true, false, not, cond, _&&_, and-false}
 use mathlib.Core.List.{List}
 use mathlib.Core.Logic.{_≢_, _⊎_, inl, inr}
-use Prim.Native.Nat.{ℕ, zero, suc, _+_, _≤_, _<_}
+use Prim.Native.Nat.{ℕ, zero, suc, _+_, _<_}
 use native.Mathlib.Omega.{arith}
 use lib.Count.{ones, onesIn}
 use borrow.Author.Tests.{eq-eqb, ne-eqb, le-leb, lt-leb, not-false}
@@ -20,20 +20,23 @@ use Rattle.rules.specs.Vector.{Vector, empty, pairOf, placeVector, messageVecto
 use Rattle.rules.specs.Form.{stateHeld, stateReleased, forDesk, inForm}
 use Rattle.rules.specs.Ledger.{countOf, ledgerOk}
 use Rattle.rules.specs.Shared.{newestPlace}
-use Rattle.rules.specs.Steps.{After, AfterBoth, beside, refuse, refusing, refusingBoth, mayGo, messageRefusals, ownVector, release, releaseRefusals, stepRelease, intervalBegins, chainFull, deliver, stepDeliver, checkpointRefusals, stepCheckpoint, tellRefusals, stepTell}
+use Rattle.rules.specs.Steps.{After, AfterBoth, beside, refuse, refusing, refusingBoth, mayGo, messageRefusals, ownVector, release, releaseRefusals, stepRelease, intervalBegins, chainFull, prospect, comesOf, deliver, stepDeliver, checkpointRefusals, stepCheckpoint, tellRefusals, stepTell}
 use Rattle.rules.specs.Step.{perform, stepOn, step}
 use Rattle.rules.specs.declared.Answer.{Answer}
-use Rattle.rules.specs.declared.Answer.the-variants.{Done, Released, Delivered, Dropped, Refused}
+use Rattle.rules.specs.declared.Answer.the-variants.{Done, Released, Delivered, Refused}
+use Rattle.rules.specs.declared.Prospect.{Prospect}
 use Rattle.rules.specs.declared.Command.{Command}
 use Rattle.rules.specs.declared.Command.the-variants.{Release, Deliver, Checkpoint, Tell}
+use Rattle.history.specs.Progress.{Drops, drops}
 use Rattle.laws.specs.Facts.{Form, form, messageForm, released-lt}
+use Rattle.laws.specs.Delivering.{deliver-cases}
 use Rattle.keeping.specs.Unrefused.{Sound}
 use Rattle.model.specs.Model.{Vec, full, releasedVec, filtered as filteredFor}
 use Rattle.model.specs.Tests.{fails, passes, eq?}
 use Rattle.model.specs.Vectors.{Condemned}
 use Rattle.image.specs.Image.{vecOf, image}
 use Rattle.image.specs.Vectors.{length-message}
-use Rattle.image.specs.Tests.{spared, condemned-for, filtered-is, released-is}
+use Rattle.image.specs.Tests.{spared, condemned-model, filtered-is, released-is}
 use Rattle.image.specs.Reads.{message-vec-is}
 use Rattle.image.specs.Tables.{modelOf, sizeOf}
 use Rattle.progress.specs.Tables.{answer-is}
@@ -175,42 +178,34 @@ module _ (L : Limits) (σ : State) (g : List ℕ) (good : inForm L σ ≡ true) 
           (subst (Condemned (σ Size) (image σ .controller c)) (message-vec-is σ m l) z))
 
       -- and where the words have it condemned, so has the model
-      condemned-model : condemned σ c (messageVector σ r) ≡ true → IsCondemned
-      condemned-model q =
+      is-condemned : condemned σ c (messageVector σ r) ≡ true → IsCondemned
+      is-condemned q =
           subst (Condemned (σ Size) (image σ .controller c)) (sym (message-vec-is σ m l))
-          (condemned-for σ c below (messageVector σ r) (messageForm f r l .vector) (length-message σ r) q)
+          (condemned-model σ c below (messageVector σ r) (messageForm f r l .vector) (length-message σ r) q)
 
       -- a condemned message is dropped
-      deliver-drops : IsCondemned → stepOn L σ g (Deliver m) .answer ≡ Dropped m
-      unfolding deliver
-      deliver-drops z = delivered ∙ rw (condemned-true z)
+      deliver-drops : IsCondemned → Drops m (stepOn L σ g (Deliver m) .answer)
+      unfolding deliver prospect comesOf
+      deliver-drops z = subst (Drops m) (sym delivered) (rw (condemned-true z) (drops _ _))
 
       -- and no other is
-      drops-condemned : stepOn L σ g (Deliver m) .answer ≡ Dropped m → IsCondemned
-      unfolding deliver intervalBegins
-      drops-condemned q = condemned-model (only (sym delivered ∙ q))
-        where
-          only : deliver L σ m r .answer ≡ Dropped m → condemned σ c (messageVector σ r) ≡ true
-          only =
-              let P : After → Type 0 = λ o. o .answer ≡ Dropped m → condemned σ c (messageVector σ r) ≡ true in
-              cond-ind P (condemned σ c (messageVector σ r)) (λ q _. q)
-              (λ _. cond-ind P (conflict c _ _) (λ _ q. absurd (let z : _≡_ {A = ℕ} 0 1 = cc in omega arith))
-              (λ _. cond-ind P (chainFull L σ c) (λ _ q. absurd (let z : _≡_ {A = ℕ} 0 1 = cc in omega arith))
-              (λ _ q. absurd (let z : _≡_ {A = ℕ} 0 1 = cc in omega arith))))
+      drops-condemned : Drops m (stepOn L σ g (Deliver m) .answer) → IsCondemned
+      unfolding intervalBegins
+      drops-condemned q =
+          is-condemned (deliver-cases L σ r m (λ o. Drops m (o .answer) → condemned σ c (messageVector σ r) ≡ true) (λ q _. q) (λ _ d. elim d [ ])
+          (λ _ d. elim d [ ]) (λ _ _ _ d. elim d [ ]) (subst (Drops m) delivered q))
 
       -- a released message is refused neither as unknown nor for its state
       released-taken : (stepOn L σ g (Deliver m) .answer ≢ Refused MESSAGE) × (stepOn L σ g (Deliver m) .answer ≢ Refused STATE)
-      unfolding deliver intervalBegins
+      unfolding intervalBegins
       released-taken = (taken MESSAGE (λ z. omega arith), taken STATE (λ z. omega arith))
         where
           taken : (n : ℕ) → n ≢ PLACES-USED-UP → stepOn L σ g (Deliver m) .answer ≢ Refused n
           taken n ne =
-              let P : After → Type 0 = λ o. o .answer ≢ Refused n in
               subst (λ a. a ≢ Refused n) (sym delivered)
-              (cond-ind P (condemned σ c (messageVector σ r)) (λ _ q. absurd (let z : _≡_ {A = ℕ} 0 1 = cc in omega arith))
-              (λ _. cond-ind P (conflict c _ _) (λ _ q. absurd (let z : _≡_ {A = ℕ} 0 1 = cc in omega arith))
-              (λ _. cond-ind P (chainFull L σ c) (λ _ q. ne (let z : n ≡ PLACES-USED-UP = cc in z))
-              (λ _ q. absurd (let z : _≡_ {A = ℕ} 0 1 = cc in omega arith)))))
+              (deliver-cases L σ r m (λ o. o .answer ≢ Refused n) (λ _ q. absurd (let z : _≡_ {A = ℕ} 0 1 = cc in omega arith))
+              (λ _ q. absurd (let z : _≡_ {A = ℕ} 0 1 = cc in omega arith)) (λ _ q. ne (let z : n ≡ PLACES-USED-UP = cc in z))
+              (λ _ _ _ q. absurd (let z : _≡_ {A = ℕ} 0 1 = cc in omega arith)))
 
       -- the answer of a delivery, or the refusal where the receiver's places are used up
       abbrev Goes : Answer → Type 0
@@ -220,18 +215,18 @@ module _ (L : Limits) (σ : State) (g : List ℕ) (good : inForm L σ ≡ true) 
       -- so answers D to a message that is not condemned and whose filtered vector is empty
       deliver-goes : (IsCondemned → ⊥) → ((a : ℕ) → full (filteredFor (image σ .controller c) (image σ .message m .vec) a) ≡ false) →
           Goes (stepOn L σ g (Deliver m) .answer)
-      unfolding deliver intervalBegins
+      unfolding deliver prospect comesOf intervalBegins
       deliver-goes kept h =
           let v = messageVector σ r in
           let ours = filtered σ c (placeVector σ c (newestPlace σ c)) in
           let theirs : vecOf (filtered σ c v) ≡ filteredFor (image σ .controller c) (image σ .message m .vec) =
           filtered-is σ c below v (messageForm f r l .vector) (length-message σ r)
           ∙ ap (filteredFor (image σ .controller c)) (sym (message-vec-is σ m l)) in
-          let spares : condemned σ c v ≡ false = fails (condemned σ c v) (λ q. kept (condemned-model q)) in
+          let spares : condemned σ c v ≡ false = fails (condemned σ c v) (λ q. kept (is-condemned q)) in
           let agrees : conflict c ours (filtered σ c v) ≡ false =
           conflict-empty c ours (filtered σ c v) (subst (λ (w : Vec). (a : ℕ) → full (w a) ≡ false) (sym theirs) h) in
           subst Goes (sym delivered)
-          (rw (spares, agrees) (cond-ind (λ (o : After). Goes (o .answer)) (chainFull L σ c)
+          (rw (spares, agrees) (cond-ind (λ (p : Prospect). Goes (comesOf σ m r p .answer)) (chainFull L σ c)
           (λ q. inr (refl, q))
           (λ _. inl (ap (Delivered m (σ (Incarnation c))) (number-next σ c (σ (LiveCount c)))))))
 
@@ -289,13 +284,13 @@ module _ (t g : List ℕ) (s : Sound t g) where
 
       -- D drops it where its vector is condemned to the receiver
       pub delivery-drops : Condemned (sizeOf t) (modelOf t .controller (receiverIn t m)) (modelOf t .message m .vec) →
-          step t g (Deliver m) .answer ≡ Dropped m
-      delivery-drops z = same-answer (Deliver m) ∙ deliver-drops house (state t) g good m l e z
+          Drops m (step t g (Deliver m) .answer)
+      delivery-drops z = subst (Drops m) (sym (same-answer (Deliver m))) (deliver-drops house (state t) g good m l e z)
 
       -- and only there
-      pub dropped-condemned : step t g (Deliver m) .answer ≡ Dropped m →
+      pub dropped-condemned : Drops m (step t g (Deliver m) .answer) →
           Condemned (sizeOf t) (modelOf t .controller (receiverIn t m)) (modelOf t .message m .vec)
-      dropped-condemned q = drops-condemned house (state t) g good m l e (sym (same-answer (Deliver m)) ∙ q)
+      dropped-condemned q = drops-condemned house (state t) g good m l e (subst (Drops m) (same-answer (Deliver m)) q)
 
       -- D delivers it where it is not condemned and its filtered vector is empty, unless the receiver's places are used up
       pub delivery-goes : (Condemned (sizeOf t) (modelOf t .controller (receiverIn t m)) (modelOf t .message m .vec) → ⊥) →

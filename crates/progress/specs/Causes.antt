@@ -14,10 +14,10 @@ use Rattle.table.specs.Field.{Field, State, End, OfPlace, OfMessage, Size, Inca
 use Rattle.table.specs.Change.{put, put-same, put-other, putPart, clearPlaces, putStates}
 use Rattle.table.specs.Numbering.{numberOf, used, recordOf, nextMessage, messageOf, posted, Numbered, numbers-put, numbers-states, none-used, present-pos, message-of-record, record-of-message, posted-used, posted-new, posted-record, posted-kept, posted-size}
 use Rattle.rules.specs.Limits.{Limits, lastIncarnation}
-use Rattle.rules.specs.Vector.{Vector, pair, messageVector, flat, condemned, conflict}
+use Rattle.rules.specs.Vector.{Vector, pair, messageVector, flat, condemned}
 use Rattle.rules.specs.Form.{stateHeld, stateReleased, stateDelivered, stateDropped, statePublished, inForm}
 use Rattle.rules.specs.Shared.{placeRecord, loggedTo, causedIn, offeredAgain, causesIn, causes, newVector, placed, entered, restarted, orphaned, heldOrDropped, dropHeld, startAnew, removed}
-use Rattle.rules.specs.Steps.{After, AfterBoth, refusing, refusingBoth, openHouse, stepOpen, sent, stepSend, letOut, stepRelease, intervalAdded, intervalBegins, chainFull, deliver, stepDeliver, crashed, stepCrash, noted, lowestCondemned, rolledBack, hear, stepHear}
+use Rattle.rules.specs.Steps.{After, AfterBoth, refusing, refusingBoth, openHouse, stepOpen, sent, stepSend, letOut, stepRelease, intervalAdded, intervalBegins, stepDeliver, crashed, stepCrash, noted, lowestCondemned, rolledBack, hear, stepHear}
 use Rattle.rules.specs.Step.{perform, looksAtForm, stepOn}
 use Rattle.rules.specs.declared.Command.{Command}
 use Rattle.rules.specs.declared.Command.the-variants.{Open, SetDegree, Send, Release, Deliver, Log, Checkpoint, Tell, Crash, Hear, SetGap}
@@ -26,6 +26,7 @@ use Rattle.laws.specs.Facts.{form, controllerForm, placeForm}
 use Rattle.laws.specs.Records.{part-at, part-other, clear-kept, length-place-record}
 use Rattle.laws.specs.Agree.{live-restarted}
 use Rattle.laws.specs.Releasing.{release-cases}
+use Rattle.laws.specs.Delivering.{deliver-cases}
 use Rattle.laws.specs.Allowed.{crashAllowed}
 use Rattle.image.specs.Begin.{written, written-other}
 use Rattle.progress.specs.Unmoved.{Unmoved, numbers-unmoved, unmoved-put, unmoved-part, unmoved-loggedTo, unmoved-capped, unmoved-noted, unmoved-degree, unmoved-log, unmoved-checkpoint, unmoved-tell, unmoved-gap}
@@ -286,14 +287,12 @@ module _ (L : Limits) (σ : State) (f : inForm L σ ≡ true) (n : NoneCauses σ
 
   -- D
   none-stepDeliver : (m : ℕ) → NoneCauses (stepDeliver L σ m .left)
-  unfolding stepDeliver deliver intervalBegins
+  unfolding stepDeliver intervalBegins
   none-stepDeliver m =
       none-refusing _ _
-      (λ _. let kept : After → Type 0 = λ o. NoneCauses (o .left) in
-      let r = recordOf σ m in
-      cond-ind kept (condemned σ _ _) (λ _. none-state σ r stateDropped (omega arith) n)
-      (λ _. cond-ind kept (conflict _ _ _) (λ _. n)
-      (λ _. cond-ind kept (chainFull L σ _) (λ _. n) (λ _. none-unmoved _ _ (unmoved-capped _ _) (none-added σ _ m r _ refl n)))))
+      (λ _. let r = recordOf σ m in
+      deliver-cases L σ r m (λ o. NoneCauses (o .left)) (λ _. none-state σ r stateDropped (omega arith) n) (λ _. n) (λ _. n)
+      (λ _ _ _. none-unmoved _ _ (unmoved-capped _ _) (none-added σ _ m r _ refl n)))
 
   -- X
   none-stepCrash : (c : ℕ) → NoneCauses (stepCrash L σ c .left)

@@ -33,7 +33,7 @@ hear-rule σ b c i =
     let k = lowestCondemned (noted σ b c i) b in
     let P : After → Type 0 = λ o. Hears (σ (Incarnation b)) (o .answer) in
     cond-ind P (σ (LiveCount b) ≤? k) (λ _. inl (answersHeard b))
-    (λ _. cond-ind P (lastIncarnation ≤? σ (Incarnation b)) (λ e. inr (refl, leb-true lastIncarnation (σ (Incarnation b)) e)) (λ _. inl (answersRolled b _ _ _)))
+    (λ _. cond-ind P (lastIncarnation ≤? σ (Incarnation b)) (λ e. inr (refl, leb-true lastIncarnation (σ (Incarnation b)) e)) (λ _. inl (answersRolled b _ _ _ _ _)))
 
 -- on states
 hear-done : (L : Limits) (σ : State) (g : List ℕ) → inForm L σ ≡ true → (b c i : ℕ) → b < σ Size → c < σ Size → i ≤ lastIncarnation → σ (End c c i) ≢ 0 → σ (End b c i) ≡ 0 →

@@ -14,10 +14,10 @@ use Rattle.table.specs.Field.{State, End, OfMessage, Size, Incarnation, LiveCou
 use Rattle.table.specs.Change.{put, put-same, put-other, putPart, clearPlaces, putStates, states-at}
 use Rattle.table.specs.Numbering.{numberOf, lastLive, used, recordOf, messageOf, number-next, Numbered, numbers-states, numbers-trans, posted-kept}
 use Rattle.rules.specs.Limits.{Limits, lastIncarnation}
-use Rattle.rules.specs.Vector.{Vector, flat, condemned, mask, conflict}
+use Rattle.rules.specs.Vector.{Vector, flat, mask}
 use Rattle.rules.specs.Form.{stateHeld, stateReleased, stateDelivered, stateDropped, statePublished, inForm}
 use Rattle.rules.specs.Shared.{capped, loggedTo, causing, causedIn, causesIn, causes, newVector, placed, entered, restarted, orphaned, heldOrDropped, dropHeld, startAnew, removed}
-use Rattle.rules.specs.Steps.{After, AfterBoth, afterBoth, beside, refusing, refusingBoth, stepOpen, openRefusals, sent, stepSend, ownVector, letOut, stepRelease, intervalAdded, intervalBegins, chainFull, deliver, stepDeliver, crashed, stepCrash, noted, lowestCondemned, rolledBack, hear, stepHear}
+use Rattle.rules.specs.Steps.{After, AfterBoth, afterBoth, beside, refusing, refusingBoth, stepOpen, openRefusals, sent, stepSend, ownVector, letOut, stepRelease, intervalAdded, intervalBegins, stepDeliver, crashed, stepCrash, noted, lowestCondemned, rolledBack, hear, stepHear}
 use Rattle.rules.specs.Step.{perform, looksAtForm, stepOn}
 use Rattle.rules.specs.declared.Answer.{Answer}
 use Rattle.rules.specs.declared.Answer.the-variants.{Done, Released, Dropped}
@@ -28,6 +28,7 @@ use Rattle.laws.specs.Numbers.{numbers-restarted}
 use Rattle.laws.specs.Records.{part-other}
 use Rattle.laws.specs.Agree.{live-restarted}
 use Rattle.laws.specs.Releasing.{release-cases}
+use Rattle.laws.specs.Delivering.{deliver-cases}
 use Rattle.laws.specs.Allowed.{messageAllowed, crashAllowed, hearAllowed}
 use Rattle.progress.specs.Unmoved.{Unmoved, numbers-unmoved, unmoved-put, unmoved-loggedTo, unmoved-capped, unmoved-noted, unmoved-degree, unmoved-log, unmoved-checkpoint, unmoved-tell, unmoved-gap}
 use Rattle.progress.specs.Causes.{NoneCauses, none-unmoved, causes-held, undropped}
@@ -228,12 +229,12 @@ module _ (L : Limits) (σ : State) (r : ℕ) (u : r < used σ) where
     none-leaves : {A : Type 0} → r ≡ recordOf σ m → σ (MessageState r) ≡ stateHeld → A
     none-leaves z h = absurd (let e : σ (MessageState r) ≡ σ (MessageState (recordOf σ m)) = ap (λ j. σ (MessageState j)) z in omega arith)
 
-    goes-dropped : Goes (Deliver m) (afterBoth (Dropped m) (put σ (MessageState (recordOf σ m)) stateDropped) g)
+    goes-dropped : (owner i : ℕ) → Goes (Deliver m) (afterBoth (Dropped m owner i) (put σ (MessageState (recordOf σ m)) stateDropped) g)
     unfolding put same
-    goes-dropped =
-        let i = recordOf σ m in
-        goes-put _ _ i (λ h. omega (arith, put-same σ (MessageState i) stateDropped))
-        (λ e. put-other σ (MessageState i) (MessageState r) stateDropped (λ q. e (cc))) (λ _. refl) none-leaves
+    goes-dropped owner i =
+        let at = recordOf σ m in
+        goes-put _ _ at (λ h. omega (arith, put-same σ (MessageState at) stateDropped))
+        (λ e. put-other σ (MessageState at) (MessageState r) stateDropped (λ q. e (cc))) (λ _. refl) none-leaves
 
     goes-begins : (c : ℕ) (v : Vector) → Goes (Deliver m) (beside (intervalBegins σ c m (recordOf σ m) v) g)
     unfolding intervalBegins intervalAdded put same putPart
@@ -245,14 +246,12 @@ module _ (L : Limits) (σ : State) (r : ℕ) (u : r < used σ) where
         (λ e. stay (MessageState r) refl ∙ rw (ne-eqb r i e)) (λ d. stay (Incarnation d) refl) none-leaves
 
   goes-deliver : (g : List ℕ) (m : ℕ) → Goes (Deliver m) (beside (stepDeliver L σ m) g)
-  unfolding stepDeliver deliver
+  unfolding stepDeliver
   goes-deliver g m =
       goes-refusing _ g _ _
       (λ q. let released = messageAllowed σ (recordOf σ m) stateReleased q .state-is in
-      let goes : After → Type 0 = λ o. Goes (Deliver m) (beside o g) in
-      cond-ind goes (condemned σ _ _) (λ _. goes-dropped g m released)
-      (λ _. cond-ind goes (conflict _ _ _) (λ _. goes-same _ _ g)
-      (λ _. cond-ind goes (chainFull L σ _) (λ _. goes-same _ _ g) (λ _. goes-begins g m released _ _))))
+      deliver-cases L σ (recordOf σ m) m (λ o. Goes (Deliver m) (beside o g)) (λ _. goes-dropped g m released _ _) (λ _. goes-same _ _ g) (λ _. goes-same _ _ g)
+      (λ _ _ _. goes-begins g m released _ _))
 
   -- X and H remove intervals, after other words have changed
   goes-removed : (x : Command) (a : Answer) (g : List ℕ) (ρ : State) (c k : ℕ) → Unmoved σ ρ → c < σ Size → Goes x (afterBoth a (removed ρ c k) g)

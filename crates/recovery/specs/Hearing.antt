@@ -189,12 +189,12 @@ module _ {t t₁ : List ℕ} {hearer owner i known k : ℕ} (w : Walked t t₁ h
           let f = lowest (state t₁) hearer (chain .live-pos) in
           record { chain = chain; kept = omega (arith, f .pos, w .place-is); room = room-live (omega arith) (chain .live-le) (chain .numbers-le); below = omega arith; left = omega arith }
 
-      pub hear-undone : own < lastIncarnation → {t₂ : List ℕ} {a : Answer} → out a t₂ ≡ written (undoing (state t₁) hearer k) → out a t₂ ≡ written (hear (state t) hearer owner i)
+      pub hear-undone : own < lastIncarnation → {t₂ : List ℕ} {a : Answer} → out a t₂ ≡ written (undoing (state t₁) hearer owner i k) → out a t₂ ≡ written (hear (state t) hearer owner i)
       unfolding hear
       hear-undone m e₂ =
           let x = number-same (state t₁) heard agrees hearer k (chain .named) ∙ numbers-noted (state t) hearer owner i .number hearer k in
           let again = replayed-same (state t₁) heard agrees hearer k (chain .named) (omega (arith, chain .live-le)) ∙ noted-replayed (state t) hearer owner i hearer k in
           let left = words-same _ _ (agree-rolled (state t₁) heard hearer k (hear-starts m) agrees) in
           rw (some, lt-leb lastIncarnation (state t (Incarnation hearer)) (omega (arith, own-kept)))
-          (e₂ ∙ (λ d. out (Rolled hearer (x d) (live-kept d - k) (again d)) (left d))
-          ∙ ap (λ k. out (Rolled hearer (numberOf (state t) hearer k) (state t (LiveCount hearer) - k) (replayed (state t) hearer k)) (words (rolledBack heard hearer k))) low)
+          (e₂ ∙ (λ d. out (Rolled hearer (x d) (live-kept d - k) (again d) owner i) (left d))
+          ∙ ap (λ k. out (Rolled hearer (numberOf (state t) hearer k) (state t (LiveCount hearer) - k) (replayed (state t) hearer k) owner i) (words (rolledBack heard hearer k))) low)

@@ -24,10 +24,10 @@ module _ (t t₁ : List ℕ) (hearer j k : ℕ) (s : Starts (state t) hearer k) 
   unfolding rolledBack
   undone-words t₂ all e₂ = then-removed _ hearer k kept-starts e₁ e₂ ∙ ap (λ j. words (removed (loggedTo (state t) hearer j) hearer k)) all
 
--- what is answered and left where the intervals of the hearer from place k on are undone
-abbrev pub undoing : State → ℕ → ℕ → After
-undoing σ hearer k = after (Rolled hearer (numberOf σ hearer k) (σ (LiveCount hearer) - k) (replayed σ hearer k)) (rolledBack σ hearer k)
+-- what is answered and left where the intervals of the hearer from place k on are undone, for the crash of the owner's incarnation i
+abbrev pub undoing : State → ℕ → ℕ → ℕ → ℕ → After
+undoing σ hearer owner i k = after (Rolled hearer (numberOf σ hearer k) (σ (LiveCount hearer) - k) (replayed σ hearer k) owner i) (rolledBack σ hearer k)
 
-pub undo-done : (t u : List ℕ) (hearer live k x again : ℕ) → live ≡ state t (LiveCount hearer) → x ≡ numberOf (state t) hearer k → again ≡ replayed (state t) hearer k →
-    u ≡ words (rolledBack (state t) hearer k) → out (Rolled hearer x (live - k) again) u ≡ written (undoing (state t) hearer k)
-undo-done t u hearer live k x again el ex ea e d = out (Rolled hearer (ex d) (el d - k) (ea d)) (e d)
+pub undo-done : (t u : List ℕ) (hearer owner i live k x again : ℕ) → live ≡ state t (LiveCount hearer) → x ≡ numberOf (state t) hearer k → again ≡ replayed (state t) hearer k →
+    u ≡ words (rolledBack (state t) hearer k) → out (Rolled hearer x (live - k) again owner i) u ≡ written (undoing (state t) hearer owner i k)
+undo-done t u hearer owner i live k x again el ex ea e d = out (Rolled hearer (ex d) (el d - k) (ea d) owner i) (e d)

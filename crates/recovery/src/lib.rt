@@ -83,16 +83,17 @@ pub fn roll_back(t: &mut [u32], hearer: usize, k: u32)
     restart::remove_intervals(t, hearer, k);
 }
 
-// The same, with the answer to it; `flagged` is the number of the latest checkpoint that is kept.
-pub fn undo(t: &mut [u32], hearer: usize, k: u32, flagged: u32) -> Answer
-    requires { ⌜ (length (now t) ≡ tableWords) × Starts (state (now t)) hearer k × (flagged ≡ latestFlagged (state (now t)) hearer k) ⌝ }
-    ensures { λ a. ⌜ out a (now (t .exit)) ≡ written (undoing (state (now (t .entry))) hearer k) ⌝ }
+// The same, with the answer to it, which names the crash of the owner's incarnation i; `flagged` is the number of the latest
+// checkpoint that is kept.
+pub fn undo(t: &mut [u32], hearer: usize, owner: usize, i: usize, k: u32, flagged: u32) -> Answer
+    requires { ⌜ (length (now t) ≡ tableWords) × Starts (state (now t)) hearer k × (flagged ≡ latestFlagged (state (now t)) hearer k) × (owner < controllers) × (i < incarnations) ⌝ }
+    ensures { λ a. ⌜ out a (now (t .exit)) ≡ written (undoing (state (now (t .entry))) hearer owner i k) ⌝ }
 {
     let live = table::live_count(t, hearer);
     let x = table::number_of(t, hearer, k);
     let again = x - flagged;
     roll_back(t, hearer, k);
-    Answer::Rolled(hearer as u32, x, live - k, again)
+    Answer::Rolled(hearer as u32, x, live - k, again, owner as u32, i as u32)
 }
 
 // The end word of the owner's incarnation i is copied to the hearer, and the hearer's known word is raised to it.
@@ -153,7 +154,7 @@ pub fn hear_crash(t: &mut [u32], hearer: usize, owner: usize, i: usize) -> Answe
         take_back(t, hearer, owner, i, known);
         return Answer::Refused(refusal::INCARNATIONS_USED_UP);
     }
-    undo(t, hearer, stop.place as u32, stop.flagged)
+    undo(t, hearer, owner, i, stop.place as u32, stop.flagged)
 }
 
 // H, on a table in form.

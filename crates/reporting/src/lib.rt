@@ -20,11 +20,13 @@ fn report(a: Answer) -> Reported
         Answer::Released(m, mask) => Reported(2, [m, mask, 0, 0, 0, 0]),
         Answer::Held(m, mask) => Reported(3, [m, mask, 0, 0, 0, 0]),
         Answer::Delivered(m, i, x) => Reported(4, [m, i, x, 0, 0, 0]),
-        Answer::Dropped(m) => Reported(5, [m, 0, 0, 0, 0, 0]),
+        Answer::Dropped(m, owner, i) => Reported(5, [m, owner, i, 0, 0, 0]),
         Answer::Waits(m) => Reported(6, [m, 0, 0, 0, 0, 0]),
         Answer::Crashed(c, i, k, lost, replayed) => Reported(7, [c, i, k, lost, replayed, 0]),
         Answer::Heard(b) => Reported(8, [b, 0, 0, 0, 0, 0]),
-        Answer::Rolled(b, k, undone, replayed) => Reported(9, [b, k, undone, replayed, 0, 0]),
+        Answer::Rolled(b, k, undone, replayed, owner, i) => {
+            Reported(9, [b, k, undone, replayed, owner, i])
+        }
         Answer::Refused(number) => Reported(10, [number, 0, 0, 0, 0, 0]),
         Answer::SetReleased(mask) => Reported(11, [mask, 0, 0, 0, 0, 0]),
         Answer::SetHeld(mask) => Reported(12, [mask, 0, 0, 0, 0, 0]),

@@ -10,20 +10,20 @@ use Rattle.base.specs.Ranges.{allb, anyb, first}
 use Rattle.base.specs.Lists.{tab}
 use Rattle.base.specs.Cases.{allOf, firstOf}
 use Rattle.base.specs.Splice.{splice}
-use Rattle.table.specs.Field.{State, OfHead, Known, End, Size, SentCount, Discarded, Gap, Degree, LiveCount, StableCount, PlaceNumber, Cause, Flag, PairNumber, MessageState, Sender, Receiver, SendingNumber, Payload, MessagePairNumber, desk, same}
+use Rattle.table.specs.Field.{State, OfHead, Known, End, Size, SentCount, Discarded, Gap, Degree, Incarnation, LiveCount, StableCount, PlaceNumber, Cause, Flag, PairNumber, MessageState, Sender, Receiver, SendingNumber, Payload, MessagePairIncarnation, MessagePairNumber, desk, same}
 use Rattle.table.specs.Change.{blank, put, putPart, clearPlaces, putStates}
 use Rattle.table.specs.Numbering.{numberOf, placeOf, used, lastGiven, recordOf, messageOf}
 use Rattle.rules.specs.Limits.{house, lastEntry, lastGap}
 use Rattle.rules.specs.Refusal.{LEDGER, CONTROLLER, DEGREE, SAME-CONTROLLER, SENDERS, LEDGER-USED-UP}
-use Rattle.rules.specs.Vector.{placeVector, messageVector, flat, knownStable, filterPair, filtered, condemnedPair, condemned, maskTo, mask, conflictPair, conflict, mergePair, merged}
+use Rattle.rules.specs.Vector.{placeVector, messageVector, flat, knownStable, filterPair, filtered, condemnedPair, condemned, condemning, maskTo, mask, conflictPair, conflict, mergePair, merged}
 use Rattle.rules.specs.Form.{stateHeld, stateReleased, stateDelivered, stateLost, stateDropped, statePublished, stateOk, zeros, pairOk, vectorOk, highest, rowOk, placeOk, messageOk, headZeros, headOk}
 use Rattle.rules.specs.Ledger.{countAt, entryAt, ledgerWords, countOf, ledgerOk, appended, blankLedger}
 use Rattle.rules.specs.Shared.{placeRecord, logged, loggedTo, checkpointed, forced, capped, causing, causedIn, causesIn, causes, offeredAgain, newVector, placed, entered, restarted, heldOrDropped, dropHeld, startAnew, removed, latestFlagged, replayed}
-use Rattle.rules.specs.Steps.{refusing, refusingBoth, openHouse, stepOpen, stepGap, recordsFull, stepSend, ownVector, letOut, gone, ledgerOut, mayGo, release, stepRelease, intervalAdded, intervalBegins, noPlace, chainFull, deliver, toldRow, told, crashed, crashFull, stepCrash, noted, lowestCondemned, rolledBack, hear}
+use Rattle.rules.specs.Steps.{refusing, refusingBoth, openHouse, stepOpen, stepGap, recordsFull, stepSend, ownVector, letOut, gone, ledgerOut, mayGo, release, stepRelease, intervalAdded, intervalBegins, noPlace, chainFull, prospect, comesOf, deliver, toldRow, told, crashed, crashFull, stepCrash, noted, lowestCondemned, rolledBack, hear}
 use Rattle.rules.specs.Sets.{someAbsent, badLength, namedBefore, namedTwice, someNotHeld, manySenders, someFull, bits, union, someForDesk, setMayGo, desks, outTo, ledgerTo, releaseAll, stepSet}
 use Rattle.rules.specs.Report.{report}
 use Rattle.rules.specs.Starred.{Row, _is_by_, rows-hold, no, yes, truth, answer}
-use Rattle.rules.specs.declared.Answer.the-variants.{Done, Sent, Released, Held, Delivered, Crashed, Rolled, Refused, SetReleased, SetHeld}
+use Rattle.rules.specs.declared.Answer.the-variants.{Done, Sent, Released, Held, Delivered, Dropped, Crashed, Rolled, Refused, SetReleased, SetHeld}
 
 -- message 1, in record 0, is from controller 0, of degree 0, and has the pair (0,2) of controller 1, which controller 0 knows to be stable
 abbrev since-logged : State
@@ -111,6 +111,15 @@ published-taken = put (put one-taken (Receiver 0) desk) (MessageState 0) statePu
 abbrev one-orphan : State
 one-orphan = put (put (put (put (put (put blank (LiveCount 0) 4) (Flag 0 0) 1) (Flag 0 1) 1) (Flag 0 3) 1) (PairNumber 0 3 1) 2) (End 1 1 0) 1
 
+-- message 1, in record 0 and for controller 0, has the pairs (1,5) of controller 1 and (0,3) of controller 2, and controller 0 has heard
+-- the crashes that condemn both. It has also heard that controller 1 crashed in incarnation 2, and controller 1 is in incarnation 3 by now.
+abbrev two-condemn : State
+two-condemn = put (put (put (put (put (put (put blank (MessagePairIncarnation 0 1) 1) (MessagePairNumber 0 1) 5) (MessagePairNumber 0 2) 3) (End 0 1 1) 4) (End 0 2 0) 2) (End 0 1 2) 4) (Incarnation 1) 3
+
+-- the same, but the crash that condemns the pair of controller 1 is known to that controller alone
+abbrev one-unheard : State
+one-unheard = put (put two-condemn (End 0 1 1) 0) (End 1 1 1) 4
+
 -- controller 0 has three live intervals, of which two are stable and the first is a checkpoint; the gap is q
 abbrev with-gap : ℕ → State
 with-gap q = put (put (put (put blank (LiveCount 0) 3) (StableCount 0) 2) (Flag 0 0) 1) Gap q
@@ -134,7 +143,7 @@ abbrev stands : State → ℕ → ℕ → List ℕ
 stands σ p i = σ (Flag 0 p) ∷ σ (StableCount 0) ∷ σ (Known 0 0 i) ∷ []
 
 pub told-apart : List Row
-unfolding put same putPart clearPlaces putStates tab allb anyb numberOf placeOf used recordOf messageOf placeVector messageVector flat knownStable filterPair filtered condemnedPair condemned maskTo mask conflictPair conflict mergePair merged placeRecord logged loggedTo checkpointed forced capped causing causedIn causesIn causes offeredAgain newVector placed entered restarted heldOrDropped dropHeld startAnew removed latestFlagged replayed stateOk zeros pairOk vectorOk highest rowOk placeOk messageOk lastGiven headZeros headOk ledgerOk appended blankLedger splice allOf firstOf refusing refusingBoth openHouse stepOpen stepGap recordsFull stepSend ownVector letOut gone ledgerOut mayGo release stepRelease intervalAdded intervalBegins noPlace deliver toldRow told crashed stepCrash noted lowestCondemned rolledBack hear someAbsent namedBefore namedTwice someNotHeld manySenders someFull bits union someForDesk setMayGo desks outTo ledgerTo releaseAll stepSet report first onesIn ones
+unfolding put same putPart clearPlaces putStates tab allb anyb numberOf placeOf used recordOf messageOf placeVector messageVector flat knownStable filterPair filtered condemnedPair condemned condemning maskTo mask conflictPair conflict mergePair merged placeRecord logged loggedTo checkpointed forced capped causing causedIn causesIn causes offeredAgain newVector placed entered restarted heldOrDropped dropHeld startAnew removed latestFlagged replayed stateOk zeros pairOk vectorOk highest rowOk placeOk messageOk lastGiven headZeros headOk ledgerOk appended blankLedger splice allOf firstOf refusing refusingBoth openHouse stepOpen stepGap recordsFull stepSend ownVector letOut gone ledgerOut mayGo release stepRelease intervalAdded intervalBegins noPlace prospect comesOf deliver toldRow told crashed stepCrash noted lowestCondemned rolledBack hear someAbsent namedBefore namedTwice someNotHeld manySenders someFull bits union someForDesk setMayGo desks outTo ledgerTo releaseAll stepSet report first onesIn ones
 told-apart =
     -- "Counting stored pairs at release instead of filtered ones": it would be held.
     (answer (release house since-logged [] 1 0 .answer) is answer (Released 1 0) by refl)
@@ -190,11 +199,11 @@ told-apart =
     -- W2: a message to the desk changed as a cause.
     ∷ ((crashed published-taken 0 (MessageState 0) ∷ []) is (statePublished ∷ []) by refl)
     -- W3: replayed from the checkpoint of the condemned place itself, or from the first place's though a later one is kept.
-    ∷ (answer (hear one-orphan 0 1 0 .answer) is answer (Rolled 0 3 1 1) by refl)
+    ∷ (answer (hear one-orphan 0 1 0 .answer) is answer (Rolled 0 3 1 1 1 0) by refl)
     -- W3: the first place's checkpoint left out.
-    ∷ (answer (hear (put one-orphan (Flag 0 1) 0) 0 1 0 .answer) is answer (Rolled 0 3 1 2) by refl)
+    ∷ (answer (hear (put one-orphan (Flag 0 1) 0) 0 1 0 .answer) is answer (Rolled 0 3 1 2 1 0) by refl)
     -- W3: a condemned place passed over: the second interval rests on lost work, too.
-    ∷ (answer (hear (put one-orphan (PairNumber 0 1 1) 2) 0 1 0 .answer) is answer (Rolled 0 1 3 0) by refl)
+    ∷ (answer (hear (put one-orphan (PairNumber 0 1 1) 2) 0 1 0 .answer) is answer (Rolled 0 1 3 0 1 0) by refl)
     -- W4: message 1, in record 0, begins number 4, three above the checkpoint. With a gap of 3 it is flagged, and all is logged: "Q or
     -- more" and not more than Q, not flagged without logging, and the new one logged too.
     ∷ (stands (deliver house (with-gap 3) 1 0 .left) 3 0 is (1 ∷ 4 ∷ 4 ∷ []) by refl)
@@ -256,11 +265,16 @@ told-apart =
     ∷ ((crashed some-discarded 0 (End 0 0 0) ∷ []) is (6 ∷ []) by refl)
     ∷ ((crashed some-discarded 0 (PlaceNumber 0 1) ∷ crashed some-discarded 0 (PairNumber 0 1 0) ∷ crashed some-discarded 0 (Known 0 0 1) ∷ []) is (7 ∷ 7 ∷ 7 ∷ []) by refl)
     -- H: the answer, with what is replayed; a held message that was sent from the last interval kept stays held.
-    ∷ (answer (hear (put one-orphan (Discarded 0) 5) 0 1 0 .answer) is answer (Rolled 0 8 1 1) by refl)
+    ∷ (answer (hear (put one-orphan (Discarded 0) 5) 0 1 0 .answer) is answer (Rolled 0 8 1 1 1 0) by refl)
     ∷ ((rolledBack (put (put one-held (Discarded 0) 5) (SendingNumber 0) 7) 0 2 (MessageState 0) ∷ []) is (stateHeld ∷ []) by refl)
     -- The form: a place's number. Back from a number: the place. The word after the counts, the gap, taken for one.
     ∷ (truth (placeOk house 1 (deliver house (put some-discarded SentCount 1) 1 0 .left) 0 3) is yes by refl)
     ∷ ((placeOf some-discarded 0 7 ∷ numberOf some-discarded 8 1 ∷ []) is (1 ∷ 1 ∷ []) by refl)
+    -- W6: the highest controller blamed, its newest incarnation or its newest crash in place of the pair's; a crash that the receiver
+    -- hasn't heard. Of a rollback: the hearer blamed, or the incarnation that the crashed controller is in now.
+    ∷ (answer (deliver house two-condemn 1 0 .answer) is answer (Dropped 1 1 1) by refl)
+    ∷ (answer (deliver house one-unheard 1 0 .answer) is answer (Dropped 1 2 0) by refl)
+    ∷ (answer (hear (put one-orphan (Incarnation 1) 2) 0 1 0 .answer) is answer (Rolled 0 3 1 1 1 0) by refl)
     -- A telling of less than is known, or of one incarnation only; a checkpoint that leaves the newest interval unlogged. A held message
     -- that rests on it would never go out.
     ∷ ((told untold 1 0 (Known 0 1 0) ∷ told untold 1 0 (Known 0 1 1) ∷ []) is (2 ∷ 3 ∷ []) by refl)

@@ -1,5 +1,6 @@
 -- What each answer is on paper: its word, the number that the C interface gives it, and its values in the order of document 01; W5: "The
--- answer is released or held, with the union".
+-- answer is released or held, with the union"; W6: `dropped` and `rolled` "now name the crash by controller and incarnation, added at the
+-- end".
 use mathlib.Core.List.{List, [], _∷_}
 use Prim.Native.Nat.{ℕ}
 use Rattle.rules.specs.Bytes.{bytes}
@@ -20,11 +21,11 @@ report (Sent m) = says (bytes "sent") 1 (m ∷ [])
 report (Released m mask) = says (bytes "released") 2 (m ∷ mask ∷ [])
 report (Held m mask) = says (bytes "held") 3 (m ∷ mask ∷ [])
 report (Delivered m i x) = says (bytes "delivered") 4 (m ∷ i ∷ x ∷ [])
-report (Dropped m) = says (bytes "dropped") 5 (m ∷ [])
+report (Dropped m owner i) = says (bytes "dropped") 5 (m ∷ owner ∷ i ∷ [])
 report (Waits m) = says (bytes "waits") 6 (m ∷ [])
 report (Crashed c i k lost replayed) = says (bytes "crashed") 7 (c ∷ i ∷ k ∷ lost ∷ replayed ∷ [])
 report (Heard b) = says (bytes "heard") 8 (b ∷ [])
-report (Rolled b k undone replayed) = says (bytes "rolled") 9 (b ∷ k ∷ undone ∷ replayed ∷ [])
+report (Rolled b k undone replayed owner i) = says (bytes "rolled") 9 (b ∷ k ∷ undone ∷ replayed ∷ owner ∷ i ∷ [])
 report (Refused number) = says (bytes "refused") 10 (number ∷ [])
 report (SetReleased mask) = says (bytes "released") 11 (mask ∷ [])
 report (SetHeld mask) = says (bytes "held") 12 (mask ∷ [])

@@ -12,7 +12,7 @@ use Rattle.table.specs.Numbering.{numberOf}
 use Rattle.rules.specs.Limits.{house}
 use Rattle.rules.specs.Vector.{pair, noPair, pairOf, placeVector, messageVector, flat, knownStable, filterPair, filtered, condemnedPair, condemned, maskTo, mask, conflictPair, conflict, mergePair, merged}
 use Rattle.rules.specs.Shared.{placeRecord, latestFlagged, replayed, logged, loggedTo, checkpointed, forced, capped}
-use Rattle.rules.specs.Steps.{ownVector, letOut, gone, ledgerOut, mayGo, release, intervalAdded, intervalBegins, noPlace, deliver}
+use Rattle.rules.specs.Steps.{ownVector, letOut, gone, ledgerOut, mayGo, release, intervalAdded, intervalBegins, noPlace, prospect, comesOf, deliver}
 use Rattle.rules.specs.Report.{report}
 use Rattle.rules.specs.declared.Answer.{Answer}
 use Rattle.rules.specs.declared.Answer.the-variants.{Released, Held, Delivered, Waits}
@@ -70,7 +70,7 @@ abbrev flagged : State
 flagged = put (put blank (Flag 0 0) 1) (Flag 0 3) 1
 
 pub starred : List Row
-unfolding put same putPart tab anyb numberOf placeVector messageVector flat knownStable filterPair filtered condemnedPair condemned maskTo mask conflictPair conflict mergePair merged placeRecord latestFlagged replayed logged loggedTo checkpointed forced capped ownVector letOut gone ledgerOut mayGo release intervalAdded intervalBegins noPlace deliver report onesIn ones
+unfolding put same putPart tab anyb numberOf placeVector messageVector flat knownStable filterPair filtered condemnedPair condemned maskTo mask conflictPair conflict mergePair merged placeRecord latestFlagged replayed logged loggedTo checkpointed forced capped ownVector letOut gone ledgerOut mayGo release intervalAdded intervalBegins noPlace prospect comesOf deliver report onesIn ones
 starred =
     -- 1. Pair (0,4), end 4 in incarnation 0: not condemned.
     (truth (condemnedPair ended 1 0 (pair 0 4)) is no by refl)

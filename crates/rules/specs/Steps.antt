@@ -28,12 +28,14 @@ use Rattle.table.specs.Layout.{controllers, incarnations}
 use Rattle.table.specs.Numbering.{numberOf, used, nextMessage, recordOf, posted}
 use Rattle.rules.specs.Limits.{Limits, lastIncarnation, lastGap}
 use Rattle.rules.specs.Refusal.{LEDGER, CONTROLLER, MESSAGE, DEGREE, SAME-CONTROLLER, STATE, LOG-COUNT, NO-SUCH-CRASH, ALREADY-HEARD, MESSAGES-USED-UP, PLACES-USED-UP, INCARNATIONS-USED-UP, LEDGER-USED-UP}
-use Rattle.rules.specs.Vector.{Vector, pair, noPair, placeVector, messageVector, flat, filtered, condemned, mask, conflict, merged}
+use Rattle.rules.specs.Vector.{Vector, pair, noPair, incarnation, pairOf, placeVector, messageVector, flat, filtered, condemned, condemning, mask, conflict, merged}
 use Rattle.rules.specs.Form.{stateHeld, stateReleased, stateDelivered, stateDropped, statePublished, forDesk}
 use Rattle.rules.specs.Ledger.{ledgerWords, countOf, entryOf, ledgerOk, appended, blankLedger}
 use Rattle.rules.specs.Shared.{newestPlace, placeRecord, logged, loggedTo, checkpointed, replayed, capped, removed}
 use Rattle.rules.specs.declared.Answer.{Answer}
 use Rattle.rules.specs.declared.Answer.the-variants.{Done, Sent, Released, Held, Delivered, Dropped, Waits, Crashed, Heard, Rolled, Refused}
+use Rattle.rules.specs.declared.Prospect.{Prospect}
+use Rattle.rules.specs.declared.Prospect.the-variants.{WouldDrop, WouldWait, NoPlaceLeft, WouldBegin}
 
 -- an answer, and the state that is left
 pub record After : Type 0 where
@@ -213,20 +215,34 @@ noPlace L σ c k = L .places ≤? k
 abbrev pub chainFull : Limits → State → ℕ → Bool
 chainFull L σ c = noPlace L σ c (σ (LiveCount c))
 
--- D m, in record r: "deliver at its receiver c. Condemned to c: dropped. Else filter both c's newest vector and the message's
--- for c; if an owner other than c has non-empty pairs of different incarnations in the two, it waits and no word changes. Else
--- a new interval begins .."
-unfoldable pub deliver : Limits → State → ℕ → ℕ → After
-deliver L σ m r =
+-- D: "filter both c's newest vector and the message's for c", of the message in record r
+abbrev pub ours : State → ℕ → Vector
+ours σ c = filtered σ c (placeVector σ c (newestPlace σ c))
+
+abbrev pub theirs : State → ℕ → ℕ → Vector
+theirs σ c r = filtered σ c (messageVector σ r)
+
+-- D, of the message in record r: "deliver at its receiver c. Condemned to c: dropped. Else filter both ..; if an owner other than c has
+-- non-empty pairs of different incarnations in the two, it waits and no word changes. Else a new interval begins", if a place is left.
+-- W6: "For a dropped delivery it is the lowest-numbered controller whose pair condemns the vector, with that pair's incarnation."
+unfoldable pub prospect : Limits → State → ℕ → Prospect
+prospect L σ r =
     let c = σ (Receiver r) in
-    let ours = filtered σ c (placeVector σ c (newestPlace σ c)) in
-    let theirs = filtered σ c (messageVector σ r) in
-    let dropping = after (Dropped m) (put σ (MessageState r) stateDropped) in
-    let waiting = after (Waits m) σ in
-    let full = refuse PLACES-USED-UP σ in
-    cond (condemned σ c (messageVector σ r)) dropping
-    (cond (conflict c ours theirs) waiting
-    (cond (chainFull L σ c) full (intervalBegins σ c m r (merged ours theirs))))
+    let sent = messageVector σ r in
+    let owner = condemning σ c sent in
+    cond (condemned σ c sent) (WouldDrop owner (incarnation (pairOf sent owner)))
+    (cond (conflict c (ours σ c) (theirs σ c r)) WouldWait
+    (cond (chainFull L σ c) NoPlaceLeft WouldBegin))
+
+-- what then comes of message m, in record r
+unfoldable pub comesOf : State → ℕ → ℕ → Prospect → After
+comesOf σ m r (WouldDrop owner i) = after (Dropped m owner i) (put σ (MessageState r) stateDropped)
+comesOf σ m r WouldWait = after (Waits m) σ
+comesOf σ m r NoPlaceLeft = refuse PLACES-USED-UP σ
+comesOf σ m r WouldBegin = let c = σ (Receiver r) in intervalBegins σ c m r (merged (ours σ c) (theirs σ c r))
+
+unfoldable pub deliver : Limits → State → ℕ → ℕ → After
+deliver L σ m r = comesOf σ m r (prospect L σ r)
 
 unfoldable pub stepDeliver : Limits → State → ℕ → After
 stepDeliver L σ m = let r = recordOf σ m in refusing (messageRefusals σ r stateReleased) σ (deliver L σ m r)
@@ -301,14 +317,15 @@ lowestCondemned σ hearer = 1 + first (σ (LiveCount hearer) - 1) (λ (j : ℕ).
 unfoldable pub rolledBack : State → ℕ → ℕ → State
 rolledBack σ hearer k = let kept = loggedTo σ hearer k in removed kept hearer k
 
--- H after its refusals; "If none, done. Otherwise that place's index is k"; "13 a hearing that must undo, in incarnation 15"
+-- H after its refusals; "If none, done. Otherwise that place's index is k"; "13 a hearing that must undo, in incarnation 15". W6: "For a
+-- rollback it is the crash just heard."
 unfoldable pub hear : State → ℕ → ℕ → ℕ → After
 hear σ hearer owner i =
     let heard = noted σ hearer owner i in
     let k = lowestCondemned heard hearer in
     let undone = σ (LiveCount hearer) - k in
     let late = refuse INCARNATIONS-USED-UP σ in
-    let rolling = after (Rolled hearer (numberOf σ hearer k) undone (replayed σ hearer k)) (rolledBack heard hearer k) in
+    let rolling = after (Rolled hearer (numberOf σ hearer k) undone (replayed σ hearer k) owner i) (rolledBack heard hearer k) in
     cond (σ (LiveCount hearer) ≤? k) (after (Heard hearer) heard)
     (cond (lastIncarnation ≤? σ (Incarnation hearer)) late rolling)
 

@@ -5,7 +5,7 @@ use mathlib.Core.List.{List, [], _∷_}
 use Prim.Native.Nat.{ℕ, zero, suc, _+_, _^_, _/_, _%_}
 use lib.ListN.{getD}
 use Rattle.base.specs.Choice.{_==_, _≤?_, _<?_}
-use Rattle.base.specs.Ranges.{anyb}
+use Rattle.base.specs.Ranges.{anyb, first}
 use Rattle.base.specs.Lists.{tab}
 use Rattle.table.specs.Field.{State, Known, End, PairIncarnation, PairNumber, MessagePairIncarnation, MessagePairNumber}
 use Rattle.table.specs.Layout.{controllers, vectorWords}
@@ -66,6 +66,10 @@ condemnedPair σ holder owner p =
 -- "A vector is condemned when one of its pairs is."
 unfoldable pub condemned : State → ℕ → Vector → Bool
 condemned σ holder v = anyb controllers (λ (owner : ℕ). condemnedPair σ holder owner (pairOf v owner))
+
+-- W6: "the lowest-numbered controller whose pair condemns the vector": that one, or the number of controllers if there is none
+unfoldable pub condemning : State → ℕ → Vector → ℕ
+condemning σ holder v = first controllers (λ (owner : ℕ). condemnedPair σ holder owner (pairOf v owner))
 
 -- R: "the mask has 2 to the power c for each non-empty pair", here of the first n pairs.
 unfoldable pub maskTo : ℕ → Vector → ℕ

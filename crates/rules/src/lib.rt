@@ -38,20 +38,29 @@ pub enum Answer {
     Held(u32, u32),
     // message, incarnation and number of the new interval
     Delivered(u32, u32, u32),
-    // message
-    Dropped(u32),
+    // message, controller and ended incarnation of the crash that condemns it
+    Dropped(u32, u32, u32),
     // message
     Waits(u32),
     // controller, ended incarnation, kept number, intervals lost, intervals to replay
     Crashed(u32, u32, u32, u32, u32),
     // controller
     Heard(u32),
-    // controller, kept number, intervals undone, intervals to replay
-    Rolled(u32, u32, u32, u32),
+    // controller, kept number, intervals undone, intervals to replay, controller and ended incarnation of the crash heard
+    Rolled(u32, u32, u32, u32, u32, u32),
     // refusal number
     Refused(u32),
     // of a set: union of the masks
     SetReleased(u32),
     // of a set: union of the masks
     SetHeld(u32),
+}
+
+// What would come of delivering a released message.
+pub enum Prospect {
+    // controller and ended incarnation of the crash that condemns it
+    WouldDrop(u32, u32),
+    WouldWait,
+    NoPlaceLeft,
+    WouldBegin,
 }

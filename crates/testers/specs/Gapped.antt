@@ -51,7 +51,7 @@ rolling =
     -- 7 to 9: message 3 from (1;0,2) begins (2;0,3), which is forced
     ∷ line (Send 1 2 9) (Sent 3) ∷ line (Release 3) (Released 3 2) ∷ line (Deliver 3) (Delivered 3 0 3)
     -- 10 to 12: (1;0,2) is lost, the gap is 1, and controller 2 undoes (2;0,3), with its checkpoint: (2;0,2) is replayed
-    ∷ line (Crash 1) (Crashed 1 0 1 1 0) ∷ line (SetGap 1) Done ∷ line (Hear 2 1 0) (Rolled 2 2 1 1)
+    ∷ line (Crash 1) (Crashed 1 0 1 1 0) ∷ line (SetGap 1) Done ∷ line (Hear 2 1 0) (Rolled 2 2 1 1 1 0)
     ∷ []
 
 -- On states: each line has the words that its step writes; the rest is computed.

@@ -7,15 +7,14 @@ use Prim.Native.Nat.{ℕ}
 use borrow.Author.Tests.{eq-eqb}
 use Rattle.base.specs.Choice.{_==_, _≤?_, cond-ind}
 use Rattle.base.specs.Cases.{Case, firstOf}
-use Rattle.table.specs.Field.{State, Incarnation, LiveCount, Receiver}
+use Rattle.table.specs.Field.{State, Incarnation, LiveCount}
 use Rattle.rules.specs.Limits.{house, lastIncarnation}
 use Rattle.rules.specs.Refusal.{FORM, PLACES-USED-UP, INCARNATIONS-USED-UP, LEDGER-USED-UP}
-use Rattle.rules.specs.Vector.{placeVector, messageVector, filtered, condemned, conflict}
 use Rattle.rules.specs.Form.{inForm}
 use Rattle.laws.specs.Releasing.{release-cases}
-use Rattle.rules.specs.Shared.{newestPlace}
+use Rattle.laws.specs.Delivering.{deliver-cases}
 use Rattle.rules.specs.Report.{report}
-use Rattle.rules.specs.Steps.{After, after, refuse, refusing, AfterBoth, afterBoth, beside, refusingBoth, stepOpen, stepDegree, stepSend, release, stepRelease, intervalBegins, chainFull, deliver, stepDeliver, stepLog, stepCheckpoint, stepTell, stepCrash, stepGap, noted, lowestCondemned, hear, stepHear}
+use Rattle.rules.specs.Steps.{After, after, refuse, refusing, AfterBoth, afterBoth, beside, refusingBoth, stepOpen, stepDegree, stepSend, release, stepRelease, intervalBegins, deliver, stepDeliver, stepLog, stepCheckpoint, stepTell, stepCrash, stepGap, noted, lowestCondemned, hear, stepHear}
 use Rattle.rules.specs.Step.{perform, looksAtForm, stepOn}
 use Rattle.rules.specs.declared.Answer.{Answer}
 use Rattle.rules.specs.declared.Answer.the-variants.{Done, Sent, Released, Held, Delivered, Dropped, Waits, Crashed, Heard, Rolled, Refused}
@@ -71,14 +70,10 @@ module _ (σ : State) where
 
   -- D
   keeps-deliver : (m r : ℕ) → KeepsRefused σ (deliver house σ m r)
-  unfolding deliver intervalBegins report
+  unfolding intervalBegins report
   keeps-deliver m r =
-      let c = σ (Receiver r) in
-      let ours = filtered σ c (placeVector σ c (newestPlace σ c)) in
-      let theirs = filtered σ c (messageVector σ r) in
-      cond-ind (KeepsRefused σ) (condemned σ c (messageVector σ r)) (λ _. other σ (Dropped m) _ refl)
-      (λ _. cond-ind (KeepsRefused σ) (conflict c ours theirs) (λ _. other σ (Waits m) σ refl)
-      (λ _. cond-ind (KeepsRefused σ) (chainFull house σ c) (λ _. refused σ PLACES-USED-UP) (λ _. other σ (Delivered m _ _) _ refl)))
+      deliver-cases house σ r m (KeepsRefused σ) (λ _. other σ (Dropped m _ _) _ refl) (λ _. other σ (Waits m) σ refl) (λ _. refused σ PLACES-USED-UP)
+      (λ _ _ _. other σ (Delivered m _ _) _ refl)
 
   -- H
   keeps-hear : (hearer owner i : ℕ) → KeepsRefused σ (hear σ hearer owner i)
@@ -86,7 +81,7 @@ module _ (σ : State) where
   keeps-hear hearer owner i =
       let k = lowestCondemned (noted σ hearer owner i) hearer in
       cond-ind (KeepsRefused σ) (σ (LiveCount hearer) ≤? k) (λ _. other σ (Heard hearer) _ refl)
-      (λ _. cond-ind (KeepsRefused σ) (lastIncarnation ≤? σ (Incarnation hearer)) (λ _. refused σ INCARNATIONS-USED-UP) (λ _. other σ (Rolled hearer _ _ _) _ refl))
+      (λ _. cond-ind (KeepsRefused σ) (lastIncarnation ≤? σ (Incarnation hearer)) (λ _. refused σ INCARNATIONS-USED-UP) (λ _. other σ (Rolled hearer _ _ _ _ _) _ refl))
 
   -- after the host's refusals
   keeps-perform : (g : List ℕ) (x : Command) → KeepsBoth σ g (perform house σ g x)

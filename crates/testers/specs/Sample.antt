@@ -38,7 +38,7 @@ sample =
     -- 8: controller 1 crashes, and (1;0,2) is lost
     ∷ line (Crash 1) (Crashed 1 0 1 1 0)
     -- 9 and 10: controllers 0 and 2 hear of it; controller 2 undoes (2;0,2)
-    ∷ line (Hear 0 1 0) (Heard 0) ∷ line (Hear 2 1 0) (Rolled 2 1 1 0)
+    ∷ line (Hear 0 1 0) (Heard 0) ∷ line (Hear 2 1 0) (Rolled 2 1 1 0 1 0)
     -- 11: message 1, from whose delivery the lost interval began, was offered again; now it begins (1;1,3)
     ∷ line (Deliver 1) (Delivered 1 1 3)
     ∷ []

@@ -42,7 +42,7 @@ leftColumn = bytes "O 3 1\nS 0 1 7\nR 1\nD 1\nS 1 2 9\nR 2\nD 2\nS 2 0 5\nR 3\nL
 
 abbrev pub rightColumn : List ℕ
 rightColumn =
-    bytes "done\nsent 1\nreleased 1 0\ndelivered 1 0 2\nsent 2\nreleased 2 2\ndelivered 2 0 2\nsent 3\nheld 3 6\ndone\nreleased 3 2\ncrashed 1 0 1 1 0\ndelivered 3 0 2\nrolled 2 1 1 0\nrolled 0 1 1 0\nrefused 7\n"
+    bytes "done\nsent 1\nreleased 1 0\ndelivered 1 0 2\nsent 2\nreleased 2 2\ndelivered 2 0 2\nsent 3\nheld 3 6\ndone\nreleased 3 2\ncrashed 1 0 1 1 0\ndelivered 3 0 2\nrolled 2 1 1 0 1 0\nrolled 0 1 1 0 1 0\nrefused 7\n"
 
 left-asks : Asking (linesOf leftColumn) listingA
 unfolding linesOf parse fields asked areNumbers isNumber digits valueFrom command withNumbers stepOf

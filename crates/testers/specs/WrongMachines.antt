@@ -79,11 +79,11 @@ more lost undone again (Sent m) = Sent m
 more lost undone again (Released m mask) = Released m mask
 more lost undone again (Held m mask) = Held m mask
 more lost undone again (Delivered m i x) = Delivered m i x
-more lost undone again (Dropped m) = Dropped m
+more lost undone again (Dropped m owner i) = Dropped m owner i
 more lost undone again (Waits m) = Waits m
 more lost undone again (Crashed c i k l r) = Crashed c i k (l + lost) (r + again)
 more lost undone again (Heard b) = Heard b
-more lost undone again (Rolled b k u r) = Rolled b k (u + undone) (r + again)
+more lost undone again (Rolled b k u r owner i) = Rolled b k (u + undone) (r + again) owner i
 more lost undone again (Refused number) = Refused number
 more lost undone again (SetReleased mask) = SetReleased mask
 more lost undone again (SetHeld mask) = SetHeld mask
@@ -129,9 +129,9 @@ wrongMachines t g number mask =
     ∷ row (tracksFirst 5) (sampleAt t g 5) (Deliver 2)  -- and the new interval has the pair (0,2) of controller 1
     ∷ row (invents 1 0 0) (sampleAt t g 8) (Crash 1)  -- crashed 1 0 1 1 0
     ∷ row neverHears (sampleAt t g 9) (Hear 0 1 0)  -- heard 0
-    ∷ row saysHeard (sampleAt t g 10) (Hear 2 1 0)  -- rolled 2 1 1 0
-    ∷ row (invents 0 1 0) (sampleAt t g 10) (Hear 2 1 0)  -- rolled 2 1 1 0
-    ∷ row (invents 0 0 1) (sampleAt t g 10) (Hear 2 1 0)  -- rolled 2 1 1 0
+    ∷ row saysHeard (sampleAt t g 10) (Hear 2 1 0)  -- rolled 2 1 1 0 1 0
+    ∷ row (invents 0 1 0) (sampleAt t g 10) (Hear 2 1 0)  -- rolled 2 1 1 0 1 0
+    ∷ row (invents 0 0 1) (sampleAt t g 10) (Hear 2 1 0)  -- rolled 2 1 1 0 1 0
     ∷ []
 
 -- in no row does the machine give what the step function gives, so none of them meets the statement

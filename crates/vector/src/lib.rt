@@ -7,7 +7,7 @@ ghost use lib.Dec.{leb};
 ghost use lib.ListN.{length};
 ghost use Rattle.table.specs.Layout.{controllers, incarnations, places, messages, vectorWords, tableWords};
 ghost use Rattle.table.specs.Words.{state};
-ghost use Rattle.rules.specs.Vector.{incarnation, pairOf, placeVector, messageVector, flat, filterPair, filtered, condemnedPair, condemned, mask, conflictPair, conflict, mergePair, merged};
+ghost use Rattle.rules.specs.Vector.{incarnation, pairOf, placeVector, messageVector, flat, filterPair, filtered, condemnedPair, condemned, condemning, mask, conflictPair, conflict, mergePair, merged};
 ghost use Rattle.laws.specs.Facts.{Near};
 ghost use Rattle.vector.specs.At.{pairAt, vectorAt};
 
@@ -108,6 +108,21 @@ pub fn condemned_vector(t: &[u32], holder: usize, v: Vector) -> bool
         owner += 1;
     }
     some
+}
+
+// The lowest owner whose pair they condemn, or the number of controllers.
+pub fn condemning(t: &[u32], holder: usize, v: Vector) -> usize
+    requires { ⌜ (length (now t) ≡ tableWords) × (holder < controllers) × Near v ⌝ }
+    ensures { λ owner. ⌜ owner ≡ condemning (state (now (t .entry))) holder v ⌝ }
+{
+    let mut owner = 0;
+    while owner < table::CONTROLLERS {
+        if condemned_pair(t, holder, owner, v[owner]) {
+            return owner;
+        }
+        owner += 1;
+    }
+    owner
 }
 
 // Whether `owner`, other than c, has non-empty pairs of different incarnations.

@@ -40,8 +40,13 @@ undo-requires c κs =
     let some = early .before .before .before in
     let read = some .before .before in
     let stop = read .before .before in
-    let w = walked stop in
-    (search needs, hear-starts w (read .live-count .ensures) (some .if1 .left) (early .before .incarnation .ensures) (early .if2 .left), stop .lowest-condemned .ensures .1)
+    let w = walked stop in (
+      search needs,
+      hear-starts w (read .live-count .ensures) (some .if1 .left) (early .before .incarnation .ensures) (early .if2 .left),
+      stop .lowest-condemned .ensures .1,
+      w .hears .owner-lt,
+      w .hears .incarnation-lt,
+    )
 
 returns-3 : tie.Need-returns-3
 returns-3 c =

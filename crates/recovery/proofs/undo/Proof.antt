@@ -26,4 +26,4 @@ undo-spec =
     tie.close
     (tie.spec
     (λ c κs. search needs) number-of-requires sub-again (λ c κs. search needs) (λ c. search needs)
-    (λ c. search needs) (λ c. search needs) returns)
+    (λ c. search needs) (λ c. search needs) (λ c. search needs) (λ c. search needs) returns)

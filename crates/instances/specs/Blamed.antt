@@ -1,0 +1,79 @@
+-- A list in which two controllers lose work that a message rests on, and its delivery names the crash of the lower one.
+use mathlib.Core.Path.{_≡_, refl}
+use mathlib.Core.List.{List, [], _∷_, _++_}
+use Prim.Native.Nat.{ℕ}
+use lib.ListN.{length, take, set}
+use Rattle.base.specs.Lists.{tab}
+use Rattle.table.specs.Field.{OfMessage, SentCount, Degree, Known, End, MessageState, messageHead}
+use Rattle.table.specs.Layout.{controllers, tableWords}
+use Rattle.rules.specs.Limits.{house}
+use Rattle.rules.specs.Ledger.{ledgerWords}
+use Rattle.rules.specs.Report.{report}
+use Rattle.rules.specs.Vector.{Vector, pair, noPair, flat}
+use Rattle.rules.specs.Form.{stateHeld, stateReleased, stateDropped}
+use Rattle.rules.specs.Steps.{messageRecord, stepDegree}
+use Rattle.rules.specs.declared.Answer.the-variants.{Done, Sent, Released, Dropped, Crashed, Heard}
+use Rattle.rules.specs.declared.Command.the-variants.{SetDegree, Send, Release, Deliver, Crash, Hear}
+use Rattle.history.specs.History.{interval, sameInterval, changedAt, changedAtInterval, newest, member, those, degreeSet, sentFrom, joined, leaving, stabilized, hearing, losing, opening, forcedAt, capping, beginning, delivering, restarting, crashing, answers, valueAt, fedStep, fed}
+use Rattle.history.specs.Demand.{upTo}
+use Rattle.history.specs.Blame.{OrphanBy, DroppedFor}
+use Rattle.history.specs.Examples.{ListingLine, line, all}
+use Rattle.listing.specs.Quiet as Q
+use Rattle.listing.specs.Quiet.{steps, quiet-put, quiet-part, quiet-removed, blank-ok, goes, further}
+use Rattle.testers.specs.Sample.{sample, sample-run, allLook}
+use Rattle.testers.specs.Along.{stateAt, ledgerAt}
+use Rattle.demand.specs.Blamed.{blame}
+use Rattle.instances.specs.Lists.{callsOf, Computed, branch}
+use Rattle.instances.specs.Shown.{Shown, shown, shown-to, historyOf, told, answer-in}
+
+-- Message 3 from (2;0,2), which rests on (1;0,2), goes out to controller 0; then both are lost, and controller 1 crashes once more.
+abbrev pub twiceLost : List ListingLine
+twiceLost =
+    take 6 sample
+    -- 6 to 8
+    ++ line (SetDegree 2 2) Done ∷ line (Send 2 0 5) (Sent 3) ∷ line (Release 3) (Released 3 6)
+    -- 9 to 11: (1;0,2) is lost, nothing, and (2;0,2)
+    ∷ line (Crash 1) (Crashed 1 0 1 1 0) ∷ line (Crash 1) (Crashed 1 1 2 0 1) ∷ line (Crash 2) (Crashed 2 0 1 1 0)
+    -- 12 to 14: controller 0 hears all
+    ∷ line (Hear 0 1 0) (Heard 0) ∷ line (Hear 0 1 1) (Heard 0) ∷ line (Hear 0 2 0) (Heard 0)
+    -- 15
+    ∷ line (Deliver 3) (Dropped 3 1 0)
+    ∷ []
+
+twice-lost-run : Computed twiceLost
+unfolding steps stateAt ledgerAt sample-run goes branch stepDegree
+twice-lost-run =
+    let none : Vector = tab controllers (λ (_ : ℕ). noPair) in
+    let two : Vector = set (set none 1 (pair 0 2)) 2 (pair 0 2) in
+    branch sample-run 6
+    (Q.next (λ q. quiet-put (Degree 2) 2 refl q) refl refl  -- K 2 2
+    (Q.next (λ q. quiet-put SentCount 3 refl (quiet-part (OfMessage 2 0) 0 (messageRecord stateHeld 2 0 0 2 5 two) (λ _. refl) q)) refl refl  -- S 2 0 5
+    (goes (λ q. quiet-put (MessageState 2) stateReleased refl (quiet-part (OfMessage 2 0) messageHead (flat two) (λ _. refl) q)) refl blank-ok refl  -- R 3
+    (Q.next (λ q. quiet-removed 1 1 refl refl refl refl (further 3 refl _ _) (quiet-put (End 1 1 0) 1 refl q)) refl refl  -- X 1
+    (Q.next (λ q. quiet-removed 1 2 refl refl refl refl (further 3 refl _ _) (quiet-put (End 1 1 1) 2 refl q)) refl refl  -- X 1
+    (Q.next (λ q. quiet-removed 2 1 refl refl refl refl (further 3 refl _ _) (quiet-put (End 2 2 0) 1 refl q)) refl refl  -- X 2
+    (Q.next (λ q. quiet-put (Known 0 1 0) 1 refl (quiet-put (End 0 1 0) 1 refl q)) refl refl  -- H 0 1 0
+    (Q.next (λ q. quiet-put (Known 0 1 1) 2 refl (quiet-put (End 0 1 1) 2 refl q)) refl refl  -- H 0 1 1
+    (Q.next (λ q. quiet-put (Known 0 2 0) 1 refl (quiet-put (End 0 2 0) 1 refl q)) refl refl  -- H 0 2 0
+    (Q.next (λ q. quiet-put (MessageState 2) stateDropped refl q) refl refl  -- D 3
+    Q.end))))))))))
+
+-- what its lines tell: to controller 0 the sending interval is an orphan by the crash of controller 2, too
+twice-told : OrphanBy (historyOf (take 15 twiceLost)) (historyOf (take 15 twiceLost) .receiver 3) (historyOf (take 15 twiceLost) .sending 3) 2 0
+unfolding all fed fedStep answers report valueAt sameInterval changedAt changedAtInterval newest member those degreeSet sentFrom joined leaving stabilized hearing losing opening forcedAt capping beginning delivering restarting crashing
+twice-told = record { heard = refl; on = interval 2 0 2; owner-is = refl; rests = refl; lost = refl }
+
+module _ (t g : List ℕ) (long : length t ≡ tableWords) (wide : length g ≡ ledgerWords house) where
+  shown-twice : Shown t g twiceLost
+  unfolding allLook
+  shown-twice = shown t g long wide twiceLost refl twice-lost-run
+
+  -- the answer names controller 1 and the incarnation that its first crash ended
+  pub the-lower-is-named : DroppedFor (upTo t g 3 1 (callsOf (take 15 twiceLost))) 3 1 0
+  the-lower-is-named =
+      blame t g 3 1 (callsOf twiceLost) (shown-twice .from) .dropped (callsOf (take 15 twiceLost)) [] 3 3 1 0 refl
+      (answer-in t g twiceLost shown-twice (take 15 twiceLost) (line (Deliver 3) (Dropped 3 1 0)) [] refl)
+
+  -- though there is another reason, of a controller with a higher number
+  pub the-higher-lost-too : let h = upTo t g 3 1 (callsOf (take 15 twiceLost)) .history in OrphanBy h (h .receiver 3) (h .sending 3) 2 0
+  the-higher-lost-too = told t g (take 15 twiceLost) (shown-to t g twiceLost shown-twice 15) (λ h. OrphanBy h (h .receiver 3) (h .sending 3) 2 0) twice-told
