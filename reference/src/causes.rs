@@ -195,7 +195,7 @@ impl Offers {
         }
         let (offered, end) = match answer {
             Answer::Delivered { message, .. } => (self.0.remove(&message), "delivered"),
-            Answer::Dropped { message } => (self.0.remove(&message), "dropped"),
+            Answer::Dropped { message, .. } => (self.0.remove(&message), "dropped"),
             Answer::Waits { message } => (self.0.get(&message).copied(), "waits"),
             _ => return None,
         };

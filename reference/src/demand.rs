@@ -14,11 +14,13 @@
 //! The ledger is judged with it, where its words are shown: in a house just opened it has the messages
 //! that the list's releases let out to the desk, in their order, with the payloads of their sends.
 //!
-//! And so is the ceiling on replay, by what the answers say of it.
+//! And so is the ceiling on replay, by what the answers say of it, and the crash that `dropped` and `rolled`
+//! name.
 
+mod blame;
 mod ceiling;
 
-use crate::history::{History, IntervalId, Misreading, Unreadable};
+use crate::history::{Crash, History, IntervalId, Misreading, Unreadable};
 use crate::ledger;
 use crate::machine::{Answer, Command};
 use ceiling::Ceiling;
@@ -83,6 +85,11 @@ pub enum Breach {
         replayed: u32,
         /// The ceiling.
         most: u32,
+    },
+    /// A dropped delivery or a rollback named another crash than the one that its reason was.
+    WrongCrash {
+        /// The delivery or the hearing.
+        position: usize,
     },
     /// The history has no sentence for this answer. No claim of demand 3 but the ground of all.
     Unreadable {
@@ -195,11 +202,35 @@ impl Judge {
             return Ok(());
         };
         match (command, answer) {
-            (Command::Hear { hearer, .. }, Answer::Heard { .. } | Answer::Rolled { .. }) => {
+            (
+                Command::Hear {
+                    hearer,
+                    crashed,
+                    incarnation,
+                },
+                Answer::Heard { .. } | Answer::Rolled { .. },
+            ) => {
                 let live = live_of(history, hearer)?;
+                let crash = Crash {
+                    controller: crashed as usize,
+                    incarnation,
+                };
+                let heard_before = history.controllers()[hearer as usize]
+                    .heard
+                    .contains(&crash);
                 history.feed(command, answer)?;
                 self.judge_hearing(hearer as usize, &live);
                 self.judge_published(hearer as usize, &live);
+                if matches!(answer, Answer::Rolled { .. }) {
+                    self.judge_rollback(command, answer, heard_before, &live);
+                }
+            }
+            (Command::Deliver { .. }, Answer::Dropped { .. }) => {
+                history.feed(command, answer)?;
+                if !blame::of_dropped(history, answer) {
+                    let position = self.position;
+                    self.breaches.push(Breach::WrongCrash { position });
+                }
             }
             (Command::Crash { controller }, Answer::Crashed { .. }) => {
                 let live = live_of(history, controller)?;
@@ -255,6 +286,26 @@ impl Judge {
                 position,
                 intervals,
             });
+        }
+    }
+
+    /// "For a rollback it is the crash just heard", by what it undid of these intervals.
+    fn judge_rollback(
+        &mut self,
+        command: Command,
+        answer: Answer,
+        heard_before: bool,
+        live_before: &[IntervalId],
+    ) {
+        let (Some(history), Command::Hear { hearer, .. }) = (&self.history, command) else {
+            return;
+        };
+        let live_after = &history.controllers()[hearer as usize].chain;
+        let undone = live_before.iter().filter(|id| !live_after.contains(id));
+        let undone: Vec<IntervalId> = undone.copied().collect();
+        if !blame::of_rollback(history, command, answer, heard_before, &undone) {
+            let position = self.position;
+            self.breaches.push(Breach::WrongCrash { position });
         }
     }
 

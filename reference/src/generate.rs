@@ -1,6 +1,7 @@
 //! Random lists of steps, sets, lent tables and ledgers, and scripts, all from a seed.
 
 mod choose;
+mod condemned;
 mod gaps;
 mod ledgers;
 mod lists;
@@ -11,6 +12,7 @@ mod scripts;
 mod sets;
 mod tables;
 
+pub use condemned::condemned_table;
 pub use gaps::{damaged_gap, gap, gapped_table};
 pub use ledgers::{damaged_ledger, nearly_full_ledger, sound_ledger};
 pub use lists::{senseless, Walk};

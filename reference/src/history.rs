@@ -129,6 +129,17 @@ impl History {
         flagged.next().map(|interval| interval.number)
     }
 
+    /// The crashes that a controller has heard and in which intervals were lost that this one rests on.
+    pub fn losses_heard(&self, controller: usize, id: IntervalId) -> BTreeSet<Crash> {
+        let rests_on = self.intervals[id].rests_on.iter();
+        let crashes = rests_on.filter_map(|id| self.intervals[id].lost_in);
+        let heard = |crash: &Crash| {
+            let controller = self.controllers.get(controller);
+            controller.is_some_and(|controller| controller.heard.contains(crash))
+        };
+        crashes.filter(heard).collect()
+    }
+
     /// Those of the given intervals that rest on one lost in a crash that the controller has heard:
     /// its orphans, as far as it can know.
     pub fn orphans(&self, controller: usize, among: &[IntervalId]) -> Vec<IntervalId> {

@@ -9,8 +9,9 @@
 //! - [`machine`]: the step function, and planted faults.
 //! - [`lines`]: the text lines of the program `house`.
 //! - [`history`]: the history of a house, read off the steps and their answers alone.
-//! - [`demand`]: demand 3, the ledger and the ceiling on replay, judged by that history.
+//! - [`demand`]: demand 3, the ledger, the ceiling on replay and the crashes named, judged by that history.
 //! - [`facts`]: what ties a table to its history after each step of the sound machine.
+//! - [`blames`]: which crash `dropped` and `rolled` name, in words.
 //! - [`causes`]: what became of the causes of lost and undone intervals, in words.
 //! - [`forced`]: which new intervals the gap asked a checkpoint of, in words.
 //! - [`rollbacks`]: from which checkpoint a rollback replays, in words.
@@ -19,6 +20,7 @@
 //!
 //! Quoted sentences in the comments are the rules that the code below them follows.
 
+pub mod blames;
 pub mod causes;
 pub mod demand;
 pub mod facts;

@@ -97,7 +97,11 @@ pub fn render(answer: &Answer) -> String {
             incarnation,
             number,
         } => format!("delivered {message} {incarnation} {number}"),
-        Answer::Dropped { message } => format!("dropped {message}"),
+        Answer::Dropped {
+            message,
+            crashed,
+            incarnation,
+        } => format!("dropped {message} {crashed} {incarnation}"),
         Answer::Waits { message } => format!("waits {message}"),
         Answer::Crashed {
             controller,
@@ -112,7 +116,11 @@ pub fn render(answer: &Answer) -> String {
             kept,
             undone,
             replayed,
-        } => format!("rolled {controller} {kept} {undone} {replayed}"),
+            crashed,
+            incarnation,
+        } => {
+            format!("rolled {controller} {kept} {undone} {replayed} {crashed} {incarnation}")
+        }
         Answer::Refused { number } => format!("refused {number}"),
         Answer::SetReleased { mask } => format!("set_released {mask}"),
         Answer::SetHeld { mask } => format!("set_held {mask}"),

@@ -123,10 +123,14 @@ pub enum Answer {
         /// The number of the new interval.
         number: u32,
     },
-    /// `dropped m`.
+    /// `dropped m a t`.
     Dropped {
         /// The message whose vector is condemned.
         message: u32,
+        /// Who crashed, so that it is: the lowest such controller.
+        crashed: u32,
+        /// The incarnation which that crash ended.
+        incarnation: u32,
     },
     /// `waits m`.
     Waits {
@@ -151,7 +155,7 @@ pub enum Answer {
         /// Who heard, and had nothing to undo.
         controller: u32,
     },
-    /// `rolled b k undone replayed`.
+    /// `rolled b k undone replayed a t`.
     Rolled {
         /// Who heard, and rolled back.
         controller: u32,
@@ -161,6 +165,10 @@ pub enum Answer {
         undone: u32,
         /// How many kept intervals are replayed from the latest checkpoint on.
         replayed: u32,
+        /// Who crashed, as it has just heard.
+        crashed: u32,
+        /// The incarnation which that crash ended.
+        incarnation: u32,
     },
     /// `refused number`.
     Refused {

@@ -106,6 +106,11 @@ pub fn is_condemned(vector: &Vector, ends: &Row) -> bool {
     (0..CONTROLLERS).any(|owner| is_pair_condemned(vector[owner], owner, ends))
 }
 
+/// "The lowest-numbered controller whose pair condemns the vector."
+pub fn condemned_by(vector: &Vector, ends: &Row) -> Option<usize> {
+    (0..CONTROLLERS).find(|&owner| is_pair_condemned(vector[owner], owner, ends))
+}
+
 /// The vector of a delivery at `receiver`, from the two filtered ones, or none if it must wait.
 ///
 /// "If an owner other than c has non-empty pairs of different incarnations in the two, it waits."
@@ -172,6 +177,20 @@ mod tests {
         vector[2] = Pair::new(0, 5);
         assert!(!is_condemned(&vector, &row(1, 0, 4)));
         assert!(is_condemned(&vector, &row(2, 0, 4)));
+    }
+
+    #[test]
+    fn the_lowest_controller_condemns() {
+        let mut vector = Vector::default();
+        for owner in [1, 4, 6] {
+            vector[owner] = Pair::new(2, 5);
+        }
+        let mut ends = row(6, 2, 4);
+        assert_eq!(condemned_by(&vector, &ends), Some(6));
+        ends.set(4, 2, 4);
+        ends.set(1, 1, 4);
+        assert_eq!(condemned_by(&vector, &ends), Some(4));
+        assert_eq!(condemned_by(&vector, &Row::default()), None);
     }
 
     #[test]

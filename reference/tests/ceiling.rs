@@ -91,7 +91,7 @@ fn a_crash_above_it_is_found() {
 fn a_rollback_above_it_is_found() {
     let script = "O 3 3\ngap 2\nS 2 0 7\nR 1\nD 1\nS 0 1 7\nR 2\nD 2\nX 0\nH 1 0 0";
     let mut list = sound(script);
-    assert_eq!(last(&list), "rolled 1 1 1 0");
+    assert_eq!(last(&list), "rolled 1 1 1 0 0 0");
     assert_eq!(breaches(&list), []);
     let position = list.len() - 1;
     list[position].1 = Answer::Rolled {
@@ -99,6 +99,8 @@ fn a_rollback_above_it_is_found() {
         kept: 1,
         undone: 1,
         replayed: 2,
+        crashed: 0,
+        incarnation: 0,
     };
     let above = Breach::AboveCeiling {
         position,
@@ -165,7 +167,7 @@ fn without_a_gap_from_the_start_it_can_be_exceeded() {
     // By a rollback, too: five kept, and one undone that rests on what 2 has lost.
     let lost = "S 0 2 7\nR 6\nD 6\nS 2 1 7\nR 7\nD 7\nX 2\ngap 2\nH 1 2 0";
     let list = sound(&format!("O 3 3\n{work}{lost}"));
-    assert_eq!(last(&list), "rolled 1 6 1 5");
+    assert_eq!(last(&list), "rolled 1 6 1 5 2 0");
     assert_eq!(breaches(&list), []);
 }
 

@@ -1,12 +1,13 @@
 //! The generators reach every answer, every refusal, the limits of a house, all that becomes of the
-//! causes of lost and undone intervals, all checkpoints that a rollback goes back to, all that becomes of
-//! messages for the desk and of sets, and all checkpoints that the gap forces or doesn't.
+//! causes of lost and undone intervals, all checkpoints that a rollback goes back to, all crashes that an answer
+//! may name, all that becomes of messages for the desk and of sets, and all checkpoints that the gap forces or doesn't.
 
+use reference::blames;
 use reference::causes::{self, Offers};
 use reference::demand::Judge;
 use reference::forced;
 use reference::generate::{
-    damaged, damaged_gap, damaged_ledger, gap, gapped_table, in_form_table, named,
+    condemned_table, damaged, damaged_gap, damaged_ledger, gap, gapped_table, in_form_table, named,
     nearly_full_ledger, senseless, set, set_table, sound_ledger, wrong_length, Profile, Random,
     Walk,
 };
@@ -31,13 +32,14 @@ fn letter(command: Command) -> char {
 }
 
 /// The answers without their numbers, but a refusal with its own and the letter of its step; and how
-/// often each case of causes, of rollbacks, of the desk, of the gap and of sets came up.
+/// often each case of causes, of rollbacks, of crashes named, of the desk, of the gap and of sets came up.
 #[derive(Default)]
 struct Seen {
     answers: BTreeSet<String>,
     refusals: BTreeSet<(Refusal, char)>,
     causes: BTreeMap<String, u64>,
     rollbacks: BTreeMap<String, u64>,
+    blames: BTreeMap<String, u64>,
     desk: BTreeMap<&'static str, u64>,
     forced: BTreeMap<String, u64>,
     sets: BTreeMap<String, u64>,
@@ -66,6 +68,12 @@ impl Seen {
     fn note_rollback(&mut self, case: Option<String>) {
         if let Some(case) = case {
             *self.rollbacks.entry(case).or_default() += 1;
+        }
+    }
+
+    fn note_blames(&mut self, cases: Vec<String>) {
+        for case in cases {
+            *self.blames.entry(case).or_default() += 1;
         }
     }
 
@@ -204,6 +212,7 @@ fn lists_reach_everything() {
                 seen.note_causes(causes::cases(&before, command, answer, walk.table()));
                 seen.note_causes(offers.feed(&before, command, answer, walk.table()));
                 seen.note_rollback(rollbacks::case(&before, answer));
+                seen.note_blames(blames::cases(&before, answer));
                 seen.note_desk(&before, false, answer, walk.table());
                 seen.note_forced(forced::cases(&before, command, answer, walk.table()));
                 seen.note_forced(forced::beside_ceiling(judge.ceiling(), &before, answer));
@@ -239,11 +248,12 @@ fn lists_reach_everything() {
     assert_eq!(seen.refused(refusal::LEDGER), "");
     assert_eq!(seen.refused(refusal::LEDGER_USED_UP), "");
     println!(
-        "in lists: {:#?}\n{:#?}\nfor the desk: {:#?}",
-        seen.causes, seen.rollbacks, seen.desk
+        "in lists: {:#?}\n{:#?}\n{:#?}\nfor the desk: {:#?}",
+        seen.causes, seen.rollbacks, seen.blames, seen.desk
     );
     assert!(seen.causes.keys().eq(&causes::IN_LISTS));
     assert!(seen.rollbacks.keys().eq(&rollbacks::CASES));
+    assert!(seen.blames.keys().eq(&blames::CASES));
     assert!(seen.desk.keys().eq(&DESK_IN_LISTS));
     seen.assert_forced(&[&forced::IN_LISTS, &forced::BESIDE_THE_CEILING]);
     seen.assert_sets(&[&sets::IN_LISTS]);
@@ -251,6 +261,19 @@ fn lists_reach_everything() {
     assert!(sizes.iter().eq(&[1, 2, 3, 4, 5, 6, 7, 8]), "{sizes:?}");
     assert!(degrees_released.into_iter().eq(0..=8));
     assert!(degrees_published.into_iter().eq(0..=8));
+}
+
+/// Takes note of the crashes that are named on tables where much is condemned.
+fn see_condemned(seen: &mut Seen) {
+    let mut random = Random::new(22);
+    for _ in 0..300 {
+        let before = condemned_table(&mut random);
+        for command in named(&mut random, &before) {
+            let (mut words, mut ledger) = (before.clone(), sound_ledger(&mut random));
+            let answer = step(&mut words, &mut ledger, command);
+            seen.note_blames(blames::cases(&before, answer));
+        }
+    }
 }
 
 /// On lent tables beside lent ledgers a step of each letter is accepted, and each refusal is given.
@@ -288,17 +311,20 @@ fn lent_tables_reach_everything() {
             seen.note(command, answer);
             seen.note_causes(causes::cases(&before, command, answer, &words));
             seen.note_rollback(rollbacks::case(&before, answer));
+            seen.note_blames(blames::cases(&before, answer));
             seen.note_desk(&before, full, answer, &words);
             seen.note_forced(forced::cases(&before, command, answer, &words));
             seen.note_sets(sets::cases(&before, &ledger_before, command, answer));
         }
     }
+    see_condemned(&mut seen);
     println!(
-        "on lent tables: {:#?}\n{:#?}\nfor the desk: {:#?}",
-        seen.causes, seen.rollbacks, seen.desk
+        "on lent tables: {:#?}\n{:#?}\n{:#?}\nfor the desk: {:#?}",
+        seen.causes, seen.rollbacks, seen.blames, seen.desk
     );
     assert!(seen.causes.keys().eq(&causes::on_lent_tables()));
     assert!(seen.rollbacks.keys().eq(&rollbacks::CASES));
+    assert!(seen.blames.keys().eq(&blames::CASES));
     assert!(seen.desk.keys().eq(&DESK_ON_LENT));
     seen.assert_forced(&[&forced::IN_LISTS, &forced::ON_LENT_TOO]);
     seen.assert_sets(&[&sets::IN_LISTS, &sets::ON_LENT_TOO]);

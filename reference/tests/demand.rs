@@ -24,12 +24,15 @@ fn hear(hearer: u32, crashed: u32) -> Command {
     }
 }
 
+/// By the crash of controller 1 that all hearings here are of.
 fn rolled(controller: u32, kept: u32) -> Answer {
     Answer::Rolled {
         controller,
         kept,
         undone: 1,
         replayed: 0,
+        crashed: 1,
+        incarnation: 0,
     }
 }
 
@@ -47,7 +50,7 @@ fn the_sound_answers_are_accepted() {
     let list = sound(&script);
     assert_eq!(
         last(&list[..CHAIN_STEPS + 1]),
-        Some("rolled 2 1 1 0".to_owned())
+        Some("rolled 2 1 1 0 1 0".to_owned())
     );
     assert_eq!(last(&list), Some("heard 0".to_owned()));
     assert_eq!(check(&list), []);
@@ -77,7 +80,8 @@ fn a_hearing_that_undoes_without_cause() {
         position: 5,
         intervals: 1,
     };
-    assert_eq!(check(&list), [breach]);
+    // So the crash isn't its reason.
+    assert_eq!(check(&list), [breach, Breach::WrongCrash { position: 5 }]);
 }
 
 #[test]

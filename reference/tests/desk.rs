@@ -150,7 +150,7 @@ fn a_held_reading_is_dropped_with_its_sending_interval() {
     house.go_on("S 2 8 5\nS 1 8 6\nX 1");
     assert_eq!(state_of(&house, 3), state::HELD);
     assert_eq!(state_of(&house, 4), state::DROPPED);
-    assert_eq!(house.say("H 2 1 0"), "rolled 2 1 1 0");
+    assert_eq!(house.say("H 2 1 0"), "rolled 2 1 1 0 1 0");
     assert_eq!(state_of(&house, 3), state::DROPPED);
     assert_eq!(house.ledger, ledger_of(&[]));
 }
@@ -313,8 +313,10 @@ mod as_a_cause {
         house
     }
 
-    const REMOVING: [(&str, &str); 2] =
-        [("X 1", "crashed 1 0 1 2 0"), ("H 1 0 3", "rolled 1 1 2 0")];
+    const REMOVING: [(&str, &str); 2] = [
+        ("X 1", "crashed 1 0 1 2 0"),
+        ("H 1 0 3", "rolled 1 1 2 0 0 3"),
+    ];
 
     #[test]
     fn it_stays_whether_condemned_or_not() {

@@ -3,8 +3,8 @@
 use reference::demand::{Breach, Judge};
 use reference::facts;
 use reference::generate::{
-    damaged, damaged_gap, damaged_ledger, gap, gapped_table, named, senseless, set, set_table,
-    sound_ledger, Profile, Random, Walk,
+    condemned_table, damaged, damaged_gap, damaged_ledger, gap, gapped_table, named, senseless,
+    set, set_table, sound_ledger, Profile, Random, Walk,
 };
 use reference::history::Misreading;
 use reference::machine::{step, step_with, Command, Fault};
@@ -20,6 +20,8 @@ enum By {
     Ledger,
     /// The ceiling on replay, by the steps and answers alone.
     Ceiling,
+    /// The crash that an answer names, by the same.
+    Blame,
     /// The history's checkpoints, by what an answer says is replayed.
     Replayed,
     /// The history, by answers that it can't read.
@@ -30,10 +32,10 @@ enum By {
     Lent,
 }
 
-use By::{Ceiling, Demand, Ledger, Lent, Lists, Published, Replayed, Unreadable};
+use By::{Blame, Ceiling, Demand, Ledger, Lent, Lists, Published, Replayed, Unreadable};
 
-const CHECKS: [By; 8] = [
-    Demand, Published, Ledger, Ceiling, Replayed, Unreadable, Lists, Lent,
+const CHECKS: [By; 9] = [
+    Demand, Published, Ledger, Ceiling, Blame, Replayed, Unreadable, Lists, Lent,
 ];
 
 /// In how many lists, and in how many single steps, of one machine each check finds a fault.
@@ -61,16 +63,19 @@ impl Found {
 
 /// By which checks each fault is found. One that lists show is found on what is lent, too.
 const EXPECTED: [(Fault, &[By]); Fault::PLANTED.len()] = [
-    (Fault::LargerAcrossIncarnations, &[Demand, Lists, Lent]),
+    (
+        Fault::LargerAcrossIncarnations,
+        &[Demand, Blame, Lists, Lent],
+    ),
     (
         Fault::NumbersWithoutIncarnations,
-        &[Demand, Published, Lists, Lent],
+        &[Demand, Published, Blame, Lists, Lent],
     ),
     (Fault::StoredPairsCounted, &[Lists, Lent]),
-    (Fault::EndWordOnRollback, &[Demand, Lists, Lent]),
+    (Fault::EndWordOnRollback, &[Demand, Blame, Lists, Lent]),
     (
         Fault::KeptNotLogged,
-        &[Demand, Published, Replayed, Lists, Lent],
+        &[Demand, Published, Blame, Replayed, Lists, Lent],
     ),
     (Fault::KnownNotRaised, &[Lists, Lent]),
     (Fault::HeldKept, &[Lists, Lent]),
@@ -82,7 +87,7 @@ const EXPECTED: [(Fault, &[By]); Fault::PLANTED.len()] = [
     // It says that it opened, and leaves the ledger as it was.
     (Fault::DoneToAll, &[Ledger, Unreadable, Lists, Lent]),
     (Fault::WritesNoWord, &[Ledger, Lists, Lent]),
-    (Fault::EchoesAfterFirst, &[Demand, Lists, Lent]),
+    (Fault::EchoesAfterFirst, &[Demand, Blame, Lists, Lent]),
     (Fault::InventsLost, &[Lists, Lent]),
     (Fault::InventsUndone, &[Lists, Lent]),
     (Fault::InventsReplayed, &[Ceiling, Replayed, Lists, Lent]),
@@ -91,7 +96,7 @@ const EXPECTED: [(Fault, &[By]); Fault::PLANTED.len()] = [
     // It hears even controllers that the house doesn't have.
     (
         Fault::HeardBeforeLooking,
-        &[Demand, Unreadable, Lists, Lent],
+        &[Demand, Blame, Unreadable, Lists, Lent],
     ),
     (Fault::NeverHears, &[Lists, Lent]),
     // What went out is lost or undone later.
@@ -111,35 +116,41 @@ const EXPECTED: [(Fault, &[By]); Fault::PLANTED.len()] = [
     (Fault::FigureNotRaised, &[Ceiling, Replayed, Lists, Lent]),
     (Fault::FirstPlaceLeftOut, &[Ceiling, Replayed, Lists, Lent]),
     // It leaves an interval live that rests on lost work.
-    (Fault::CondemnedPlacePassedOver, &[Demand, Lists, Lent]),
+    (
+        Fault::CondemnedPlacePassedOver,
+        &[Demand, Blame, Lists, Lent],
+    ),
     // What the history takes for stable is lost, from here on.
     (
         Fault::FlaggedWithoutLogging,
-        &[Demand, Published, Replayed, Lists, Lent],
+        &[Demand, Published, Blame, Replayed, Lists, Lent],
     ),
-    (Fault::LoggedOnlyBefore, &[Demand, Replayed, Lists, Lent]),
+    (
+        Fault::LoggedOnlyBefore,
+        &[Demand, Blame, Replayed, Lists, Lent],
+    ),
     (Fault::ForcedNotKnown, &[Lists, Lent]),
     (
         Fault::CrashStartNotCounted,
-        &[Demand, Ceiling, Replayed, Lists, Lent],
+        &[Demand, Ceiling, Blame, Replayed, Lists, Lent],
     ),
     (
         Fault::RollbackStartNotCounted,
-        &[Demand, Published, Ceiling, Replayed, Lists, Lent],
+        &[Demand, Published, Ceiling, Blame, Replayed, Lists, Lent],
     ),
     (
         Fault::MoreThanTheGap,
-        &[Demand, Published, Ceiling, Replayed, Lists, Lent],
+        &[Demand, Published, Ceiling, Blame, Replayed, Lists, Lent],
     ),
     (
         Fault::ForcedWhenOff,
-        &[Demand, Published, Replayed, Lists, Lent],
+        &[Demand, Published, Blame, Replayed, Lists, Lent],
     ),
     // In lists all that is flagged is stable.
     (Fault::StableFlagsOnly, &[Lent]),
     (
         Fault::RemovedFlagsCounted,
-        &[Demand, Ceiling, Replayed, Lists, Lent],
+        &[Demand, Ceiling, Blame, Replayed, Lists, Lent],
     ),
     (Fault::GapOf65Taken, &[Lists, Lent]),
     // No step leaves such a table.
@@ -161,12 +172,17 @@ const EXPECTED: [(Fault, &[By]); Fault::PLANTED.len()] = [
     (Fault::FirstLetOut, &[Ledger, Lists, Lent]),
     (Fault::ThoseWithinLetOut, &[Ledger, Lists, Lent]),
     // What is delivered with less than it rests on stays live when that is lost.
-    (Fault::OneVectorForAll, &[Demand, Lists, Lent]),
+    (Fault::OneVectorForAll, &[Demand, Blame, Lists, Lent]),
     (Fault::PublishedInTableOrder, &[Ledger, Lists, Lent]),
     // From an opening there is always room.
     (Fault::RoomForTheFirst, &[Lent]),
     (Fault::SetFullBeforeHeld, &[Lent]),
     (Fault::SetLedgerOnlyForTheDesk, &[Lent]),
+    (Fault::HighestBlamed, &[Blame, Lists, Lent]),
+    (Fault::NewestIncarnationBlamed, &[Blame, Lists, Lent]),
+    (Fault::NewestCrashBlamed, &[Blame, Lists, Lent]),
+    (Fault::OwnEndsBlamed, &[Blame, Lists, Lent]),
+    (Fault::HearerBlamed, &[Blame, Lists, Lent]),
 ];
 
 const PROFILES: [(&Profile, u64); 7] = [
@@ -211,6 +227,7 @@ fn finder(breach: &Breach) -> By {
         Breach::PublishedRevoked { .. } => Published,
         Breach::LedgerDiffers { .. } => Ledger,
         Breach::AboveCeiling { .. } => Ceiling,
+        Breach::WrongCrash { .. } => Blame,
         Breach::Unreadable { .. } => Unreadable,
     }
 }
@@ -225,9 +242,11 @@ fn inspect_lists(fault: Fault) -> Found {
     found
 }
 
-/// How many single steps are tried on what is lent, and how many sets.
+/// How many single steps are tried on what is lent, how many sets, and how many deliveries and hearings where much is
+/// condemned.
 const LENT_STEPS: usize = 2_500;
 const LENT_SETS: usize = 1_500;
+const LENT_CONDEMNED: usize = 500;
 
 fn has_most_rules(command: Command) -> bool {
     matches!(
@@ -270,15 +289,27 @@ fn lent_set(random: &mut Random) -> (Vec<u32>, Vec<u32>, Command) {
     (table, ledger, Command::ReleaseSet { messages })
 }
 
+/// A table on which much is condemned, a ledger, and a delivery or a hearing.
+fn lent_condemned(random: &mut Random) -> (Vec<u32>, Vec<u32>, Command) {
+    let table = condemned_table(random);
+    let mut steps = named(random, &table);
+    steps.retain(|step| matches!(step, Command::Deliver { .. } | Command::Hear { .. }));
+    let chosen = random.pick(&steps);
+    let command = chosen.unwrap_or_else(|| senseless(random));
+    (table, sound_ledger(random), command)
+}
+
 /// In how many single steps each machine differs from the sound one.
 fn inspect_lent(faults: &[Fault]) -> Vec<usize> {
-    let [mut random, mut of_sets] = [31, 32].map(Random::new);
+    let [mut random, mut of_sets, mut condemned] = [31, 32, 33].map(Random::new);
     let mut differences = vec![0; faults.len()];
-    for step in 0..LENT_STEPS + LENT_SETS {
+    for step in 0..LENT_STEPS + LENT_SETS + LENT_CONDEMNED {
         let (table, ledger, command) = if step < LENT_STEPS {
             lent(&mut random)
-        } else {
+        } else if step < LENT_STEPS + LENT_SETS {
             lent_set(&mut of_sets)
+        } else {
+            lent_condemned(&mut condemned)
         };
         let outcome = |fault| {
             let (mut table, mut ledger) = (table.clone(), ledger.clone());
@@ -297,7 +328,10 @@ fn inspect_lent(faults: &[Fault]) -> Vec<usize> {
 fn every_fault_is_found_by_these_means() {
     let lent = inspect_lent(&Fault::PLANTED);
     let lists: u64 = PROFILES.iter().map(|(_, lists)| lists).sum();
-    println!("of {lists} lists, and of {LENT_STEPS} steps and {LENT_SETS} sets on what is lent:");
+    println!(
+        "of {lists} lists, and of {LENT_STEPS} steps, {LENT_SETS} sets and {LENT_CONDEMNED} \
+         deliveries and hearings on what is lent:"
+    );
     print_row("", CHECKS.map(|by| format!("{by:?}")));
     let mut found = EXPECTED.map(|(fault, _)| (fault, inspect_lists(fault)));
     for ((fault, found), lent) in found.iter_mut().zip(lent) {
@@ -352,7 +386,7 @@ fn misread(misreading: Misreading) -> (Vec<By>, bool) {
 /// The judge of a machine can be at fault, too, and is found out by accusing the sound one.
 #[test]
 fn every_misreading_accuses_the_sound_machine() {
-    let by_history: &[By] = &[Demand, Published, Replayed];
+    let by_history: &[By] = &[Demand, Published, Blame, Replayed];
     let expected = [
         (Misreading::ForcedForgotten, by_history, false),
         (Misreading::ForcedNotStable, by_history, false),

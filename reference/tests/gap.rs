@@ -231,7 +231,7 @@ fn to_be_rolled_back(gap: u32) -> House {
 fn the_start_after_a_rollback_counts() {
     for (gap, expected) in [(2, true), (3, true), (4, false), (0, false)] {
         let mut house = to_be_rolled_back(gap);
-        assert_eq!(house.say("H 1 0 0"), "rolled 1 3 2 2");
+        assert_eq!(house.say("H 1 0 0"), "rolled 1 3 2 2 0 0");
         let start = house.table().newest(1);
         assert_eq!((start.number, start.incarnation, start.cause), (4, 1, 0));
         assert_eq!(start.flag == 1, expected, "a gap of {gap}");
@@ -245,12 +245,12 @@ fn flags_of_undone_intervals_do_not_count() {
     let mut house = to_be_rolled_back(3);
     house.go_on("C 1");
     assert_eq!(flagged(&house, 1), [1, 5]);
-    assert_eq!(house.say("H 1 0 0"), "rolled 1 3 2 2");
+    assert_eq!(house.say("H 1 0 0"), "rolled 1 3 2 2 0 0");
     assert_eq!(flagged(&house, 1), [1, 4]);
     // One that is kept does.
     let mut house = to_be_rolled_back(3);
     set_flag(&mut house, 1, 1, 1);
-    assert_eq!(house.say("H 1 0 0"), "rolled 1 3 2 1");
+    assert_eq!(house.say("H 1 0 0"), "rolled 1 3 2 1 0 0");
     assert_eq!(flagged(&house, 1), [1, 2]);
 }
 
@@ -347,7 +347,7 @@ fn what_begins_no_interval_forces_nothing() {
     assert_eq!(house.say("D 1"), "waits 1");
     assert!(house.words == before);
     house.lend(|table| table.set_end(1, 0, 1, 2));
-    assert_eq!(house.say("D 1"), "dropped 1");
+    assert_eq!(house.say("D 1"), "dropped 1 0 1");
     assert_eq!((flagged(&house, 1), counts(&house, 1)), (vec![1], (1, 1)));
 }
 

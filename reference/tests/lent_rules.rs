@@ -174,7 +174,7 @@ fn a_lost_message_stays_lost_as_long_as_its_interval_stays() {
         assert_eq!(house.say(line), "refused 7", "{line}");
     }
     house.go_on("K 0 1\nS 1 0 7\nR 4\nD 4\nT 0 1\nX 1\nC 1\nD 2\nL 1 1");
-    assert_eq!(house.say("H 0 1 0"), "rolled 0 1 1 0");
+    assert_eq!(house.say("H 0 1 0"), "rolled 0 1 1 0 1 0");
     for message in [1, 3] {
         assert_eq!(house.table().message(message).state, state::LOST);
     }
@@ -203,7 +203,7 @@ fn a_delivery_is_condemned_before_it_is_filtered() {
         table.set_known(1, 0, 2, 64);
         table.set_end(1, 0, 2, 4);
     });
-    assert_eq!(house.say("D 1"), "dropped 1");
+    assert_eq!(house.say("D 1"), "dropped 1 0 2");
     assert_eq!(house.table().message(1).state, state::DROPPED);
 }
 
@@ -260,7 +260,7 @@ fn condemned_place() -> House {
 fn a_hearing_logs_what_is_kept_and_starts_anew() {
     let mut house = condemned_place();
     house.lend(|table| table.set_known(1, 1, 0, 40));
-    assert_eq!(house.say("H 1 0 3"), "rolled 1 2 1 1");
+    assert_eq!(house.say("H 1 0 3"), "rolled 1 2 1 1 0 3");
     let table = house.table();
     assert_eq!(table.known(1).word(1, 0), 2);
     assert_eq!(table.known(1).word(1, 1), 3);
@@ -285,7 +285,7 @@ fn a_hearing_with_nothing_to_log_leaves_the_own_known_word() {
     let mut house = condemned_place();
     house.go_on("L 1 2");
     house.lend(|table| table.set_known(1, 1, 0, 40));
-    assert_eq!(house.say("H 1 0 3"), "rolled 1 2 1 1");
+    assert_eq!(house.say("H 1 0 3"), "rolled 1 2 1 1 0 3");
     assert_eq!(house.table().known(1).word(1, 0), 40);
 }
 
@@ -293,7 +293,7 @@ fn a_hearing_with_nothing_to_log_leaves_the_own_known_word() {
 fn a_hearing_only_raises_the_known_word() {
     let mut house = condemned_place();
     house.lend(|table| table.set_known(1, 0, 3, 50));
-    assert_eq!(house.say("H 1 0 3"), "rolled 1 2 1 1");
+    assert_eq!(house.say("H 1 0 3"), "rolled 1 2 1 1 0 3");
     assert_eq!(house.table().known(1).word(0, 3), 50);
 }
 
@@ -309,7 +309,7 @@ fn an_undone_cause_is_dropped_or_released_by_its_own_vector() {
             record.state = state::LOST;
             record.vector[0] = pair;
         });
-        assert_eq!(house.say("H 1 0 3"), "rolled 1 2 1 1");
+        assert_eq!(house.say("H 1 0 3"), "rolled 1 2 1 1 0 3");
         assert_eq!(house.table().message(2).state, state, "{pair:?}");
         assert_eq!(house.table().message(1).state, state::DELIVERED);
     }
@@ -343,7 +343,7 @@ fn older_ends_condemn_at_a_new_hearing() {
         table.set_end(1, 0, 3, 4);
         table.set_end(0, 0, 7, 1);
     });
-    assert_eq!(house.say("H 1 0 7"), "rolled 1 2 1 1");
+    assert_eq!(house.say("H 1 0 7"), "rolled 1 2 1 1 0 7");
 }
 
 /// Each vector that a step stores is filtered for the one who stores it: of two pairs the one that is
@@ -439,7 +439,7 @@ mod filtering {
         // Place 1 rests on (2,8) of controller 2, whose crash kept number 7.
         set_newest(&mut house, 0, [Pair::new(2, 8), VOLATILE]);
         house.lend(|table| table.set_end(2, 2, 2, 7));
-        assert_eq!(house.say("H 0 2 2"), "rolled 0 1 1 0");
+        assert_eq!(house.say("H 0 2 2"), "rolled 0 1 1 0 2 2");
         assert_eq!(stored(&house), [Pair::EMPTY, VOLATILE]);
     }
 }

@@ -97,7 +97,7 @@ impl Copier<'_> {
                 self.to.set_message(message, &self.from.message(message));
             }
             Answer::Released { message, .. } => self.let_out(message),
-            Answer::Dropped { message } => self.to.set_state(message, state::DROPPED),
+            Answer::Dropped { message, .. } => self.to.set_state(message, state::DROPPED),
             Answer::Delivered { message, .. } => {
                 self.to.set_state(message, state::DELIVERED);
                 self.new_interval(self.to.message(message).receiver as usize);

@@ -41,7 +41,12 @@ fn a_gap_has_no_line() {
 fn every_answer_is_written() {
     let written = |answer| render(&answer);
     assert_eq!(written(Answer::Done), "done");
-    assert_eq!(written(Answer::Dropped { message: 4 }), "dropped 4");
+    let dropped = Answer::Dropped {
+        message: 4,
+        crashed: 5,
+        incarnation: 6,
+    };
+    assert_eq!(written(dropped), "dropped 4 5 6");
     assert_eq!(written(Answer::Waits { message: 4 }), "waits 4");
     assert_eq!(written(Answer::Heard { controller: 4 }), "heard 4");
     let crashed = Answer::Crashed {
@@ -57,8 +62,10 @@ fn every_answer_is_written() {
         kept: 2,
         undone: 3,
         replayed: 4,
+        crashed: 5,
+        incarnation: 6,
     };
-    assert_eq!(written(rolled), "rolled 1 2 3 4");
+    assert_eq!(written(rolled), "rolled 1 2 3 4 5 6");
     for (number, line) in [
         (refusal::INCARNATIONS_USED_UP, "refused 13"),
         (refusal::LEDGER, "refused 14"),

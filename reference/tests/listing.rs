@@ -22,8 +22,8 @@ L 2 1      done
 R 3        released 3 2
 X 1        crashed 1 0 1 1 0
 D 3        delivered 3 0 2
-H 2 1 0    rolled 2 1 1 0
-H 0 1 0    rolled 0 1 1 0
+H 2 1 0    rolled 2 1 1 0 1 0
+H 0 1 0    rolled 0 1 1 0 1 0
 D 3        refused 7
 ";
 

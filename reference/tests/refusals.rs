@@ -301,7 +301,7 @@ fn a_full_chain_still_drops_and_waits() {
     });
     assert_eq!(house.say("D 64"), "waits 64");
     house.lend(|table| table.set_end(1, 2, 1, 2));
-    assert_eq!(house.say("D 64"), "dropped 64");
+    assert_eq!(house.say("D 64"), "dropped 64 2 1");
     assert_eq!(house.table().message(64).state, state::DROPPED);
 }
 

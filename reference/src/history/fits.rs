@@ -23,7 +23,7 @@ pub(super) fn fits(command: Command, answer: Answer) -> bool {
         | (
             Command::Deliver { message: named },
             Answer::Delivered { message, .. }
-            | Answer::Dropped { message }
+            | Answer::Dropped { message, .. }
             | Answer::Waits { message },
         ) => message == named,
         (Command::Crash { controller: named }, Answer::Crashed { controller, .. })

@@ -11,7 +11,8 @@ mod gap;
 mod sets;
 
 pub(super) use asked::{
-    condemned_by_number, in_form, larger_of_each, ledger_fits, most_gap, replayed_by_hearing,
+    blamed, condemned_by_number, in_form, larger_of_each, ledger_fits, most_gap,
+    replayed_by_hearing,
 };
 pub(super) use sets::{look_at_set, readings_counted, union};
 
@@ -159,11 +160,21 @@ pub enum Fault {
     SetFullBeforeHeld,
     /// Looking at the ledger only if a message of the set is for the desk.
     SetLedgerOnlyForTheDesk,
+    /// Naming the highest controller whose pair condemns a message that is dropped.
+    HighestBlamed,
+    /// Naming, of that controller, the incarnation that it is in by now.
+    NewestIncarnationBlamed,
+    /// Naming the newest of its crashes that the receiver has heard.
+    NewestCrashBlamed,
+    /// Naming the lowest controller whose own end row condemns its pair, whatever the receiver has heard.
+    OwnEndsBlamed,
+    /// Naming the hearer for a rollback, and not who crashed.
+    HearerBlamed,
 }
 
 impl Fault {
     /// Every planted fault.
-    pub const PLANTED: [Fault; 66] = [
+    pub const PLANTED: [Fault; 71] = [
         Fault::LargerAcrossIncarnations,
         Fault::NumbersWithoutIncarnations,
         Fault::StoredPairsCounted,
@@ -230,6 +241,11 @@ impl Fault {
         Fault::RoomForTheFirst,
         Fault::SetFullBeforeHeld,
         Fault::SetLedgerOnlyForTheDesk,
+        Fault::HighestBlamed,
+        Fault::NewestIncarnationBlamed,
+        Fault::NewestCrashBlamed,
+        Fault::OwnEndsBlamed,
+        Fault::HearerBlamed,
     ];
 
     /// Whether some list in a house just opened shows the fault. The others need a table or a ledger
@@ -393,6 +409,14 @@ fn invented(fault: Fault, mut answer: Answer) -> Answer {
                 replayed: figure, ..
             },
         ) => *figure += 1,
+        (
+            Fault::HearerBlamed,
+            Answer::Rolled {
+                controller,
+                crashed,
+                ..
+            },
+        ) => *crashed = *controller,
         _ => {}
     }
     answer

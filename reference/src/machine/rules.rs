@@ -187,17 +187,25 @@ impl House<'_> {
         Ok(Answer::Sent { message })
     }
 
-    /// "Deliver at its receiver c. Condemned to c: dropped. Else filter both c's newest vector and
-    /// the message's for c"; then it waits, or "a new interval begins with cause m and flag 0; .. c's
+    /// "Deliver at its receiver c. Condemned to c: dropped", and then "it is the lowest-numbered controller
+    /// whose pair condemns the vector, with that pair's incarnation". "Else filter both c's newest vector
+    /// and the message's for c"; then it waits, or "a new interval begins with cause m and flag 0; .. c's
     /// own pair is the new interval. State: delivered." No message for the desk is ever released, so
     /// that its delivery is refused.
     fn deliver(&mut self, message: u32) -> Outcome {
         let record = self.message(message)?;
         ensure(record.state == state::RELEASED, refusal::STATE)?;
         let receiver = record.receiver as usize;
-        if self.condemned(&record.vector, &self.table.ends(receiver)) {
+        if let Some(owner) = self.condemned_by(&record.vector, &self.table.ends(receiver)) {
+            let otherwise = fault::blamed(self.fault, self.table.words(), &record);
+            let (owner, incarnation) =
+                otherwise.unwrap_or((owner, record.vector[owner].incarnation));
             self.table.set_state(message, state::DROPPED);
-            return Ok(Answer::Dropped { message });
+            return Ok(Answer::Dropped {
+                message,
+                crashed: owner as u32,
+                incarnation,
+            });
         }
         let known = self.table.known(receiver);
         let ours = filtered(&self.table.newest(receiver).vector, &known);
@@ -273,7 +281,7 @@ impl House<'_> {
 
     /// "b hears of a's crash in incarnation t: copy a's own end word, and raise b's known word to it.
     /// Find the lowest place above 0 whose vector holds a condemned entry. If none, done." Otherwise
-    /// b rolls back.
+    /// b rolls back, and "for a rollback it is the crash just heard" that is named.
     fn hear(&mut self, hearer: u32, crashed: u32, incarnation: u32) -> Outcome {
         let hearer = self.controller(hearer)?;
         let crashed = self.controller(crashed)?;
@@ -294,7 +302,7 @@ impl House<'_> {
             None => Answer::Heard {
                 controller: hearer as u32,
             },
-            Some(kept) => self.roll_back(hearer, kept),
+            Some(kept) => self.roll_back(hearer, kept, crashed as u32, incarnation),
         })
     }
 

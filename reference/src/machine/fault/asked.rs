@@ -4,8 +4,10 @@ use super::Fault;
 use crate::ledger;
 use crate::machine::rules::can_open;
 use crate::machine::Command;
-use crate::table::{self, state, Table, DESK, INCARNATIONS, LAST_GAP, LAST_MESSAGE};
-use crate::vector::{Pair, Row, Vector};
+use crate::table::{
+    self, state, Message, Table, CONTROLLERS, DESK, INCARNATIONS, LAST_GAP, LAST_MESSAGE,
+};
+use crate::vector::{is_pair_condemned, Pair, Row, Vector};
 use std::array;
 
 /// What a faulty machine says of the ledger before the step, where it looks at another time.
@@ -81,13 +83,44 @@ pub(in crate::machine) fn most_gap(fault: Fault) -> u32 {
     }
 }
 
-/// A pair taken for condemned by its number alone: any end of its owner will do.
-pub(in crate::machine) fn condemned_by_number(vector: &Vector, ends: &Row) -> bool {
-    vector.iter().enumerate().any(|(owner, pair)| {
+/// The lowest owner of a pair taken for condemned by its number alone: any end of its owner will do.
+pub(in crate::machine) fn condemned_by_number(vector: &Vector, ends: &Row) -> Option<usize> {
+    (0..CONTROLLERS).find(|&owner| {
         (0..INCARNATIONS as u32)
             .map(|incarnation| ends.word(owner, incarnation))
-            .any(|end| end != 0 && pair.number > end)
+            .any(|end| end != 0 && vector[owner].number > end)
     })
+}
+
+/// Whose crash a faulty machine names for a message that it drops, and the incarnation that it ended,
+/// where it looks for them in another way.
+pub(in crate::machine) fn blamed(
+    fault: Fault,
+    words: &[u32],
+    record: &Message,
+) -> Option<(usize, u32)> {
+    let table = Table::new(words)?;
+    let ends = table.ends(record.receiver as usize);
+    let condemns = |&owner: &usize| is_pair_condemned(record.vector[owner], owner, &ends);
+    let condemns_itself = |&owner: &usize| {
+        let own = table.ends(owner);
+        is_pair_condemned(record.vector[owner], owner, &own)
+    };
+    let owner = match fault {
+        Fault::HighestBlamed => (0..CONTROLLERS).rev().find(condemns)?,
+        Fault::NewestIncarnationBlamed | Fault::NewestCrashBlamed => {
+            (0..CONTROLLERS).find(condemns)?
+        }
+        Fault::OwnEndsBlamed => (0..CONTROLLERS).find(condemns_itself)?,
+        _ => return None,
+    };
+    let mut heard = (0..INCARNATIONS as u32).rev();
+    let incarnation = match fault {
+        Fault::NewestIncarnationBlamed => table.controller(owner).incarnation,
+        Fault::NewestCrashBlamed => heard.find(|&ended| ends.word(owner, ended) != 0)?,
+        _ => record.vector[owner].incarnation,
+    };
+    Some((owner, incarnation))
 }
 
 /// The lexicographically larger of each two pairs: a later incarnation hides an earlier one.

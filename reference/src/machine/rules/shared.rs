@@ -2,15 +2,19 @@
 
 use super::{fault, Answer, Fault, House};
 use crate::table::{state, Controller, Place, DESK};
-use crate::vector::{filtered, is_condemned, merged, Pair, Row, Vector};
+use crate::vector::{condemned_by, filtered, merged, Pair, Row, Vector};
 
 impl House<'_> {
-    /// The only place where a vector is found condemned.
-    pub(super) fn condemned(&self, vector: &Vector, ends: &Row) -> bool {
+    /// The only place where a vector is found condemned, and by whose pair.
+    pub(super) fn condemned_by(&self, vector: &Vector, ends: &Row) -> Option<usize> {
         match self.fault {
             Fault::NumbersWithoutIncarnations => fault::condemned_by_number(vector, ends),
-            _ => is_condemned(vector, ends),
+            _ => condemned_by(vector, ends),
         }
+    }
+
+    fn condemned(&self, vector: &Vector, ends: &Row) -> bool {
+        self.condemned_by(vector, ends).is_some()
     }
 
     /// The only place where two vectors are merged, for the delivery of `message` at its receiver.
@@ -106,7 +110,13 @@ impl House<'_> {
 
     /// "That place's index is k: kept intervals not yet stable, if any, are logged as by L; each
     /// cause of an undone interval becomes dropped .. [or] released again; then start anew."
-    pub(super) fn roll_back(&mut self, hearer: usize, kept: u32) -> Answer {
+    pub(super) fn roll_back(
+        &mut self,
+        hearer: usize,
+        kept: u32,
+        crashed: u32,
+        incarnation: u32,
+    ) -> Answer {
         let undone = self.table.controller(hearer).live - kept;
         let otherwise = fault::replayed_by_hearing(self.fault, self.table.words(), hearer, kept);
         let replayed = otherwise.unwrap_or_else(|| self.replayed(hearer, kept));
@@ -118,6 +128,8 @@ impl House<'_> {
             kept,
             undone,
             replayed,
+            crashed,
+            incarnation,
         }
     }
 
