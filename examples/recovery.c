@@ -62,7 +62,8 @@ static void print_message(uint32_t answer, const uint32_t *v)
         printf(" is delivered and begins interval %" PRIu32 " of incarnation %" PRIu32, v[2], v[1]);
         break;
     case GOULVIZAD_DROPPED:
-        printf(" is dropped: it rests on lost work");
+        printf(" is dropped: it rests on work lost in the crash that ended");
+        printf(" incarnation %" PRIu32 " of %s", v[2], name(v[1]));
         break;
     case GOULVIZAD_WAITS:
         printf(" waits: its receiver has more to hear or to be told first");
@@ -85,6 +86,7 @@ static void print_controller(uint32_t answer, const uint32_t *v)
     case GOULVIZAD_ROLLED:
         printf(" rolls back; intervals kept up to %" PRIu32, v[1]);
         printf(", %" PRIu32 " undone, %" PRIu32 " replayed", v[2], v[3]);
+        printf(", for the crash that ended incarnation %" PRIu32 " of %s", v[5], name(v[4]));
         break;
     }
 }

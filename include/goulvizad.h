@@ -147,6 +147,14 @@ extern "C" {
  * A mask has 2 to the power c for each controller c that it names. Kept is the highest number that is
  * kept; by GOULVIZAD_ROLLED what is kept becomes stable, all of it, so that the hearer has to have
  * written it.
+ *
+ * GOULVIZAD_DROPPED and GOULVIZAD_ROLLED name a crash at their end, by the controller that crashed and the
+ * incarnation that the crash ended: whom to look at. A rollback names the crash just heard, and whatever
+ * it undid rests on work lost in it. A message that is dropped rests on work lost in the crash named, and
+ * its receiver has heard of that crash; where there are several such crashes it is the one of the lowest
+ * controller. (In a house that was opened, and whose table only steps have written since. On any other
+ * table it is the lowest controller whose pair in the message's vector exceeds the receiver's end word for
+ * it, with the incarnation of that pair.)
  */
 enum {
     GOULVIZAD_DONE = 0,      /* no values: to O, K, L, C and T, and to the gap; to a list of steps */
@@ -155,11 +163,12 @@ enum {
     GOULVIZAD_HELD = 3,      /* message, mask: kept back; who could revoke it, more than the degree, or
                                 for the desk anybody at all */
     GOULVIZAD_DELIVERED = 4, /* message, incarnation, number: of the new interval */
-    GOULVIZAD_DROPPED = 5,   /* message: it rests on what was lost */
+    GOULVIZAD_DROPPED = 5,   /* message, crashed controller, ended incarnation: it rests on what was lost
+                                there */
     GOULVIZAD_WAITS = 6,     /* message: not yet; its receiver has more to hear or to be told first */
     GOULVIZAD_CRASHED = 7,   /* controller, ended incarnation, kept, lost, replayed */
     GOULVIZAD_HEARD = 8,     /* hearer: nothing to undo */
-    GOULVIZAD_ROLLED = 9,    /* hearer, kept, undone, replayed */
+    GOULVIZAD_ROLLED = 9,    /* hearer, kept, undone, replayed, crashed controller, ended incarnation */
     GOULVIZAD_REFUSED = 10,  /* number: one of the refusals below; no word of the table or of the ledger
                                 changed */
     GOULVIZAD_SET_RELEASED = 11, /* mask: all messages of a set are let out; who could still revoke one

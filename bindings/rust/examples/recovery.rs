@@ -51,9 +51,15 @@ fn told(answer: Answer) -> String {
             "message {message} is delivered and begins interval {number} \
              of incarnation {incarnation}"
         ),
-        Answer::Dropped { message } => {
-            format!("message {message} is dropped: it rests on lost work")
-        }
+        Answer::Dropped {
+            message,
+            crashed,
+            incarnation,
+        } => format!(
+            "message {message} is dropped: it rests on work lost in the crash that ended \
+             incarnation {incarnation} of {}",
+            name(crashed)
+        ),
         Answer::Waits { message } => {
             format!("message {message} waits: its receiver has more to hear or to be told first")
         }
@@ -74,9 +80,13 @@ fn told(answer: Answer) -> String {
             kept,
             undone,
             replayed,
+            crashed,
+            incarnation,
         } => format!(
-            "{} rolls back; intervals kept up to {kept}, {undone} undone, {replayed} replayed",
-            name(hearer)
+            "{} rolls back; intervals kept up to {kept}, {undone} undone, {replayed} replayed, \
+             for the crash that ended incarnation {incarnation} of {}",
+            name(hearer),
+            name(crashed)
         ),
         Answer::SetReleased { mask } => {
             let names = named(mask);

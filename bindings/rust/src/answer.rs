@@ -41,6 +41,10 @@ pub enum Answer {
     Dropped {
         /// Which message.
         message: u32,
+        /// Who lost it in a crash that the receiver has heard of: the lowest of them, where there are several.
+        crashed: u32,
+        /// The incarnation which that crash ended.
+        incarnation: u32,
     },
     /// The message can't be delivered yet: its receiver has more to hear or to be told first.
     Waits {
@@ -75,6 +79,10 @@ pub enum Answer {
         undone: u32,
         /// How many of those kept are replayed, from the latest checkpoint on.
         replayed: u32,
+        /// Whose crash it was, as the step named it.
+        crashed: u32,
+        /// The incarnation which that crash ended.
+        incarnation: u32,
     },
     /// All messages of the set are let out.
     SetReleased {
@@ -125,7 +133,11 @@ pub(crate) fn read(number: u32, values: [u32; VALUE_WORDS]) -> Option<Result<Ans
             incarnation,
             number,
         },
-        (returned::DROPPED, [message, 0, 0, 0, 0, 0]) => Answer::Dropped { message },
+        (returned::DROPPED, [message, crashed, incarnation, 0, 0, 0]) => Answer::Dropped {
+            message,
+            crashed,
+            incarnation,
+        },
         (returned::WAITS, [message, 0, 0, 0, 0, 0]) => Answer::Waits { message },
         (returned::CRASHED, [controller, incarnation, kept, lost, replayed, 0]) => {
             Answer::Crashed {
@@ -137,12 +149,16 @@ pub(crate) fn read(number: u32, values: [u32; VALUE_WORDS]) -> Option<Result<Ans
             }
         }
         (returned::HEARD, [hearer, 0, 0, 0, 0, 0]) => Answer::Heard { hearer },
-        (returned::ROLLED, [hearer, kept, undone, replayed, 0, 0]) => Answer::Rolled {
-            hearer,
-            kept,
-            undone,
-            replayed,
-        },
+        (returned::ROLLED, [hearer, kept, undone, replayed, crashed, incarnation]) => {
+            Answer::Rolled {
+                hearer,
+                kept,
+                undone,
+                replayed,
+                crashed,
+                incarnation,
+            }
+        }
         (returned::SET_RELEASED, [mask, 0, 0, 0, 0, 0]) => Answer::SetReleased { mask: Mask(mask) },
         (returned::SET_HELD, [mask, 0, 0, 0, 0, 0]) => Answer::SetHeld { mask: Mask(mask) },
         (returned::REFUSED, [number, 0, 0, 0, 0, 0]) => {

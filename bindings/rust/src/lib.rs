@@ -30,8 +30,10 @@
 //! // It crashes, and what rests on the lost work is undone.
 //! table.step(Step::Crash { controller: DRIVE })?;
 //! let hearing = Step::Hear { hearer: CATALOGUE, crashed: DRIVE, incarnation: 0 };
-//! let rolled = Answer::Rolled { hearer: CATALOGUE, kept: 1, undone: 1, replayed: 0 };
-//! assert_eq!(table.step(hearing)?, rolled);
+//! let Answer::Rolled { undone, crashed, .. } = table.step(hearing)? else {
+//!     panic!("the catalogue rests on it");
+//! };
+//! assert_eq!((undone, crashed), (1, DRIVE));
 //! assert_eq!(table.step(hearing), Err(Refusal::AlreadyHeard));
 //! # Ok::<(), Refusal>(())
 //! ```
