@@ -115,7 +115,7 @@ pub struct Seen {
     answers: BTreeSet<String>,
     /// The refusals, each with the letter of its step.
     refusals: BTreeSet<(Refusal, char)>,
-    /// How often each case of causes, of rollbacks, of the desk, of the gap and of sets came up.
+    /// How often each case of causes, of rollbacks, of crashes named, of the desk, of the gap and of sets came up.
     cases: BTreeMap<String, u64>,
     /// How far the houses went.
     pub extent: Extent,
@@ -134,9 +134,9 @@ impl Seen {
         }
     }
 
-    /// Takes note of what became of causes, of rollbacks, of readings for the desk, of new intervals by the gap
-    /// and of sets, in the words of [`reference::causes`], [`reference::rollbacks`], [`desk`](crate::desk),
-    /// [`reference::forced`] and [`reference::sets`].
+    /// Takes note of what became of causes, of rollbacks, of crashes named, of readings for the desk, of new
+    /// intervals by the gap and of sets, in the words of [`reference::causes`], [`reference::rollbacks`],
+    /// [`reference::blames`], [`desk`](crate::desk), [`reference::forced`] and [`reference::sets`].
     pub fn note_cases(&mut self, cases: impl IntoIterator<Item = String>) {
         for case in cases {
             *self.cases.entry(case).or_default() += 1;
@@ -187,6 +187,18 @@ impl Seen {
         let expected: BTreeSet<&str> = causes.chain(others.concat()).collect();
         let seen = self.cases.keys().map(String::as_str).collect();
         assert_eq!(expected, seen);
+    }
+
+    /// Each of these cases came up at least so many times.
+    ///
+    /// # Panics
+    /// If one came up less often.
+    pub fn assert_often(&self, cases: &[&str], least: u64) {
+        for &case in cases {
+            let seen = self.cases.get(case).copied().unwrap_or(0);
+            println!("{case}: {seen}");
+            assert!(seen >= least, "{case}: {seen}");
+        }
     }
 
     /// The letters of the steps that were refused so.

@@ -4,7 +4,7 @@
 use crate::agreement::Lent;
 use crate::effort;
 use reference::generate::{
-    damaged, damaged_gap, damaged_ledger, gap, gapped_table, in_form_table, named,
+    condemned_table, damaged, damaged_gap, damaged_ledger, gap, gapped_table, in_form_table, named,
     nearly_full_ledger, noise, senseless, set, set_table, sound_ledger, with_damage, wrong_length,
     Profile, Random,
 };
@@ -123,13 +123,22 @@ impl Tables {
         },
         steps: Steps::Sets,
     };
+    /// Tables in form on which crashes of several controllers condemn, in several incarnations.
+    pub const CONDEMNED: Tables = Tables {
+        name: "lent tables condemned",
+        seed: 11,
+        count: 2_000,
+        make: condemned_table,
+        steps: Steps::Lettered,
+    };
     /// Those on which steps with letters are done.
-    pub const ALL: [Tables; 5] = [
+    pub const ALL: [Tables; 6] = [
         Tables::IN_FORM,
         Tables::DAMAGED,
         Tables::NOISE,
         Tables::GAPPED,
         Tables::GAP_DAMAGED,
+        Tables::CONDEMNED,
     ];
     /// Those on which sets are released.
     pub const FOR_SETS: [Tables; 2] = [Tables::SETS, Tables::SETS_DAMAGED];

@@ -139,7 +139,15 @@ fn answered(answer: goulvizad::Answer) -> Answer {
             incarnation,
             number,
         },
-        Proved::Dropped { message } => Answer::Dropped { message },
+        Proved::Dropped {
+            message,
+            crashed,
+            incarnation,
+        } => Answer::Dropped {
+            message,
+            crashed,
+            incarnation,
+        },
         Proved::Waits { message } => Answer::Waits { message },
         Proved::Crashed {
             controller,
@@ -160,11 +168,15 @@ fn answered(answer: goulvizad::Answer) -> Answer {
             kept,
             undone,
             replayed,
+            crashed,
+            incarnation,
         } => Answer::Rolled {
             controller: hearer,
             kept,
             undone,
             replayed,
+            crashed,
+            incarnation,
         },
         Proved::SetReleased { mask } => Answer::SetReleased { mask: mask.bits() },
         Proved::SetHeld { mask } => Answer::SetHeld { mask: mask.bits() },

@@ -1,6 +1,6 @@
 //! Random lists of steps: after each step the answer and every word of the table and of the ledger
-//! agree, the table is in form, the ledger is the one that the steps say, and demand 3 and the ceiling on
-//! replay hold of the proved machine's own answers.
+//! agree, the table is in form, the ledger is the one that the steps say, and demand 3, the ceiling on replay
+//! and the crash that an answer names hold of the proved machine's own answers.
 
 use compare::agreement::{beside, Buffer, Difference, Lent, Parting};
 use compare::coverage::{Extent, Seen};
@@ -10,7 +10,7 @@ use reference::causes::{self, Offers};
 use reference::demand::Judge;
 use reference::generate::{Profile, Walk};
 use reference::machine::{Answer, Command, Fault};
-use reference::{facts, forced, refusal, rollbacks, sets};
+use reference::{blames, facts, forced, refusal, rollbacks, sets};
 use std::thread;
 
 fn compare_list(profile: &'static Profile, seed: u64, seen: &mut Seen) {
@@ -38,6 +38,7 @@ fn compare_list(profile: &'static Profile, seed: u64, seen: &mut Seen) {
         seen.note_cases(causes::cases(before_it, command, answer, after_it));
         seen.note_cases(offers.feed(before_it, command, answer, after_it));
         seen.note_cases(rollbacks::case(before_it, answer));
+        seen.note_cases(blames::cases(before_it, answer));
         seen.note_cases(desk::case(&before, command, answer));
         seen.note_cases(forced::cases(before_it, command, answer, after_it));
         seen.note_cases(sets::cases(before_it, &before.ledger, command, answer));
@@ -75,6 +76,7 @@ fn the_machines_agree_on_every_step() {
         &causes::IN_LISTS,
         &[
             &rollbacks::CASES,
+            &blames::CASES,
             &desk::IN_LISTS,
             &forced::IN_LISTS,
             &forced::BESIDE_THE_CEILING,

@@ -12,7 +12,7 @@ use reference::generate::{
 use reference::machine::{self, Answer, Command, Fault};
 use reference::table::state::{DROPPED, HELD, PUBLISHED};
 use reference::table::{self, Message, Table, DESK, WORDS};
-use reference::{causes, forced, ledger, refusal, rollbacks};
+use reference::{blames, causes, forced, ledger, refusal, rollbacks};
 
 /// Does each of many steps on the table and the ledger as they were lent.
 fn compare_table(lent: &Lent, steps: Vec<Command>, seen: &mut Seen) {
@@ -27,6 +27,7 @@ fn compare_table(lent: &Lent, steps: Vec<Command>, seen: &mut Seen) {
         seen.note(command, answer);
         seen.note_cases(causes::cases(&lent.table, command, answer, &after.table));
         seen.note_cases(rollbacks::case(&lent.table, answer));
+        seen.note_cases(blames::cases(&lent.table, answer));
         seen.note_cases(desk::case(lent, command, answer));
         seen.note_cases(forced::cases(&lent.table, command, answer, &after.table));
         let sets = reference::sets::cases(&lent.table, &lent.ledger, command, answer);
@@ -48,20 +49,34 @@ fn tables_in_form() {
     assert!(seen.steps >= 80_000);
     seen.assert_cases(
         &causes::on_lent_tables(),
-        &[&rollbacks::CASES, &desk::ON_LENT, &forced::WITHOUT_A_GAP],
+        &[
+            &rollbacks::CASES,
+            &blames::CASES,
+            &desk::ON_LENT,
+            &forced::WITHOUT_A_GAP,
+        ],
     );
     let gapped = compare_tables(Tables::GAPPED);
     assert!(gapped.steps >= 80_000);
     let by_the_gap: [&[&str]; 2] = [&forced::IN_LISTS, &forced::ON_LENT_TOO];
     gapped.assert_cases(
         &causes::on_lent_tables(),
-        &[&rollbacks::CASES, &desk::ON_LENT, &by_the_gap.concat()],
+        &[
+            &rollbacks::CASES,
+            &blames::CASES,
+            &desk::ON_LENT,
+            &by_the_gap.concat(),
+        ],
     );
+    let condemned = compare_tables(Tables::CONDEMNED);
+    assert!(condemned.steps >= 30_000);
+    condemned.assert_often(&blames::CASES, 100);
     let with_sets = compare_tables(Tables::SETS);
     assert!(with_sets.steps >= 40_000);
     let of_sets: [&[&str]; 2] = [&reference::sets::IN_LISTS, &reference::sets::ON_LENT_TOO];
     with_sets.assert_cases::<&str>(&[], &of_sets);
     seen.join(gapped)
+        .join(condemned)
         .join(with_sets)
         .assert_all(refusal::CONTROLLER..);
 }

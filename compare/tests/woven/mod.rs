@@ -181,7 +181,7 @@ impl House {
                 told.masks.push(mask);
                 told.let_out = true;
             }
-            Answer::Delivered { message, .. } | Answer::Dropped { message } => {
+            Answer::Delivered { message, .. } | Answer::Dropped { message, .. } => {
                 self.told.entry(message).or_default().taken = true;
             }
             _ => {}

@@ -31,8 +31,8 @@ pub fn hearings() -> [Single; 3] {
     let house = led_to(&crowded());
     [
         ("nothing to undo", 1, "heard 0"),
-        ("all above place 0 to undo", 2, "rolled 0 1 63 0"),
-        ("the newest to undo", 3, "rolled 0 63 1 62"),
+        ("all above place 0 to undo", 2, "rolled 0 1 63 0 2 0"),
+        ("the newest to undo", 3, "rolled 0 63 1 62 3 0"),
     ]
     .map(|(name, crashed, answer)| Single {
         name,
