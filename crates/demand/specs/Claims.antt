@@ -21,9 +21,9 @@ use Rattle.rules.specs.Ledger.{ledgerWords, countOf, entryOf, citedMessage, cit
 use Rattle.rules.specs.Steps.{openHouse}
 use Rattle.rules.specs.Step.{OutBoth, stepOn, lent, step, Call, asks, releaseSet, stepCall}
 use Rattle.rules.specs.declared.Answer.{Answer}
-use Rattle.rules.specs.declared.Answer.the-variants.{Done, Released, Held, Refused}
+use Rattle.rules.specs.declared.Answer.the-variants.{Done, Released, Held, Dropped, Refused}
 use Rattle.rules.specs.declared.Command.{Command}
-use Rattle.rules.specs.declared.Command.the-variants.{Open, Checkpoint, Release, SetGap}
+use Rattle.rules.specs.declared.Command.the-variants.{Open, Checkpoint, Release, Deliver, SetGap}
 use Rattle.lines.specs.Lines.{stepOf, parse}
 use Rattle.lines.specs.Letters.{no-letter, no-line}
 use Rattle.lines.specs.Program.{houseWrites}
@@ -47,7 +47,7 @@ use Rattle.demand.specs.Demanded.{demand-3}
 use Rattle.demand.specs.Beyond.{ledger-cites}
 use Rattle.demand.specs.Citable.{all-citable}
 use Rattle.demand.specs.Ceiled.{ceiling}
-use Rattle.demand.specs.Blamed.{blame}
+use Rattle.demand.specs.Blamed.{blame, sender-undone}
 use Rattle.demand.specs.InForm.{sound-after}
 use Rattle.keeping.specs.StepSame.{same-written, step-words}
 use Rattle.testers.specs.Refused.{keeps-refused}
@@ -296,6 +296,14 @@ no-line-sets-the-gap = no-line
 -- with a lower number has lost such work.
 pub answers-name-the-crash : (t g : List ℕ) (n k : ℕ) (l : List Call) → FromOpening t g n k l → Blame t g n k l
 answers-name-the-crash = blame
+
+-- So it is the crash to hear of: where a delivery in the list was dropped, and its sender has heard the crash that was named by the end, the
+-- interval that sent the message is live no more.
+pub hearing-it-undoes-the-sender : (t g : List ℕ) (n k : ℕ) (l : List Call) → FromOpening t g n k l → (before after : List Call) (m echoed crashed i : ℕ) →
+    l ≡ before ++ asks (Deliver m) ∷ after → stepIn (upTo t g n k before) (Deliver m) .answer ≡ Dropped echoed crashed i →
+    let y = upTo t g n k before .history .sending m in
+    end t g n k l .heard (y .owner) crashed i ≡ true → member y (end t g n k l .chain (y .owner)) ≡ false
+hearing-it-undoes-the-sender = sender-undone
 
 -- 14. A house in form stays in form: from an opening that is done, no call of any list is refused for its buffers, with 1 (the table's
 -- length), 2 (its form) or 14 (the ledger). Whatever calls stand before it, openings too, are done or refused as they may be.
