@@ -28,7 +28,7 @@ fn listing_a() -> Vec<(String, String)> {
 
 /// The examples that README, the guide and the page for operators show: Listing A, the worked example of the
 /// method's paper, a message that is offered again after a crash, readings for the desk, a rollback that
-/// replays from a later checkpoint, and a held reading that is got out.
+/// replays from a later checkpoint, a held reading that is got out, and which crash it was.
 #[test]
 fn stored_examples_are_answered_as_stored() {
     for name in [
@@ -38,6 +38,7 @@ fn stored_examples_are_answered_as_stored() {
         "desk",
         "replayed",
         "reading_out",
+        "which_crash",
     ] {
         let [script, expected] = stored(name);
         assert_eq!(played(&script), expected, "{name}");
