@@ -114,8 +114,9 @@ impl Mask {
 }
 
 /// What came of a step, by the number that its call returned and the values that it wrote. None where
-/// that is no answer: another number, or values that aren't zero after its own.
-#[inline]
+/// that is no answer: another number, or values that aren't zero after its own. Inlined, since an answer has
+/// seven words and would be copied twice on its way into a list, which takes longer than to read it.
+#[inline(always)]
 pub(crate) fn read(number: u32, values: [u32; VALUE_WORDS]) -> Option<Result<Answer, Refusal>> {
     let answer = match (number, values) {
         (returned::DONE, [0, 0, 0, 0, 0, 0]) => Answer::Done,
@@ -170,6 +171,7 @@ pub(crate) fn read(number: u32, values: [u32; VALUE_WORDS]) -> Option<Result<Ans
 }
 
 /// The same by the words of an answer to a list: the number, and the values.
+#[inline(always)]
 pub(crate) fn listed(words: &[u32]) -> Option<Result<Answer, Refusal>> {
     let (&number, values) = words.split_first()?;
     read(number, values.try_into().ok()?)
