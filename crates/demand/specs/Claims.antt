@@ -291,9 +291,10 @@ no-letter-sets-the-gap = no-letter
 pub no-line-sets-the-gap : (line : List ℕ) (q : ℕ) → parse line ≢ Asks (SetGap q)
 no-line-sets-the-gap = no-line
 
--- 13. W6: "Operators read `dropped` and `rolled` and ask which controller to look at." For every list from an opening the answer names a crash that
--- the controller had heard, or hears, and in which work was lost that the message or the undone interval rests on; of a dropped delivery no controller
--- with a lower number has lost such work.
+-- 13. W6: "Operators read `dropped` and `rolled` and ask which controller to look at." For every list from an opening: a dropped delivery
+-- names a crash that the receiver has heard and in which its controller lost what the message rests on, and there is no other such crash of
+-- that controller or of one with a lower number. A rollback names the crash that it hears, which was not heard before, and each interval
+-- that it undoes rests on what was lost in it.
 pub answers-name-the-crash : (t g : List ℕ) (n k : ℕ) (l : List Call) → FromOpening t g n k l → Blame t g n k l
 answers-name-the-crash = blame
 

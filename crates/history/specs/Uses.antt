@@ -1,7 +1,7 @@
 -- Uses of the public statements, so that an edit that empties one of these clauses, or narrows one of these hypotheses, is refused here: what
--- demand 3 gives, which crash it was, what is a message that was sent or that can be delivered, when a crash can be heard, when a controller was asked, and what
--- "eventually" gives. (Clauses that are not here are used in `demand` and `paper`, where the statements are proved, and in `instances`, where
--- lists are shown of which they speak.)
+-- demand 3 gives, which crash it was, what is a message that was sent or that can be delivered, when a crash can be heard, when a controller
+-- was asked, and what "eventually" gives. (Clauses that are not here are used in `demand` and `paper`, where the statements are proved, and
+-- in `instances`, where lists are shown of which they speak.)
 use mathlib.Core.Path.{_≡_, refl, sym, _∙_, ap, subst}
 use mathlib.Core.Bool.{Bool, true, false, true≢false}
 use mathlib.Core.List.{List, _∷_, _++_, append-assoc}
