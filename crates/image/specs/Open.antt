@@ -8,12 +8,13 @@ use lib.ListN.{getD}
 use borrow.Author.Tests.{eqb-true, eq-eqb, ne-eqb, ltb-true, ltb-false, lt-ltb, le-ltb}
 use Rattle.base.specs.Choice.{_==_, _<?_, and-left, and-right, cond-ind}
 use Rattle.base.specs.Lists.{length-tab}
-use Rattle.table.specs.Field.{State, OfController, Known, OfPlace, Size, Discarded, Degree, Incarnation, LiveCount, StableCount, PlaceIncarnation, Flag, PairIncarnation, PairNumber, placeHead, word}
+use Rattle.table.specs.Field.{State, OfController, Known, OfPlace, Degree, Incarnation, LiveCount, StableCount, PlaceIncarnation, Flag, PairIncarnation, PairNumber, placeHead, word}
 use Rattle.table.specs.Layout.{controllers}
-use Rattle.table.specs.Numbering.{numberOf, lastLive, placeOf, place-of-number, number-fresh, none-given, none-used}
+use Rattle.table.specs.Numbering.{lastLive, placeOf, place-of-number, none-given, none-used}
 use Rattle.rules.specs.Vector.{pair as pairList, noPair}
 use Rattle.rules.specs.Shared.{placeRecord}
 use Rattle.rules.specs.Steps.{firstVector, openHouse}
+use Rattle.laws.specs.Numbers.{opened-number}
 use Rattle.history.specs.History.{changedAt}
 use Rattle.model.specs.Model.{pair, changedAt₂, openController, absentController, openModel}
 use Rattle.model.specs.Tests.{changedAt-ind, changedAt-other, changedAt₂-ind}
@@ -28,13 +29,7 @@ controller-words k = k ∷ 0 ∷ 1 ∷ 1 ∷ []
 abbrev words : ℕ → List ℕ
 words c = placeRecord 0 1 0 1 (firstVector c)
 
--- the numbers of a house just opened are counts
-opened-number : (n k c j : ℕ) → numberOf (openHouse n k) c j ≡ j
-unfolding openHouse
-opened-number n k c j =
-    number-fresh (openHouse n k) c j (λ _. rw (ne-eqb (word (Discarded c)) (word Size) (omega arith)))
-
--- and number 1 stands in place 0
+-- number 1 stands in place 0
 first-place : (n k c : ℕ) → placeOf (openHouse n k) c 1 ≡ 0
 first-place n k c = ap (placeOf (openHouse n k) c) (sym (opened-number n k c 1)) ∙ place-of-number (openHouse n k) c 0
 

@@ -8,10 +8,10 @@ use lib.ListN.{length, getD}
 use borrow.Author.Tests.{ltb-true}
 use Rattle.base.specs.Choice.{_<?_, cond-ind}
 use Rattle.base.specs.Ranges.{allb}
-use Rattle.table.specs.Field.{Field, State, Known, End, Size, Gap, Degree, LiveCount, StableCount, Flag, PairIncarnation, PairNumber, placeHead, word, same}
+use Rattle.table.specs.Field.{Field, State, Known, End, Size, Gap, Served, Degree, LiveCount, StableCount, Flag, PairIncarnation, PairNumber, placeHead, word, same}
 use Rattle.table.specs.Change.{put, put-ind, put-same, put-other, putPart, part-ind}
 use Rattle.table.specs.Numbering.{numbers-put}
-use Rattle.rules.specs.Limits.{Limits, lastGap}
+use Rattle.rules.specs.Limits.{Limits, lastGap, lastServed}
 use Rattle.rules.specs.Form.{zeros, vectorOk, highest, rowOk, headZeros, inForm}
 use Rattle.rules.specs.Shared.{newestPlace, logged, loggedTo, checkpointed, forced, capped}
 use Rattle.laws.specs.Facts.{Fitting, Form, form, below-8, controllerForm, placeForm, known-top, end-top, live-number}
@@ -32,7 +32,14 @@ module _ (L : Limits) where
   unfolding okAt headZeros zeros allb put same
   kept-gap σ q l e =
       let f = form L σ e in
-      form-put L σ Gap q refl (head-ok L (put σ Gap q) (f .size-pos) (f .size-le) (omega (arith, numbers-put σ Gap q refl .used-same, f .used-le)) (f .spare-ok) l (f .again-ok)) e
+      form-put L σ Gap q refl (head-ok L (put σ Gap q) (f .size-pos) (f .size-le) (omega (arith, numbers-put σ Gap q refl .used-same, f .used-le)) (f .spare-ok) l (f .served-le) (f .again-ok)) e
+
+  -- the controller last served
+  pub kept-served : (σ : State) (c : ℕ) → c ≤ lastServed → inForm L σ ≡ true → inForm L (put σ Served c) ≡ true
+  unfolding okAt headZeros zeros allb put same
+  kept-served σ c l e =
+      let f = form L σ e in
+      form-put L σ Served c refl (head-ok L (put σ Served c) (f .size-pos) (f .size-le) (omega (arith, numbers-put σ Served c refl .used-same, f .used-le)) (f .spare-ok) (f .gap-le) l (f .again-ok)) e
 
   -- CONTROLLERS
   module _ (σ : State) (c : ℕ) (h : c < σ Size) where

@@ -12,10 +12,10 @@ use Rattle.base.specs.Choice.{_==_, _<?_, cond-ind, le?}
 use Rattle.base.specs.Ranges.{allb-get, allb-all}
 use Rattle.base.specs.Lists.{getD-tab}
 use Rattle.base.specs.Cases.{allOf}
-use Rattle.table.specs.Field.{State, Gap, desk, placeHead, messageHead, word, spareFrom, spareAgain, OfController, Known, End, OfPlace, OfMessage, Size, Degree, Incarnation, LiveCount, StableCount, PlaceIncarnation, PlaceNumber, Cause, Flag, PairIncarnation, PairNumber, MessageState, Sender, Receiver, SendingIncarnation, SendingNumber, MessagePairIncarnation, MessagePairNumber}
+use Rattle.table.specs.Field.{State, Gap, Served, desk, placeHead, messageHead, word, spareFrom, spareAgain, OfController, Known, End, OfPlace, OfMessage, Size, Degree, Incarnation, LiveCount, StableCount, PlaceIncarnation, PlaceNumber, Cause, Flag, PairIncarnation, PairNumber, MessageState, Sender, Receiver, SendingIncarnation, SendingNumber, MessagePairIncarnation, MessagePairNumber}
 use Rattle.table.specs.Layout.{controllers, incarnations, headWords, controllerWords, placeWords, messageWords}
 use Rattle.table.specs.Numbering.{numberOf, used, lastGiven}
-use Rattle.rules.specs.Limits.{Limits, lastIncarnation, lastGap}
+use Rattle.rules.specs.Limits.{Limits, lastIncarnation, lastGap, lastServed}
 use Rattle.rules.specs.Vector.{Pair, Vector, pair, noPair, pairOf, placeVector, messageVector, knownStable, filterPair, filtered, mergePair, merged, incarnation, number}
 use Rattle.rules.specs.Form.{stateHeld, stateDropped, forDesk, stateOk, zeros, pairOk, vectorOk, controllerOk, highest, rowOk, placeOk, messageOk, headZeros, headOk}
 use Rattle.rules.specs.Shared.{placeRecord}
@@ -40,15 +40,16 @@ dropped-ok true = refl
 dropped-ok false = refl
 
 -- the head
-pub head-ok : (L : Limits) (σ : State) → 1 ≤ σ Size → σ Size ≤ controllers → used σ ≤ L .messages → headZeros σ spareFrom (word Gap) ≡ true → σ Gap ≤ lastGap →
+pub head-ok : (L : Limits) (σ : State) → 1 ≤ σ Size → σ Size ≤ controllers → used σ ≤ L .messages → headZeros σ spareFrom (word Gap) ≡ true → σ Gap ≤ lastGap → σ Served ≤ lastServed →
     headZeros σ spareAgain headWords ≡ true → headOk L σ ≡ true
 unfolding headOk allOf
-head-ok L σ low high count spare gap again =
+head-ok L σ low high count spare gap served again =
     let e₀ = le-leb _ _ low in
     let e₁ = le-leb _ _ high in
     let e₂ = le-leb _ _ count in
     let e₄ = le-leb _ _ gap in
-    λ d. allOf (e₀ d ∷ e₁ d ∷ e₂ d ∷ spare d ∷ e₄ d ∷ again d ∷ [])
+    let e₅ = le-leb _ _ served in
+    λ d. allOf (e₀ d ∷ e₁ d ∷ e₂ d ∷ spare d ∷ e₄ d ∷ e₅ d ∷ again d ∷ [])
 
 module _ (L : Limits) (n : ℕ) where
   -- VECTORS

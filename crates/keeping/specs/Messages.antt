@@ -221,7 +221,7 @@ module _ (L : Limits) where
           (λ l. free-ok L (σ Size) τ c p (omega arith) (λ k kl. no-place f c p k cl pl (omega arith) kl))
 
       passes : (g : Field) → Tested L g → okAt L (σ Size) τ g ≡ true
-      passes (OfHead k) t = head-ok L τ (f .size-pos) (f .size-le) (omega (arith, posted-used σ w)) (f .spare-ok) (f .gap-le) (f .again-ok)
+      passes (OfHead k) t = head-ok L τ (f .size-pos) (f .size-le) (omega (arith, posted-used σ w)) (f .spare-ok) (f .gap-le) (f .served-le) (f .again-ok)
       passes (OfController c k) t = form-each L σ e (OfController c k) t
       passes (Known holder owner k) t = form-each L σ e (Known holder owner k) t
       passes (End holder owner k) t = form-each L σ e (End holder owner k) t

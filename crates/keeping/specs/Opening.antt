@@ -9,13 +9,14 @@ use borrow.Author.Tests.{eqb-true, ltb-true, lt-ltb, le-ltb, ne-eqb}
 use Rattle.base.specs.Choice.{_==_, _<?_, and-left, and-right, cond-ind, le?}
 use Rattle.base.specs.Ranges.{allb}
 use Rattle.base.specs.Lists.{getD-tab}
-use Rattle.table.specs.Field.{Field, State, OfHead, OfController, Known, End, OfPlace, OfMessage, Size, Discarded, Degree, Incarnation, LiveCount, StableCount, word}
+use Rattle.table.specs.Field.{Field, State, OfHead, OfController, Known, End, OfPlace, OfMessage, Degree, Incarnation, LiveCount, StableCount, word}
 use Rattle.table.specs.Layout.{controllers}
-use Rattle.table.specs.Numbering.{number-fresh, none-used}
+use Rattle.table.specs.Numbering.{none-used}
 use Rattle.rules.specs.Limits.{Limits}
 use Rattle.rules.specs.Vector.{pair, noPair}
 use Rattle.rules.specs.Form.{zeros, pairOk, vectorOk, controllerOk, highest, rowOk, placeOk, headZeros, inForm}
 use Rattle.rules.specs.Steps.{firstController, firstVector, openHouse}
+use Rattle.laws.specs.Numbers.{opened-number}
 use Rattle.laws.specs.Facts.{Fitting}
 use Rattle.laws.specs.Allowed.{OpenAllowed}
 use Rattle.keeping.specs.Untouched.{okAt, Tested, each-form}
@@ -62,7 +63,7 @@ module _ (L : Limits) (fit : Fitting L) (n k : ℕ) (w : OpenAllowed n k) where
   first c h =
       let live : σ (LiveCount c) ≡ 1 = rw (lt-ltb c n h) in
       place-new L n σ c 0 0 1 0 1 (firstVector c) (λ j _. rw (lt-ltb c n h)) (omega arith) (omega arith)
-      (sym (number-fresh σ c 1 (λ _. rw (ne-eqb (word (Discarded c)) (word Size) (omega arith))))) (omega arith) (omega arith) (λ _. refl) (vector c h)
+      (sym (opened-number n k c 1)) (omega arith) (omega arith) (λ _. refl) (vector c h)
 
   -- all others are free
   place : (c p : ℕ) → placeOk L n σ c p ≡ true
@@ -75,7 +76,7 @@ module _ (L : Limits) (fit : Fitting L) (n k : ℕ) (w : OpenAllowed n k) where
 
   passes : (g : Field) → Tested L g → okAt L n σ g ≡ true
   unfolding okAt openHouse headZeros zeros allb
-  passes (OfHead j) t = head-ok L σ (w .size-pos) (w .size-le) (omega (arith, none-used σ refl)) refl (omega arith) refl
+  passes (OfHead j) t = head-ok L σ (w .size-pos) (w .size-le) (omega (arith, none-used σ refl)) refl (omega arith) (omega (arith, w .size-le)) refl
   passes (OfController c j) t = controller c
   passes (Known holder owner j) t = row holder owner
   passes (End holder owner j) t = row holder owner

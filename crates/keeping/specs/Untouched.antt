@@ -9,11 +9,11 @@ use native.Mathlib.Omega.{arith}
 use Rattle.base.specs.Choice.{_==_, _≤?_, _<?_}
 use Rattle.base.specs.Ranges.{allb-ext, allb-get, allb-all}
 use Rattle.base.specs.Cases.{allOf, passed}
-use Rattle.table.specs.Field.{Field, State, OfHead, OfController, Known, End, OfPlace, OfMessage, Size, Degree, Incarnation, LiveCount, StableCount, PlaceIncarnation, PlaceNumber, Cause, Flag, MessageState, Sender, Receiver, SendingIncarnation, SendingNumber, PairIncarnation, PairNumber, MessagePairIncarnation, MessagePairNumber, Gap, desk, word, spareFrom, spareAgain, wordOf, same, same-true, same-refl}
+use Rattle.table.specs.Field.{Field, State, OfHead, OfController, Known, End, OfPlace, OfMessage, Size, Degree, Incarnation, LiveCount, StableCount, PlaceIncarnation, PlaceNumber, Cause, Flag, MessageState, Sender, Receiver, SendingIncarnation, SendingNumber, PairIncarnation, PairNumber, MessagePairIncarnation, MessagePairNumber, Gap, Served, desk, word, spareFrom, spareAgain, wordOf, same, same-true, same-refl}
 use Rattle.table.specs.Change.{differs, put, put-other, putPart}
 use Rattle.table.specs.Layout.{controllers, incarnations, headWords, controllerWords, placeWords, messageWords}
 use Rattle.table.specs.Numbering.{numberOf, used, lastGiven, numbering, Numbered, numbers-kept}
-use Rattle.rules.specs.Limits.{Limits, lastIncarnation, lastGap}
+use Rattle.rules.specs.Limits.{Limits, lastIncarnation, lastGap, lastServed}
 use Rattle.rules.specs.Form.{stateOk, zeros, vectorOk, controllerOk, highest, rowOk, placeOk, messageOk, headZeros, headOk, inForm}
 use Rattle.laws.specs.Facts.{form}
 use Rattle.laws.specs.Records.{part-other, placeVector-of, messageVector-of}
@@ -100,8 +100,9 @@ headOk-of L σ τ e count =
     let size = e (word Size) (omega arith) in
     let spare = headZeros-of σ τ spareFrom (word Gap) (λ k l. e k (omega arith)) in
     let gap = e (word Gap) (omega arith) in
+    let served = e (word Served) (omega arith) in
     let again = headZeros-of σ τ spareAgain headWords e in
-    λ d. allOf ((1 ≤? size d) ∷ (size d ≤? controllers) ∷ (count d ≤? L .messages) ∷ spare d ∷ (gap d ≤? lastGap) ∷ again d ∷ [])
+    λ d. allOf ((1 ≤? size d) ∷ (size d ≤? controllers) ∷ (count d ≤? L .messages) ∷ spare d ∷ (gap d ≤? lastGap) ∷ (served d ≤? lastServed) ∷ again d ∷ [])
 
 -- A TEST FOR EACH RECORD
 -- the test of the record that a field belongs to; known and end words are tested row by row

@@ -132,7 +132,7 @@ chain-of t c l h = chain-form (state t) c (form house (state t) (l .good)) h
 
 -- the words that it looks at: those of numbering, incarnations and live counts, and all flags, sending numbers and vectors
 abbrev pub onChain : Field → Bool
-onChain (OfHead k) = true
+onChain (OfHead k) = numbering (OfHead k)
 onChain (OfController c k) = (k == word (Incarnation c)) || (k == word (LiveCount c))
 onChain (Known holder owner i) = false
 onChain (End holder owner i) = false
@@ -140,7 +140,7 @@ onChain (OfPlace c p k) = word (Flag c p) ≤? k
 onChain (OfMessage r k) = numbering (OfMessage r k) || (word (SendingNumber r) ≤? k)
 
 numbering-on : (f : Field) → numbering f ≡ true → onChain f ≡ true
-numbering-on (OfHead k) e = refl
+numbering-on (OfHead k) e = e
 numbering-on (OfController c k) e = absurd (true≢false (sym e))
 numbering-on (Known holder owner i) e = absurd (true≢false (sym e))
 numbering-on (End holder owner i) e = absurd (true≢false (sym e))

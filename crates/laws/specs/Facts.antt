@@ -9,10 +9,10 @@ use Rattle.base.specs.Choice.{_==_, _≤?_, _<?_, and-left, and-right, cond-ind
 use Rattle.base.specs.Ranges.{allb, allb-get}
 use Rattle.base.specs.Lists.{getD-tab}
 use Rattle.base.specs.Cases.{passed, failed}
-use Rattle.table.specs.Field.{State, OfHead, OfController, OfPlace, Known, End, OfMessage, Size, Degree, Incarnation, LiveCount, StableCount, PlaceIncarnation, PlaceNumber, Cause, Flag, MessageState, Sender, Receiver, SendingIncarnation, SendingNumber, MessagePairIncarnation, Discarded, Gap, word, spareFrom, spareAgain}
+use Rattle.table.specs.Field.{State, OfHead, OfController, OfPlace, Known, End, OfMessage, Size, Degree, Incarnation, LiveCount, StableCount, PlaceIncarnation, PlaceNumber, Cause, Flag, MessageState, Sender, Receiver, SendingIncarnation, SendingNumber, MessagePairIncarnation, Discarded, Gap, Served, word, spareFrom, spareAgain}
 use Rattle.table.specs.Layout.{controllers, incarnations, headWords, controllerWords, placeWords, messageWords}
 use Rattle.table.specs.Numbering.{numberOf, lastLive, used, lastGiven, number-from, number-fresh}
-use Rattle.rules.specs.Limits.{Limits, house, lastIncarnation, lastGap}
+use Rattle.rules.specs.Limits.{Limits, house, lastIncarnation, lastGap, lastServed}
 use Rattle.rules.specs.Vector.{Pair, Vector, incarnation, number, pairOf, placeVector, messageVector}
 use Rattle.rules.specs.Form.{stateReleased, forDesk, stateOk, zeros, pairOk, vectorOk, controllerOk, highest, rowOk, placeOk, messageOk, headZeros, headOk, inForm}
 
@@ -35,6 +35,7 @@ pub record Form (L : Limits) (σ : State) : Type 0 where
   pub used-le : used σ ≤ L .messages
   pub spare-ok : headZeros σ spareFrom (word Gap) ≡ true
   pub gap-le : σ Gap ≤ lastGap
+  pub served-le : σ Served ≤ lastServed
   pub again-ok : headZeros σ spareAgain headWords ≡ true
   pub controllers-ok : allb controllers (controllerOk L (σ Size) σ) ≡ true
   pub rows-ok : allb controllers (λ (holder : ℕ). allb controllers (rowOk L (σ Size) σ holder)) ≡ true
@@ -54,6 +55,7 @@ form L σ e =
       used-le = leb-true _ _ (search h);
       spare-ok = search h;
       gap-le = leb-true _ _ (search h);
+      served-le = leb-true _ _ (search h);
       again-ok = search h;
       controllers-ok = search w;
       rows-ok = search w;

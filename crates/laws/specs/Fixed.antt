@@ -1,4 +1,4 @@
--- The words that no step but O and S writes: the head but for the gap, and what a message's record has between its state and its vector.
+-- The words that no step but O and S writes: those of the head that numbers depend on, and what a message's record has between its state and its vector.
 use mathlib.Core.Path.{_≡_, refl, sym, ap, _∙_}
 use mathlib.Core.Bool.{Bool, true, false, true≢false, _&&_}
 use mathlib.Core.List.{List}

@@ -2,14 +2,15 @@
 use mathlib.Core.Path.{_≡_, refl}
 use Prim.Native.Nat.{ℕ, _+_, _≤_, _<_, _^_}
 use native.Mathlib.Omega.{arith}
+use borrow.Author.Tests.{ne-eqb}
 use Rattle.base.specs.Choice.{_<?_, cond-ind}
-use Rattle.table.specs.Field.{State, Known, End, OfPlace, Incarnation, LiveCount, StableCount, Flag, MessageState}
+use Rattle.table.specs.Field.{State, Known, End, OfPlace, Size, Discarded, Served, Incarnation, LiveCount, StableCount, Flag, MessageState, word}
 use Rattle.table.specs.Layout.{places}
-use Rattle.table.specs.Numbering.{numberOf, lastLive, Numbered, numbers-refl, numbers-put, numbers-part, numbers-clear, numbers-states, numbers-trans, number-from}
+use Rattle.table.specs.Numbering.{numberOf, lastLive, Numbered, numbers-refl, numbers-put, numbers-part, numbers-clear, numbers-states, numbers-trans, number-from, number-fresh}
 use Rattle.rules.specs.Limits.{Limits, house, lastNumber}
 use Rattle.rules.specs.Vector.{Vector}
 use Rattle.rules.specs.Shared.{logged, loggedTo, checkpointed, forced, capped, causesIn, causes, placed, entered, restarted}
-use Rattle.rules.specs.Steps.{intervalAdded, noted}
+use Rattle.rules.specs.Steps.{intervalAdded, openHouse, noted}
 use Rattle.laws.specs.Allowed.{Room}
 
 -- RULES
@@ -53,6 +54,13 @@ module _ (σ : State) (c : ℕ) where
 pub numbers-noted : (σ : State) (hearer owner i : ℕ) → Numbered (noted σ hearer owner i) σ
 unfolding noted
 numbers-noted σ hearer owner i = numbers-trans _ _ σ (numbers-put _ (Known hearer owner i) _ refl) (numbers-put σ (End hearer owner i) _ refl)
+
+-- the numbers of a house just opened are counts
+pub opened-number : (n k c j : ℕ) → numberOf (openHouse n k) c j ≡ j
+unfolding openHouse
+opened-number n k c j =
+    number-fresh (openHouse n k) c j
+    (λ l. rw (ne-eqb (word (Discarded c)) (word Size) (omega arith), ne-eqb (word (Discarded c)) (word Served) (omega arith)))
 
 -- THE BOUND
 -- a number of c fits a word

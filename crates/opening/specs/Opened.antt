@@ -12,7 +12,7 @@ use borrow.Author.Tests.{eqb-true, eqb-false, not-false, eq-eqb, lt-ltb, le-ltb}
 use Rattle.base.specs.Choice.{_==_, _<?_, and-left, and-right, cond-ind, le?}
 use Rattle.base.specs.Lists.{tab-of}
 use Rattle.base.specs.Cases.{firstOf, cleared}
-use Rattle.table.specs.Field.{Field, State, OfHead, OfController, Known, End, OfPlace, OfMessage, Size, word, same}
+use Rattle.table.specs.Field.{Field, State, OfHead, OfController, Known, End, OfPlace, OfMessage, Size, Served, word, same}
 use Rattle.table.specs.Change.{put, put-ind, putPart, part-ind}
 use Rattle.table.specs.Layout.{controllers, controllerWords, placeWords, tableWords, Valid, position}
 use Rattle.table.specs.Words.{state, words, words-of, words-state, words-same, Agree, agree-words, agree-put, agree-part, lent-part, fits-controller, called, then-put, then-part}
@@ -35,7 +35,7 @@ beginsAt σ c k =
 
 -- O n k with only the controllers below c begun
 unfoldable pub openedTo : ℕ → ℕ → ℕ → State
-openedTo n k c = put (openHouse c k) Size n
+openedTo n k c = put (put (openHouse c k) Served (n - 1)) Size n
 
 -- one pair stored in an empty vector
 pub own-stored : (c : ℕ) → c < controllers → set (replicate controllers noPair) c (pair 0 1) ≡ firstVector c
@@ -81,29 +81,31 @@ cond-zero false = refl
 -- where no controller is begun and the size is 0, every word is 0
 none-begun : (k : ℕ) (f : Field) → 0 ≡ openHouse 0 k f
 unfolding openHouse
-none-begun k (OfHead w) = cond-zero (w == word Size)
+none-begun k (OfHead w) = cond-zero (w == word Size) ∙ ap (cond (w == word Size) 0) (cond-zero (w == word Served))
 none-begun k (OfController c w) = simp (le-ltb c 0 zero-le)
 none-begun k (Known holder owner i) = simp (le-ltb holder 0 zero-le)
 none-begun k (End holder owner i) = refl
 none-begun k (OfPlace c p w) = simp (le-ltb c 0 zero-le)
 none-begun k (OfMessage r w) = refl
 
--- the table was cleared, and the number of controllers stored
-pub opened-none : (t u : List ℕ) (n k : ℕ) → t ≡ zeroWords tableWords → u ≡ words (put (state t) Size n) → u ≡ words (openedTo n k 0)
+-- the table was cleared, and the controller last served and the number of controllers were stored
+pub opened-none : (t u w : List ℕ) (n k : ℕ) → t ≡ zeroWords tableWords → u ≡ words (put (state t) Served (n - 1)) → w ≡ words (put (state u) Size n) → w ≡ words (openedTo n k 0)
 unfolding openedTo
-opened-none t u n k e q =
-    then-put (openHouse 0 k) Size n
-    (e ∙ words-of (openHouse 0 k) (zeroWords tableWords) (length-zero tableWords) (λ f v. zero-at tableWords (position f) ∙ none-begun k f)) q
+opened-none t u w n k e q r =
+    then-put _ Size n
+    (then-put (openHouse 0 k) Served (n - 1)
+    (e ∙ words-of (openHouse 0 k) (zeroWords tableWords) (length-zero tableWords) (λ f v. zero-at tableWords (position f) ∙ none-begun k f)) q) r
 
--- the size that was put hides the one below it
-cond-twice : (b : Bool) (n m : ℕ) → cond (b && true) n (cond b m 0) ≡ cond b n 0
-cond-twice true n m = refl
-cond-twice false n m = refl
+-- the words that were put hide those below them: b tells the size, d the controller last served
+cond-twice : (b d : Bool) (n m : ℕ) → cond (b && true) n (cond (d && true) (n - 1) (cond b m (cond d (m - 1) 0))) ≡ cond b n (cond d (n - 1) 0)
+cond-twice true d n m = refl
+cond-twice false true n m = refl
+cond-twice false false n m = refl
 
 -- the head does not depend on how many controllers are begun
 head-put : (n k c w : ℕ) → openedTo n k c (OfHead w) ≡ openHouse n k (OfHead w)
 unfolding openedTo openHouse put same
-head-put n k c w = cond-twice (w == word Size) n c
+head-put n k c w = cond-twice (w == word Size) (w == word Served) n c
 
 -- a controller other than c is begun before c's turn just if it is begun after it
 begun-other : (d c : ℕ) → d ≢ c → (d <? c) ≡ (d <? c + 1)

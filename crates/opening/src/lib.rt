@@ -61,12 +61,13 @@ pub fn open_controller(t: &mut [u32], c: usize, k: u32)
     interval::write_place(t, c, 0, 0, 1, 0, 1, v);
 }
 
-// Every word becomes 0, the head gets n, and each of the n controllers begins.
+// Every word becomes 0, the head gets n and its last controller as the one served last, and each of the n controllers begins.
 pub fn open_house(t: &mut [u32], n: u32, k: u32)
     requires { ⌜ (length (now t) ≡ tableWords) × OpenAllowed n k ⌝ }
     ensures { λ _. ⌜ now (t .exit) ≡ words (openHouse n k) ⌝ }
 {
     interval::clear(t);
+    table::set_served(t, n - 1);
     table::set_size(t, n);
     let mut c = 0;
     while c < n as usize {

@@ -8,7 +8,7 @@ ghost use Rattle.table.specs.Words.{state};
 ghost use Rattle.rules.specs.Limits.{house};
 ghost use Rattle.rules.specs.Form.{headOk, controllerOk, rowOk, placeOk, messageOk};
 
-// The head: the number of controllers, the records in use, the gap, and zeros for the rest.
+// The head: the number of controllers, the records in use, the gap, the controller last served, and zeros for the rest.
 pub fn head_ok(t: &[u32]) -> bool
     requires { ⌜ length (now t) ≡ tableWords ⌝ }
     ensures { λ x. ⌜ x ≡ headOk house (state (now (t .entry))) ⌝ }
@@ -20,6 +20,7 @@ pub fn head_ok(t: &[u32]) -> bool
         & (table::records_used(t) <= table::MESSAGES as u32)
         & parts::all_zero(t, table::SPARE, table::GAP - table::SPARE)
         & (table::gap(t) <= table::LAST_GAP)
+        & (table::served(t) <= table::LAST_SERVED)
         & parts::all_zero(t, table::SPARE_AGAIN, rest)
 }
 

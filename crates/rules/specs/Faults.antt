@@ -10,7 +10,7 @@ use Rattle.base.specs.Ranges.{allb, anyb, first}
 use Rattle.base.specs.Lists.{tab}
 use Rattle.base.specs.Cases.{allOf, firstOf}
 use Rattle.base.specs.Splice.{splice}
-use Rattle.table.specs.Field.{State, OfHead, Known, End, Size, SentCount, Discarded, Gap, Degree, Incarnation, LiveCount, StableCount, PlaceNumber, Cause, Flag, PairNumber, MessageState, Sender, Receiver, SendingNumber, Payload, MessagePairIncarnation, MessagePairNumber, desk, same}
+use Rattle.table.specs.Field.{State, OfHead, Known, End, Size, SentCount, Discarded, Gap, Served, Degree, Incarnation, LiveCount, StableCount, PlaceNumber, Cause, Flag, PairNumber, MessageState, Sender, Receiver, SendingNumber, Payload, MessagePairIncarnation, MessagePairNumber, desk, same}
 use Rattle.table.specs.Change.{blank, put, putPart, clearPlaces, putStates}
 use Rattle.table.specs.Numbering.{numberOf, placeOf, used, lastGiven, recordOf, messageOf}
 use Rattle.rules.specs.Limits.{house, lastEntry, lastGap}
@@ -222,11 +222,16 @@ told-apart =
     ∷ ((stepGap blank lastGap .left Gap ∷ []) is (64 ∷ []) by refl)
     ∷ ((stepGap (with-gap 2) 0 .left Gap ∷ []) is (0 ∷ []) by refl)
     ∷ ((stepOpen house (with-gap 2) used-before 1 0 .left Gap ∷ []) is (0 ∷ []) by refl)
-    -- W4: a gap of 65 in form, or one of 64 not; a word beside it, 10 or 12, that may be anything.
+    -- W4: a gap of 65 in form, or one of 64 not; a word before it that may be anything.
     ∷ (truth (headOk house (in-head 11 64)) is yes by refl)
     ∷ (truth (headOk house (in-head 11 65)) is no by refl)
     ∷ (truth (headOk house (in-head 10 1)) is no by refl)
-    ∷ (truth (headOk house (in-head 12 1)) is no by refl)
+    -- W7: 8 in form as the controller last served, or 7 not where there are fewer; a word behind it that may be anything.
+    ∷ (truth (headOk house (in-head 12 7)) is yes by refl)
+    ∷ (truth (headOk house (in-head 12 8)) is no by refl)
+    ∷ (truth (headOk house (in-head 13 1)) is no by refl)
+    -- W7: another controller than n - 1 last served after an opening: the one that was, or controller 0.
+    ∷ ((openHouse 3 0 Served ∷ openHouse 1 0 Served ∷ []) is (2 ∷ 0 ∷ []) by refl)
     -- W5: each mask held against K by itself, though the union names two.
     ∷ (answer (releaseAll house two-named [] (1 ∷ 2 ∷ []) .answer) is answer (SetHeld 6) by refl)
     -- W5: the union of stored pairs: it would be held.

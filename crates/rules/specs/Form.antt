@@ -5,10 +5,10 @@ use Prim.Native.Nat.{ℕ, _+_, _-_}
 use Rattle.base.specs.Choice.{_==_, _≤?_, _<?_}
 use Rattle.base.specs.Ranges.{allb}
 use Rattle.base.specs.Cases.{allOf}
-use Rattle.table.specs.Field.{State, OfHead, OfController, Known, End, OfPlace, OfMessage, Size, Degree, Incarnation, LiveCount, StableCount, PlaceIncarnation, PlaceNumber, Cause, Flag, MessageState, Sender, Receiver, SendingIncarnation, SendingNumber, Gap, word, desk, spareFrom, spareAgain}
+use Rattle.table.specs.Field.{State, OfHead, OfController, Known, End, OfPlace, OfMessage, Size, Degree, Incarnation, LiveCount, StableCount, PlaceIncarnation, PlaceNumber, Cause, Flag, MessageState, Sender, Receiver, SendingIncarnation, SendingNumber, Gap, Served, word, desk, spareFrom, spareAgain}
 use Rattle.table.specs.Layout.{controllers, incarnations, headWords, controllerWords, placeWords, messageWords}
 use Rattle.table.specs.Numbering.{numberOf, used, lastGiven}
-use Rattle.rules.specs.Limits.{Limits, lastIncarnation, lastGap}
+use Rattle.rules.specs.Limits.{Limits, lastIncarnation, lastGap, lastServed}
 use Rattle.rules.specs.Vector.{Pair, Vector, incarnation, number, pairOf, placeVector, messageVector}
 
 -- "States: 0 unused, 1 held, 2 released, 3 delivered, 4 lost, 5 dropped." W1: "State 4 isn't given any more; a table that has it
@@ -115,7 +115,7 @@ unfoldable pub headZeros : State → ℕ → ℕ → Bool
 headZeros σ from to = zeros (to - from) (λ (k : ℕ). σ (OfHead (from + k)))
 
 -- "n (1 to 8); word 1: messages sent (0 to 128); words 2 to 15 are 0", but for W4's gap, "kept in word 11 of the table, in form up
--- to 64"
+-- to 64", and W7's controller last served: "Word 12 is in form up to 7", however many controllers there are
 unfoldable pub headOk : Limits → State → Bool
 headOk L σ =
     allOf
@@ -124,6 +124,7 @@ headOk L σ =
     ∷ (used σ ≤? L .messages)
     ∷ headZeros σ spareFrom (word Gap)
     ∷ (σ Gap ≤? lastGap)
+    ∷ (σ Served ≤? lastServed)
     ∷ headZeros σ spareAgain headWords
     ∷ [])
 

@@ -21,6 +21,10 @@ lastNumber = 64
 abbrev pub lastGap : ℕ
 lastGap = 64
 
+-- W7: "Word 12 is in form up to 7"
+abbrev pub lastServed : ℕ
+lastServed = 7
+
 -- W2: "the ledger has 257 words: a count, then 128 pairs"
 abbrev pub lastEntry : ℕ
 lastEntry = 128

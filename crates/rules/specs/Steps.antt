@@ -22,7 +22,7 @@ use Rattle.base.specs.Choice.{_==_, _≤?_, _<?_}
 use Rattle.base.specs.Ranges.{first}
 use Rattle.base.specs.Lists.{tab}
 use Rattle.base.specs.Cases.{Case, _⇒_, firstOf}
-use Rattle.table.specs.Field.{State, OfHead, OfController, Known, End, OfPlace, OfMessage, Size, Gap, Degree, Incarnation, LiveCount, StableCount, PlaceIncarnation, PlaceNumber, MessageState, Sender, Receiver, desk, word, messageHead}
+use Rattle.table.specs.Field.{State, OfHead, OfController, Known, End, OfPlace, OfMessage, Size, Gap, Served, Degree, Incarnation, LiveCount, StableCount, PlaceIncarnation, PlaceNumber, MessageState, Sender, Receiver, desk, word, messageHead}
 use Rattle.table.specs.Change.{put, putPart}
 use Rattle.table.specs.Layout.{controllers, incarnations}
 use Rattle.table.specs.Numbering.{numberOf, used, nextMessage, recordOf, posted}
@@ -76,7 +76,8 @@ abbrev pub noController : State → ℕ → Bool
 noController σ c = σ Size ≤? c
 
 -- O n k: "n controllers, all with K = k; each has (0,1), flagged, stable, known to its owner, own pair (0,1) in its vector;
--- all else 0." The words of each controller, of its first place, and the vector there:
+-- all else 0." W7: "the controller last served, n − 1 after opening". The words of each controller, of its first place, and the vector
+-- there:
 abbrev pub firstController : ℕ → List ℕ
 firstController k = k ∷ 0 ∷ 1 ∷ 1 ∷ []
 
@@ -87,7 +88,7 @@ abbrev pub firstVector : ℕ → Vector
 firstVector c = tab controllers (λ (owner : ℕ). cond (owner == c) (pair 0 1) noPair)
 
 unfoldable pub openHouse : ℕ → ℕ → State
-openHouse n k (OfHead w) = cond (w == word Size) n 0
+openHouse n k (OfHead w) = cond (w == word Size) n (cond (w == word Served) (n - 1) 0)
 openHouse n k (OfController c w) = cond (c <? n) (getD (firstController k) w 0) 0
 openHouse n k (Known holder owner i) = cond ((holder <? n) && ((holder == owner) && (i == 0))) 1 0
 openHouse n k (End holder owner i) = 0

@@ -1,6 +1,6 @@
 -- The words of a house by name, and a state: the number that stands in each. No word position is named here.
 use mathlib.Core.Path.{_≡_, refl, sym, _∙_}
-use mathlib.Core.Bool.{Bool, true, _&&_}
+use mathlib.Core.Bool.{Bool, true, _&&_, _||_}
 use Prim.Native.Nat.{ℕ, zero, suc, _+_, _*_}
 use borrow.Author.Tests.{eqb-true, eq-eqb}
 use Rattle.base.specs.Choice.{_==_, and-left, and-right}
@@ -23,7 +23,7 @@ pub data Field : Type 0 where
 abbrev pub State : Type 0
 State = Field → ℕ
 
--- "From 0: n; word 1: messages sent; words 2 to 15 are 0", but for the gap
+-- "From 0: n; word 1: messages sent; words 2 to 15 are 0", but for the gap and the controller last served
 abbrev pub Size : Field
 Size = OfHead 0
 
@@ -38,12 +38,16 @@ Discarded c = OfHead (3 + c)
 abbrev pub Gap : Field
 Gap = OfHead 11
 
--- the first word of the head that the form has at 0, and the first after the gap
+-- W7: a dispatcher "keeps the controller last served .. in word 12"
+abbrev pub Served : Field
+Served = OfHead 12
+
+-- the first word of the head that the form has at 0, and the first after these two
 abbrev pub spareFrom : ℕ
 spareFrom = 2
 
 abbrev pub spareAgain : ℕ
-spareAgain = 12
+spareAgain = 13
 
 -- "Per controller 4 words: K, incarnation, live count, stable count."
 abbrev pub Degree : ℕ → Field
@@ -129,6 +133,10 @@ word (Known b a i) = i
 word (End b a i) = i
 word (OfPlace c p k) = k
 word (OfMessage r k) = k
+
+-- the words of the head that no number depends on: the gap, and the controller last served
+abbrev pub numberless : ℕ → Bool
+numberless i = (i == word Gap) || (i == word Served)
 
 abbrev pub owner : Field → ℕ
 owner (OfHead i) = 0

@@ -9,7 +9,7 @@ use native.Mathlib.Omega.{arith}
 use lib.ListN.{length, getD}
 use borrow.Author.Tests.{leb-true, ltb-true, le-leb, lt-ltb, le-ltb, ne-eqb}
 use Rattle.base.specs.Choice.{_==_, _≤?_, _<?_, and-left, and-right, cond-ind, le?}
-use Rattle.table.specs.Field.{Field, State, OfHead, OfController, Known, End, OfPlace, OfMessage, Size, SentCount, Discarded, Gap, LiveCount, region, word, wordOf, alike, alike-word, same, messageHead}
+use Rattle.table.specs.Field.{Field, State, OfHead, OfController, Known, End, OfPlace, OfMessage, Size, SentCount, Discarded, Gap, Served, LiveCount, region, word, numberless, wordOf, alike, alike-word, same, messageHead}
 use Rattle.table.specs.Change.{put, put-ind, put-same, put-other, putPart, part-ind, clearPlaces, clear-ind, putStates, states-ind}
 use Rattle.table.specs.Layout.{controllers, messages, headWords}
 use Rattle.table.specs.Words.{state, words, Agree, agree-value, agree-part-to, then-put}
@@ -260,7 +260,7 @@ module _ (σ : State) (w : List ℕ) where
       absurd (omega (arith, given-present σ m (present-pos (posted σ w) m here) (omega (arith, present-given (posted σ w) m here)))))
       (λ l. omega arith)
 
-  -- the number of controllers, and the gap
+  -- the number of controllers, the gap, and the controller last served
   pub posted-size : posted σ w Size ≡ σ Size
   unfolding posted put same putPart
   posted-size = refl
@@ -269,10 +269,14 @@ module _ (σ : State) (w : List ℕ) where
   unfolding posted put same putPart
   posted-gap = refl
 
+  pub posted-served : posted σ w Served ≡ σ Served
+  unfolding posted put same putPart
+  posted-served = refl
+
 -- UNTOUCHED BY OTHER WORDS
--- the words that numbering looks at: all of the head but the gap
+-- the words that numbering looks at, of the head alone
 abbrev pub numbering : Field → Bool
-numbering (OfHead i) = not (i == word Gap)
+numbering (OfHead i) = not (numberless i)
 numbering (OfController c k) = false
 numbering (Known holder owner i) = false
 numbering (End holder owner i) = false
@@ -294,7 +298,7 @@ unfolding numberOf placeOf used lastGiven recordOf messageOf
 numbers-kept σ τ h =
     let e : σ SentCount ≡ τ SentCount = h SentCount refl in
     let gone : (c : ℕ) → discarded σ c ≡ discarded τ c = λ c. le? (c + 1) controllers
-    (λ l. rw (lt-ltb c controllers (omega arith)) (h (Discarded c) (ap not (ne-eqb (word (Discarded c)) (word Gap) (λ z. omega arith)))))
+    (λ l. rw (lt-ltb c controllers (omega arith)) (h (Discarded c) (rw (ne-eqb (word (Discarded c)) (word Gap) (λ z. omega arith), ne-eqb (word (Discarded c)) (word Served) (λ z. omega arith)))))
     (λ l. rw (le-ltb c controllers (omega arith))) in
     record {
       number = λ c k. ap (λ d. d + k) (gone c);

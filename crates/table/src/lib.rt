@@ -5,7 +5,7 @@ ghost use mathlib.Core.Path.{_≡_};
 ghost use Prim.Native.Nat.{_≤_, _<_, _^_};
 ghost use Rattle.base.specs.Choice.{_==_};
 ghost use lib.ListN.{length};
-ghost use Rattle.table.specs.Field.{OfController, OfPlace, OfMessage, Known, End, Size, SentCount, Gap, Discarded, Degree, Incarnation, LiveCount, StableCount, PlaceIncarnation, PlaceNumber, Cause, Flag, MessageState, Sender, Receiver, SendingIncarnation, SendingNumber, Payload, placeHead, messageHead};
+ghost use Rattle.table.specs.Field.{OfController, OfPlace, OfMessage, Known, End, Size, SentCount, Gap, Served, Discarded, Degree, Incarnation, LiveCount, StableCount, PlaceIncarnation, PlaceNumber, Cause, Flag, MessageState, Sender, Receiver, SendingIncarnation, SendingNumber, Payload, placeHead, messageHead};
 ghost use Rattle.table.specs.Change.{put};
 ghost use Rattle.table.specs.Layout.{controllers, incarnations, places, messages, tableWords, position};
 ghost use Rattle.table.specs.Words.{state, words};
@@ -60,6 +60,9 @@ pub const LAST_NUMBER: u32 = 64;
 // The largest gap between checkpoints that can be set.
 pub const LAST_GAP: u32 = 64;
 
+// The highest number in the word of the controller last served.
+pub const LAST_SERVED: u32 = 7;
+
 // The receiver that is no controller: the desk.
 pub const DESK: u32 = 8;
 
@@ -85,7 +88,9 @@ pub const DISCARDED: usize = 3;
 
 pub const GAP: usize = 11;
 
-pub const SPARE_AGAIN: usize = 12;
+pub const SERVED: usize = 12;
+
+pub const SPARE_AGAIN: usize = 13;
 
 // The words of a controller's record, and where those of controller c stand, at + c * CONTROLLER_WORDS.
 pub const DEGREE_WORD: usize = 0;
@@ -193,6 +198,21 @@ pub fn set_gap(t: &mut [u32], x: u32)
     ensures { λ _. ⌜ now (t .exit) ≡ words (put (state (now (t .entry))) Gap x) ⌝ }
 {
     t[GAP] = x;
+}
+
+// The controller that the dispatcher served last.
+pub fn served(t: &[u32]) -> u32
+    requires { ⌜ length (now t) ≡ tableWords ⌝ }
+    ensures { λ x. ⌜ x ≡ state (now (t .entry)) Served ⌝ }
+{
+    t[SERVED]
+}
+
+pub fn set_served(t: &mut [u32], x: u32)
+    requires { ⌜ length (now t) ≡ tableWords ⌝ }
+    ensures { λ _. ⌜ now (t .exit) ≡ words (put (state (now (t .entry))) Served x) ⌝ }
+{
+    t[SERVED] = x;
 }
 
 // A controller's own words.

@@ -15,10 +15,15 @@ Inv-loop t₀ n k c₀ t c = (c ≤ n) × (t ≡ words (openedTo n k c))
 abbrev μ-loop : tie.MeasureT-loop
 μ-loop t₀ n k c₀ t c = n - c
 
+-- there is a controller
+sub-set-served : tie.Need-sub-set-served Inv-loop μ-loop
+sub-set-served c = c .before .before .before .before .before .before .pre .1 .size-pos
+
 loop-holds : tie.Need-loop-holds Inv-loop μ-loop
 loop-holds c =
     let s = c .before .before .before .before .before .before in
-    (search needs, opened-none _ _ _ _ (s .clear .ensures ∙ ap zeroWords (s .before .before .before .pre .0)) (c .before .before .set-size .ensures))
+    let u = s .before .before .before .before in
+    (search needs, opened-none _ _ _ _ _ (u .clear .ensures ∙ ap zeroWords (u .before .before .before .pre .0)) (s .set-served .ensures) (c .before .before .set-size .ensures))
 
 open-controller-requires : tie.Need-open-controller-requires Inv-loop μ-loop
 open-controller-requires c κs = (long-of _ (c .before .before .loop .inv .1), omega arith)
@@ -36,5 +41,5 @@ pub open-house-spec : {M : Type 1} → statement M
 open-house-spec =
     tie.close
     (tie.spec
-    Inv-loop μ-loop (λ c κs. search needs) (λ c κs. search needs) loop-holds open-controller-requires
-    (λ c. search needs) (λ c. search needs) loop-again same-length returns)
+    Inv-loop μ-loop (λ c κs. search needs) sub-set-served (λ c κs. search needs) (λ c κs. search needs) loop-holds
+    open-controller-requires (λ c. search needs) (λ c. search needs) loop-again same-length returns)

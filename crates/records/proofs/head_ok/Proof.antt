@@ -12,10 +12,11 @@ use Rattle.records.proofs.head_ok.Tie as tie
 returns : tie.Need-returns
 unfolding headOk allOf
 returns c =
-    let x = c .before .before in
+    let x = c .before .before .before in
     rw (
       x .all-zero .ensures ∙ zeros-head _ spareFrom (word Gap),
-      c .before .gap .ensures,
+      c .before .before .gap .ensures,
+      c .before .served .ensures,
       c .all-zero2 .ensures ∙ zeros-head _ spareAgain headWords,
       x .before .records-used .ensures,
       x .before .before .size .ensures,
@@ -26,4 +27,4 @@ head-ok-spec =
     tie.close
     (tie.spec
     (λ c κs. search needs) (λ c. search needs) (λ c. search needs) (λ c κs. search needs) (λ c. search needs)
-    (λ c. search needs) (λ c κs. search needs) (λ c κs. search needs) (λ c κs. search needs) returns)
+    (λ c. search needs) (λ c κs. search needs) (λ c κs. search needs) (λ c κs. search needs) (λ c κs. search needs) returns)
