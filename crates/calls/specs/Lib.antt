@@ -1,2 +1,4 @@
 pub mod Sets
+pub mod Would
+pub mod Dispatch
 pub mod Made

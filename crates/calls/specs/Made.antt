@@ -1,5 +1,6 @@
--- A call is made of steps: one that asks for a step of that step, a set of its releases where it goes, and of none where it doesn't. So what each
--- step keeps each call keeps (`call-ind`), and what lets a message out is one of its releases (`out-part`).
+-- A call is made of steps: one that asks for a step of that step, a set of its releases where it goes, and of none where it doesn't, the
+-- dispatcher of the delivery that it performs, and then of the word of the controller last served. So what each step keeps, and that word
+-- doesn't touch, each call keeps (`call-ind`), and what lets a message out is one of its releases (`out-part`).
 use mathlib.Core.Path.{_≡_, refl, sym, ap, _∙_, subst}
 use mathlib.Core.Bool.{true}
 use mathlib.Core.List.{List}
@@ -10,15 +11,19 @@ use lib.ListN.{length, take}
 use lib.Seq.{take-length}
 use Rattle.base.specs.Choice.{le?}
 use Rattle.table.specs.Words.{state}
+use Rattle.rules.specs.Limits.{lastServed}
 use Rattle.rules.specs.Sets.{nth}
-use Rattle.rules.specs.Step.{Call, asks, releaseSet, stepCall}
+use Rattle.rules.specs.Step.{Call, asks, releaseSet, stepCall, dispatch}
 use Rattle.rules.specs.declared.Answer.{Answer}
 use Rattle.rules.specs.declared.Answer.the-variants.{Done, Released, SetReleased}
 use Rattle.rules.specs.declared.Command.{Command}
-use Rattle.rules.specs.declared.Command.the-variants.{Open, Release}
+use Rattle.rules.specs.declared.Command.the-variants.{Open, Release, Deliver}
+use Rattle.laws.specs.Answering.{Lent}
+use Rattle.keeping.specs.Kept.{kept}
 use Rattle.history.specs.History.{fedStep, fed}
 use Rattle.history.specs.Demand.{Run, callIn, stepIn, next, runs, named, LetsGo, alone, together}
 use Rattle.laws.specs.Together.{ownMask, own-named}
+use Rattle.calls.specs.Dispatch.{Serves, messageAt, serves-low, turned, deliveryAt, DispatchRun, nobody, somebody, dispatch-run}
 use Rattle.calls.specs.Sets.{releases, releases-more, releases-history, way-answer, set-goes, SetRun, stays, goes-out, set-run, set-runs}
 
 -- a step with this answer is not an opening that is done
@@ -34,8 +39,13 @@ pub data PartOf (r : Run) : Call → Run → Command → Type 0 where
   itself : (y : Command) → PartOf r (asks y) r y
   in-set : (l : List ℕ) (i mask : ℕ) → i < length l → callIn r (releaseSet l) .answer ≡ SetReleased mask →
       PartOf r (releaseSet l) (runs r (releases (take i l))) (Release (nth l i))
+  in-turn : (c k : ℕ) → Serves (r .table) c k → next dispatch r ≡ turned (deliveryAt r k) c → PartOf r dispatch r (Deliver (messageAt (r .table) k))
 
 -- FACTS THAT EACH STEP KEEPS
+-- a fact that doesn't look at the controller last served, of a table in form
+abbrev pub Unturned : (Run → Type 0) → Type 0
+Unturned P = (q : Run) (c : ℕ) → Lent (q .table) → c ≤ lastServed → P q → P (turned q c)
+
 module _ (P : Run → Type 0) (r : Run) where
   -- each step of call x keeps P
   abbrev Kept : Call → Type 0
@@ -55,11 +65,21 @@ module _ (P : Run → Type 0) (r : Run) where
   to-the-end l mask e keeps i h p =
       subst P (sym (set-runs r l mask e)) (subst (λ m. P (runs r (releases m))) (take-length l) (on-the-way l mask e keeps i (length l) h (omega arith) p))
 
+  -- the delivery that the dispatcher performs, and then its word
+  turn-on : Unturned P → (c k : ℕ) → Serves (r .table) c k → next dispatch r ≡ turned (deliveryAt r k) c → P (deliveryAt r k) → P (next dispatch r)
+  unfolding next stepCall
+  turn-on free c k w same p = subst P (sym same) (free _ c (kept (r .table) (r .ledger) (Deliver (messageAt (r .table) k)) (w .table)) (serves-low w) p)
+
   -- What each step of a call keeps is kept by the call,
-  pub call-ind : (x : Call) → P r → Kept x → P (next x r)
+  pub call-ind : Unturned P → (x : Call) → P r → Kept x → P (next x r)
   unfolding runs
-  call-ind (asks y) p keeps = keeps r y (itself y) p
-  call-ind (releaseSet l) p keeps = go (set-run r l)
+  call-ind free (asks y) p keeps = keeps r y (itself y) p
+  call-ind free dispatch p keeps = go (dispatch-run r)
+    where
+      go : DispatchRun r → P (next dispatch r)
+      go (nobody other same) = subst P (sym same) p
+      go (somebody c k w same) = turn-on free c k w same (keeps r _ (in-turn c k w same) p)
+  call-ind free (releaseSet l) p keeps = go (set-run r l)
     where
       go : SetRun r l → P (next (releaseSet l) r)
       go (stays other same) = subst P (sym same) p
@@ -69,29 +89,34 @@ module _ (P : Run → Type 0) (r : Run) where
   pub part-ind : {x : Call} {q : Run} {y : Command} → PartOf r x q y → P r → Kept x → P q
   unfolding runs
   part-ind (itself y) p keeps = p
+  part-ind (in-turn c k w same) p keeps = p
   part-ind (in-set l i mask h e) p keeps = on-the-way l mask e keeps 0 i (omega arith) (omega arith) p
 
   -- and, if it holds after one of them, after the call.
-  pub part-on : {x : Call} {q : Run} {y : Command} → PartOf r x q y → P (next (asks y) q) → Kept x → P (next x r)
-  part-on (itself y) p keeps = p
-  part-on (in-set l i mask h e) p keeps = to-the-end l mask e keeps (suc i) h (subst P (sym (releases-more r l i h)) p)
+  pub part-on : Unturned P → {x : Call} {q : Run} {y : Command} → PartOf r x q y → P (next (asks y) q) → Kept x → P (next x r)
+  part-on free (itself y) p keeps = p
+  part-on free (in-turn c k w same) p keeps = turn-on free c k w same p
+  part-on free (in-set l i mask h e) p keeps = to-the-end l mask e keeps (suc i) h (subst P (sym (releases-more r l i h)) p)
 
 -- STEPS OF A CALL
 -- A step of a call is no done opening, if the call isn't;
 pub part-not-done : {r q : Run} {x : Call} {y : Command} → PartOf r x q y → NotDone r x → NoDoneOpening y (stepIn q y .answer)
 unfolding stepCall
 part-not-done (itself y) ne size degree e = ne size degree (ap asks e)
+part-not-done (in-turn c k w same) ne size degree z = absurd (let q : _≡_ {A = ℕ} 0 1 = cc in omega arith)
 part-not-done (in-set l i mask h e) ne size degree z = absurd (let q : _≡_ {A = ℕ} 0 1 = cc in omega arith)
 
 -- the history before it is that before the call;
 pub part-history : {r q : Run} {x : Call} {y : Command} → PartOf r x q y → q .history ≡ r .history
 part-history (itself y) = refl
+part-history (in-turn c k w same) = refl
 part-history {r = r} (in-set l i mask h e) = releases-history r (take i l)
 
 -- and that after it is that after the call.
 pub part-then : {r q : Run} {x : Call} {y : Command} → PartOf r x q y → next (asks y) q .history ≡ next x r .history
 unfolding next fed fedStep
 part-then (itself y) = refl
+part-then (in-turn c k w same) = ap (λ (q : Run). q .history) (sym same)
 part-then {r = r} (in-set l i mask h e) = releases-history r (take i l)
 
 -- What a call shows of message m when it lets it out: one of its steps is the release of m, which answers released, and names nobody whom the call
@@ -127,6 +152,7 @@ pub part-out : {r q : Run} {x : Call} {y : Command} (m echoed own : ℕ) → Par
 unfolding stepCall
 part-out {r = r} m echoed own (itself y) is e =
     (own, subst (λ y. LetsGo (asks y) (stepIn r y .answer) m own) (sym is) (subst (λ a. LetsGo (asks (Release m)) a m own) (sym e ∙ ap (λ y. stepIn r y .answer) is) (alone m echoed own)), λ c z. z)
+part-out m echoed own (in-turn c k w same) is e = absurd (let z : _≡_ {A = ℕ} 0 1 = cc in omega arith)
 part-out {r = r} m echoed own (in-set l i mask h s) is e =
     let (w, union-is) = set-goes (r .table) (r .ledger) l mask s in
     let here : nth l i ≡ m = cc in
@@ -136,7 +162,8 @@ part-out {r = r} m echoed own (in-set l i mask h s) is e =
       λ c z. subst (λ k. named k c ≡ true) union-is (own-named (state (r .table)) l i c h (subst (λ k. named k c ≡ true) (sym mine) z)),
     )
 
--- a step that releases nothing is the call itself
-pub part-itself : {r q : Run} {x : Call} {y : Command} → PartOf r x q y → ((m : ℕ) → y ≢ Release m) → (x ≡ asks y) × (q ≡ r)
-part-itself (itself y) ne = (refl, refl)
-part-itself (in-set l i mask h s) ne = absurd (ne _ refl)
+-- a step that neither releases nor delivers is the call itself
+pub part-itself : {r q : Run} {x : Call} {y : Command} → PartOf r x q y → ((m : ℕ) → y ≢ Release m) → ((m : ℕ) → y ≢ Deliver m) → (x ≡ asks y) × (q ≡ r)
+part-itself (itself y) release deliver = (refl, refl)
+part-itself (in-turn c k w same) release deliver = absurd (deliver _ refl)
+part-itself (in-set l i mask h s) release deliver = absurd (release _ refl)

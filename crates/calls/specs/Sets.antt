@@ -19,7 +19,7 @@ use Rattle.rules.specs.Form.{inForm}
 use Rattle.rules.specs.Report.{report}
 use Rattle.rules.specs.Steps.{AfterBoth}
 use Rattle.rules.specs.Sets.{nth, union, outTo, ledgerTo}
-use Rattle.rules.specs.Step.{OutBoth, outBoth, writtenBoth, lent, setOn, Call, asks, releaseSet, stepCall}
+use Rattle.rules.specs.Step.{OutBoth, outBoth, writtenBoth, lent, setOn, Call, asks, releaseSet, stepCall, perform}
 use Rattle.rules.specs.declared.Answer.{Answer}
 use Rattle.rules.specs.declared.Answer.the-variants.{Released, Refused, SetReleased, SetHeld}
 use Rattle.rules.specs.declared.Command.the-variants.{Release}
@@ -31,7 +31,8 @@ use Rattle.laws.specs.Answering.{Lent}
 use Rattle.laws.specs.Together as T
 use Rattle.laws.specs.Together.{ownMask, Goes, Stays, each-released, SetOutcome, set-outcome}
 use Rattle.keeping.specs.StepSame.{step-words}
-use Rattle.keeping.specs.Sets.{as-step, kept-on-the-way}
+use Rattle.keeping.specs.Steps.{performed}
+use Rattle.keeping.specs.Sets.{kept-on-the-way}
 
 -- runs of a list in two parts
 pub runs-append : (r : Run) (l l′ : List Call) → runs r (l ++ l′) ≡ runs (runs r l) l′
@@ -131,11 +132,12 @@ module _ (r : Run) {l : List ℕ} (w : SetGoes (r .table) (r .ledger) l) where
   -- R on the i-th, after those before it
   way-step : (i : ℕ) → i < length l →
       stepIn (way i) (Release (nth l i)) ≡ outBoth (Released (nth l i) (ownMask σ l i)) (words (outTo σ l (suc i))) (ledgerTo σ (r .ledger) l (suc i))
+  unfolding perform
   way-step i h =
       let τ = outTo σ l i in
       let k = ledgerTo σ (r .ledger) l i in
       let good = kept-on-the-way house house-fits σ (r .ledger) l (w .table .good) (w .all) i (omega arith) .table in
-      step-words τ k (Release (nth l i)) ∙ ap writtenBoth (as-step house τ k (nth l i) good ∙ each-released (w .all) i h)
+      step-words τ k (Release (nth l i)) ∙ ap writtenBoth (performed house τ k good (Release (nth l i)) ∙ each-released (w .all) i h)
 
   way-next : (i : ℕ) → i < length l → next (asks (Release (nth l i))) (way i) ≡ way (suc i)
   unfolding next stepCall fed fedStep cited citedStep answers report

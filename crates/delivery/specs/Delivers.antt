@@ -108,12 +108,14 @@ pub next-begins : (t : List ℕ) (m r c : ℕ) → c ≡ state t (Receiver r) �
 unfolding comesOf
 next-begins t m r c ce v ve x y xe ye w we a u h = rw (← ce, ← ve, ← xe, ← ye, ← we) h
 
--- D, of which p would come
-module _ (t : List ℕ) (m r : ℕ) (p : Prospect) (pe : p ≡ prospect house (state t) r) where
-  -- and comes
-  pub comes : (q : Prospect) → p ≡ q → (a : Answer) (u : List ℕ) → out a u ≡ written (comesOf (state t) m r q) → out a u ≡ written (deliver house (state t) m r)
-  unfolding deliver
-  comes q e a u h = h ∙ ap (λ q. written (comesOf (state t) m r q)) (sym e ∙ pe)
+-- of p comes what comes of q, the case that p is
+pub comes : (σ : State) (m r : ℕ) (p q : Prospect) → p ≡ q → (a : Answer) (u : List ℕ) → out a u ≡ written (comesOf σ m r q) → out a u ≡ written (comesOf σ m r p)
+comes σ m r p q e a u h = h ∙ ap (λ q. written (comesOf σ m r q)) (sym e)
+
+-- D, of which p would come, and came
+pub delivered : (σ : State) (m r : ℕ) (p : Prospect) → p ≡ prospect house σ r → (a : Answer) (u : List ℕ) → out a u ≡ written (comesOf σ m r p) → out a u ≡ written (deliver house σ m r)
+unfolding deliver
+delivered σ m r p e a u h = h ∙ ap (λ q. written (comesOf σ m r q)) e
 
 -- D m, whose record was found: refused, or done
 module _ (t : List ℕ) (m r n : ℕ) (q : r ≡ recordOf (state t) m) (e : n ≡ firstOf (messageRefusals (state t) r stateReleased)) where

@@ -78,12 +78,11 @@ pub fn deliver_next(t: &mut [u32], m: u32, r: usize) -> Answer
     begin_interval(t, c, m, r, vector::merge_vector(ours, theirs))
 }
 
-// D on message m in record r, which its refusals let pass.
-pub fn deliver_record(t: &mut [u32], m: u32, r: usize) -> Answer
-    requires { ⌜ (length (now t) ≡ tableWords) × Taken (state (now t)) r ⌝ }
-    ensures { λ a. ⌜ out a (now (t .exit)) ≡ written (deliver house (state (now (t .entry))) m r) ⌝ }
+// What would come of message m, in record r, comes of it.
+pub fn come_of(t: &mut [u32], m: u32, r: usize, p: Prospect) -> Answer
+    requires { ⌜ (length (now t) ≡ tableWords) × Taken (state (now t)) r × (p ≡ prospect house (state (now t)) r) ⌝ }
+    ensures { λ a. ⌜ out a (now (t .exit)) ≡ written (comesOf (state (now (t .entry))) m r p) ⌝ }
 {
-    let p = prospect(t, r);
     match p {
         Prospect::WouldDrop(owner, i) => {
             table::set_message_state(t, r, table::DROPPED);
@@ -93,6 +92,15 @@ pub fn deliver_record(t: &mut [u32], m: u32, r: usize) -> Answer
         Prospect::NoPlaceLeft => Answer::Refused(refusal::PLACES_USED_UP),
         Prospect::WouldBegin => deliver_next(t, m, r),
     }
+}
+
+// D on message m in record r, which its refusals let pass.
+pub fn deliver_record(t: &mut [u32], m: u32, r: usize) -> Answer
+    requires { ⌜ (length (now t) ≡ tableWords) × Taken (state (now t)) r ⌝ }
+    ensures { λ a. ⌜ out a (now (t .exit)) ≡ written (deliver house (state (now (t .entry))) m r) ⌝ }
+{
+    let p = prospect(t, r);
+    come_of(t, m, r, p)
 }
 
 // D m, on a table in form.

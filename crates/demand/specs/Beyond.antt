@@ -12,11 +12,11 @@ use Rattle.table.specs.Words.{state}
 use Rattle.rules.specs.Limits.{house}
 use Rattle.rules.specs.Report.{report}
 use Rattle.rules.specs.Sets.{nth}
-use Rattle.rules.specs.Step.{OutBoth, step, Call, asks, releaseSet, stepCall}
+use Rattle.rules.specs.Step.{OutBoth, step, Call, asks, releaseSet, dispatch, stepCall}
 use Rattle.rules.specs.declared.Answer.{Answer}
 use Rattle.rules.specs.declared.Answer.the-variants.{Done, Released, Dropped, Crashed, Rolled, SetReleased}
 use Rattle.rules.specs.declared.Command.{Command}
-use Rattle.rules.specs.declared.Command.the-variants.{Open, Release, Crash}
+use Rattle.rules.specs.declared.Command.the-variants.{Open, Release, Crash, Deliver}
 use Rattle.history.specs.History.{Interval, History, member, joined, stabilized, flagging, degreeSet, sentFrom, gapSet, delivering, logging, checkpointing, beginning, opening, answers, fedStep, fed}
 use Rattle.history.specs.Demand.{Run, callIn, stepIn, next, justOpened, named, LetsGo, FromOpening, upTo, end, Cited}
 use Rattle.model.specs.Model.{Model, full, releasedVec}
@@ -27,6 +27,8 @@ use Rattle.model.specs.Blaming.{capped-heard}
 use Rattle.model.specs.Recovery.{HearsOf}
 use Rattle.laws.specs.Facts.{form, controllerForm}
 use Rattle.laws.specs.Together.{named-own, own-may}
+use Rattle.calls.specs.Dispatch as D
+use Rattle.calls.specs.Dispatch.{DispatchIn, dispatch-in}
 use Rattle.calls.specs.Sets.{SetIn, refused, held, goes, set-in, set-goes}
 use Rattle.calls.specs.Made.{NoDoneOpening, part-itself}
 use Rattle.model.specs.Runs.{in-list, part, along, later, at-end}
@@ -35,7 +37,7 @@ use Rattle.image.specs.Stepped.{release-found}
 use Rattle.image.specs.Outcome as O
 use Rattle.image.specs.Outcome.{Outcome}
 use Rattle.image.specs.Tables.{opening-done}
-use Rattle.testers.specs.Citing.{RunCites, cites-next, cites-opened}
+use Rattle.testers.specs.Citing.{RunCites, cites-next, cites-opened, cites-served}
 use Rattle.demand.specs.Demanded.{fed-refused, found, outcome, follows}
 use Rattle.demand.specs.InForm.{sound-after}
 
@@ -66,6 +68,12 @@ set-undoes-nothing : {t g l : List ℕ} {o : OutBoth} → SetIn t g l o → Undo
 set-undoes-nothing (refused number) u = elim u [ ]
 set-undoes-nothing (held table w) u = elim u [ ]
 set-undoes-nothing (goes w) u = elim u [ ]
+
+-- nor is a call of the dispatcher, if no delivery is
+dispatch-undoes-nothing : {t g : List ℕ} {o : OutBoth} → DispatchIn t g o → ((m : ℕ) → Undoes (step t g (Deliver m) .answer) → ⊥) → Undoes (o .answer) → ⊥
+dispatch-undoes-nothing (D.refused number) none u = elim u [ ]
+dispatch-undoes-nothing D.idle none u = elim u [ ]
+dispatch-undoes-nothing (D.serves c k w) none u = none _ u
 
 -- a crash is accepted
 pub data CrashAccepted : Answer → Type 0 where
@@ -185,7 +193,7 @@ module _ (t g : List ℕ) (n k : ℕ) (l : List Call) (O : FromOpening t g n k l
   -- the table and the ledger say what the citations say
   pub run-cites : RunCites (upTo t g n k l)
   run-cites =
-      along (follows n) t g k l O RunCites (cites-opened t g n k (O .done)) (λ before x after e q y s. cites-next q y (s .unopened)) l []
+      along (follows n) t g k l O RunCites (λ q c lent low. cites-served (q .table) c) (cites-opened t g n k (O .done)) (λ before x after e q y s. cites-next q y (s .unopened)) l []
       (sym (append-nil l))
 
   -- W2: what a scholar cites is what was sent. The ledger's pairs are, in order, the messages for the desk that the list's releases let
@@ -200,9 +208,9 @@ module _ (t g : List ℕ) (n k : ℕ) (l : List Call) (O : FromOpening t g n k l
     unheard : (before rest : List Call) → l ≡ before ++ rest → Unheard (upTo t g n k before .history)
     unfolding justOpened opening next stepCall fed
     unheard before rest e =
-        along (follows n) t g k l O (λ r. Unheard (r .history)) (λ b a i. refl)
+        along (follows n) t g k l O (λ r. Unheard (r .history)) (λ q c lent low u. u) (λ b a i. refl)
         (λ first x after f q y s u. stays-unheard (s .holds .inv) u (outcome y (s .holds .reads)) (s .unopened)
-        (λ c is z. let (call-is, here) = part-itself (s .part) (λ m no. absurd (let w : _≡_ {A = ℕ} 0 1 = cc in omega arith)) in
+        (λ c is z. let (call-is, here) = part-itself (s .part) (λ m no. absurd (let w : _≡_ {A = ℕ} 0 1 = cc in omega arith)) (λ m no. absurd (let w : _≡_ {A = ℕ} 0 1 = cc in omega arith)) in
         calm first after c (f ∙ ap (λ x. first ++ x ∷ after) (call-is ∙ ap asks is)) (subst (λ r. CrashAccepted (stepIn r (Crash c) .answer)) here (subst (λ y. CrashAccepted (stepIn q y .answer)) is z))))
         before rest e
 
@@ -213,6 +221,10 @@ module _ (t g : List ℕ) (n k : ℕ) (l : List Call) (O : FromOpening t g n k l
     nothing-undone before after (asks x) e =
         let s = in-list (follows n) t g k l O before (asks x) after e .holds in
         none-undone (s .inv) (unheard before (asks x ∷ after) e) (outcome x (s .reads))
+    nothing-undone before after dispatch e =
+        let r = upTo t g n k before in
+        let s = in-list (follows n) t g k l O before dispatch after e .holds in
+        dispatch-undoes-nothing (dispatch-in (r .table) (r .ledger)) (λ m. none-undone (s .inv) (unheard before (dispatch ∷ after) e) (outcome (Deliver m) (s .reads)))
     nothing-undone before after (releaseSet messages) e = set-undoes-nothing (set-in (upTo t g n k before .table) (upTo t g n k before .ledger) messages)
 
     -- and every interval that was begun is live at the end

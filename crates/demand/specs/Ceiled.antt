@@ -18,7 +18,7 @@ use Rattle.model.specs.Close.{Close, carries-begun, carries-anew, logged-flagge
 use Rattle.calls.specs.Made.{NoDoneOpening, part-history, part-then}
 use Rattle.model.specs.Runs.{in-list, first-part, along}
 use Rattle.image.specs.Outcome.{Outcome, refused, opened, degree-set, sent, released, held, dropped, waits, delivered, logged, checkpointed, told, crashed, heard, rolled, gap-set}
-use Rattle.image.specs.Tables.{modelOf, sizeOf, opening-done}
+use Rattle.image.specs.Tables.{modelOf, sizeOf, opening-done, model-served}
 use Rattle.demand.specs.Demanded.{table-inv, table-outcome, follows}
 
 -- a step keeps the numbers less than M above the latest flagged ones, where Q is not 0 after it and was at most M before
@@ -75,7 +75,7 @@ module _ (t g : List ℕ) (n k : ℕ) where
   unfolding justOpened next stepCall
   close-end l O on pos =
       let M = largestGap start l in
-      along (follows n) t g k l O (λ r. Close n M (modelOf (r .table)))
+      along (follows n) t g k l O (λ r. Close n M (modelOf (r .table))) (λ q c lent low. subst (Close n M) (sym (model-served (q .table) c lent low)))
       (subst (Close n M) (sym (opening-done t g n k (O .done) .model-is)) (close-opened n k M pos))
       (λ before x after e q y s close.
       let r = runs start before in

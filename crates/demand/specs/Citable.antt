@@ -155,7 +155,7 @@ module _ (t g : List ℕ) (n k : ℕ) (l : List Call) (O : FromOpening t g n k l
   unfolding next stepCall cited
   tells-next before x after e q y c w =
       cited-ind Tells (q .citations) (outcome y (c .holds .reads)) (c .unopened) w
-      (λ s to p m ye ae. let (call-is, here) = part-itself (c .part) (λ m no. absurd (let z : _≡_ {A = ℕ} 0 1 = cc in omega arith)) in
+      (λ s to p m ye ae. let (call-is, here) = part-itself (c .part) (λ m no. absurd (let z : _≡_ {A = ℕ} 0 1 = cc in omega arith)) (λ m no. absurd (let z : _≡_ {A = ℕ} 0 1 = cc in omega arith)) in
       let is = subst (λ x. l ≡ before ++ x ∷ after) (call-is ∙ ap asks ye) e in
       let answer = subst (λ r. stepIn r (Send s to p) .answer ≡ Sent m) here (subst (λ y. stepIn q y .answer ≡ Sent m) ye ae) in
       tells-sent (q .citations) m (record { before = before; after = after; sender = s; receiver = to; payload = p; is-in = is; answer = answer }) w)
@@ -165,7 +165,7 @@ module _ (t g : List ℕ) (n k : ℕ) (l : List Call) (O : FromOpening t g n k l
   -- so at the end
   tells : Tells (upTo t g n k l .citations)
   unfolding justOpened
-  tells = along (follows n) t g k l O (λ r. Tells (r .citations)) tells-none tells-next l [] (sym (append-nil l))
+  tells = along (follows n) t g k l O (λ r. Tells (r .citations)) (λ q c lent low w. w) tells-none tells-next l [] (sym (append-nil l))
 
   -- The ledger has just these entries.
   pub all-citable : AllCitable t g n k l

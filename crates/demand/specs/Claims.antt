@@ -10,7 +10,7 @@ use lib.ListN.{length, take, drop}
 use borrow.Author.Tests.{eqb-true, eq-eqb}
 use Rattle.base.specs.Choice.{_==_, cond-ind}
 use Rattle.base.specs.Ranges.{count}
-use Rattle.table.specs.Field.{MessageState}
+use Rattle.table.specs.Field.{MessageState, Served}
 use Rattle.table.specs.Layout.{controllers, messages, tableWords}
 use Rattle.table.specs.Words.{state, words, words-state, word-at}
 use Rattle.table.specs.Numbering.{recordOf}
@@ -19,11 +19,11 @@ use Rattle.rules.specs.Refusal.{LENGTH, FORM, LEDGER}
 use Rattle.rules.specs.Form.{stateLost, forDesk, inForm}
 use Rattle.rules.specs.Ledger.{ledgerWords, countOf, entryOf, citedMessage, citedPayload, appended, blankLedger}
 use Rattle.rules.specs.Steps.{openHouse}
-use Rattle.rules.specs.Step.{OutBoth, stepOn, lent, step, Call, asks, releaseSet, stepCall}
+use Rattle.rules.specs.Step.{OutBoth, stepOn, lent, step, Call, asks, releaseSet, dispatch, stepCall}
 use Rattle.rules.specs.declared.Answer.{Answer}
-use Rattle.rules.specs.declared.Answer.the-variants.{Done, Released, Held, Dropped, Refused}
+use Rattle.rules.specs.declared.Answer.the-variants.{Done, Released, Held, Refused}
 use Rattle.rules.specs.declared.Command.{Command}
-use Rattle.rules.specs.declared.Command.the-variants.{Open, Checkpoint, Release, Deliver, SetGap}
+use Rattle.rules.specs.declared.Command.the-variants.{Open, Checkpoint, Release, SetGap}
 use Rattle.lines.specs.Lines.{stepOf, parse}
 use Rattle.lines.specs.Letters.{no-letter, no-line}
 use Rattle.lines.specs.Program.{houseWrites}
@@ -33,7 +33,7 @@ use Rattle.history.specs.Citations.{noCitations, ledgerOf}
 use Rattle.history.specs.Demand.{Run, callIn, stepIn, next, runs, justOpened, Accepted, answersHeard, answersRolled, RestsOnLost, named, LetsGo, alone, together, FromOpening, upTo, end, Cited, Demand3}
 use Rattle.history.specs.Citable.{Citable, AllCitable}
 use Rattle.history.specs.Ceiling.{largestGap, NeverOff, Ceiling}
-use Rattle.history.specs.Blame.{OrphanBy, Blame}
+use Rattle.history.specs.Blame.{OrphanBy, Blame, DropsNaming}
 use Rattle.history.specs.Uses.{orphan-is-not-live}
 use Rattle.history.specs.Examples.{ListingLine}
 use Rattle.image.specs.Tables.{opening-done}
@@ -60,6 +60,10 @@ use Rattle.testers.specs.Sample.{sample, asked, answered, calls, answersFrom, s
 use Rattle.testers.specs.Written.{leftColumn, rightColumn, listing-written}
 use Rattle.testers.specs.Judged.{list, publications, sampleAt, sample-answer, published-is, live-before, gone-after, live-first, still-live, sending-rests, not-yet-stable, lost-later, undone-rests, heard-later, degree-then, sent-to-desk, sent-from}
 use Rattle.testers.specs.Gapped.{crashing, rolling, GapRun, crashes, rolls, gap-from-opening, gap-never-off, gap-answer, gap-largest, gap-newest}
+use Rattle.calls.specs.Dispatch.{not-served-keeps}
+use Rattle.table.specs.Change.{put, put-other}
+use Rattle.keeping.specs.Dispatch.{sound-let-dispatch}
+use Rattle.history.specs.Fair.{DeliveredOrDropped}
 
 -- 1. "A step that can't be done answers one refusal number from document 01 and changes no word of the table", nor of the ledger.
 pub refused-keeps-every-word : (t g : List ℕ) (x : Command) (number : ℕ) → step t g x .answer ≡ Refused number → (step t g x .table ≡ t) × (step t g x .ledger ≡ g)
@@ -75,6 +79,7 @@ pub refused-call-keeps-every-word : (t g : List ℕ) (x : Call) (number : ℕ) �
     (stepCall t g x .table ≡ t) × (stepCall t g x .ledger ≡ g)
 unfolding stepCall
 refused-call-keeps-every-word t g (asks x) number e = refused-keeps-every-word t g x number e
+refused-call-keeps-every-word t g dispatch number e = not-served-keeps t g (λ m s. elim (subst (DeliveredOrDropped m) e s) [ ])
 refused-call-keeps-every-word t g (releaseSet l) number e = not-gone-keeps t g l (λ mask z. absurd (let q : _≡_ {A = ℕ} 0 1 = cc in omega arith))
 
 -- 2. C: "Repeating it changes nothing." The second time it answers what it did the first time, and leaves every word.
@@ -203,7 +208,8 @@ pub lost-is-never-given-by-a-call : (t g : List ℕ) (x : Call) (r : ℕ) → r 
 unfolding next stepCall
 lost-is-never-given-by-a-call t g x r h =
     let f = MessageState r in
-    call-ind (λ q. state (q .table) f ≡ stateLost → state t f ≡ stateLost) (record { table = t; ledger = g; history = opening 0 0; citations = noCitations }) x (λ e. e)
+    call-ind (λ q. state (q .table) f ≡ stateLost → state t f ≡ stateLost) (record { table = t; ledger = g; history = opening 0 0; citations = noCitations })
+    (λ q c lent low so-far e. so-far (sym (word-at (put (state (q .table)) Served c) f (h, omega arith) ∙ put-other (state (q .table)) Served f c (λ z. absurd (let w : _≡_ {A = ℕ} 0 1 = cc in omega arith))) ∙ e)) x (λ e. e)
     (λ q y part so-far e. so-far (lost-is-never-given (q .table) (q .ledger) y r h e))
 
 -- along a list
@@ -298,10 +304,10 @@ no-line-sets-the-gap = no-line
 pub answers-name-the-crash : (t g : List ℕ) (n k : ℕ) (l : List Call) → FromOpening t g n k l → Blame t g n k l
 answers-name-the-crash = blame
 
--- So it is the crash to hear of: where a delivery in the list was dropped, and its sender has heard the crash that was named by the end, the
+-- So it is the crash to hear of: where a message was dropped in the list, by a delivery or by the dispatcher, and its sender has heard the crash that was named by the end, the
 -- interval that sent the message is live no more.
-pub hearing-it-undoes-the-sender : (t g : List ℕ) (n k : ℕ) (l : List Call) → FromOpening t g n k l → (before after : List Call) (m echoed crashed i : ℕ) →
-    l ≡ before ++ asks (Deliver m) ∷ after → stepIn (upTo t g n k before) (Deliver m) .answer ≡ Dropped echoed crashed i →
+pub hearing-it-undoes-the-sender : (t g : List ℕ) (n k : ℕ) (l : List Call) → FromOpening t g n k l → (before after : List Call) (x : Call) (m crashed i : ℕ) →
+    l ≡ before ++ x ∷ after → DropsNaming x (callIn (upTo t g n k before) x .answer) m crashed i →
     let y = upTo t g n k before .history .sending m in
     end t g n k l .heard (y .owner) crashed i ≡ true → member y (end t g n k l .chain (y .owner)) ≡ false
 hearing-it-undoes-the-sender = sender-undone
@@ -314,6 +320,9 @@ unfolding stepCall
 never-refused-for-its-buffers t g n k done before (asks x) number =
     let r = upTo t g n k before in
     sound-let (r .table) (r .ledger) x number (sound-after t g n k done before)
+never-refused-for-its-buffers t g n k done before dispatch number =
+    let r = upTo t g n k before in
+    sound-let-dispatch (r .table) (r .ledger) number (sound-after t g n k done before)
 never-refused-for-its-buffers t g n k done before (releaseSet l) number =
     let r = upTo t g n k before in
     sound-let-set (r .table) (r .ledger) l number (sound-after t g n k done before)

@@ -1,6 +1,6 @@
 -- Demand 3 holds of every list of calls over a lent table and a lent ledger: every outcome of a step keeps the invariant of the
 -- model, and calls are made of steps.
-use mathlib.Core.Path.{_≡_, refl, sym, subst}
+use mathlib.Core.Path.{_≡_, refl, sym, subst, _∙_}
 use mathlib.Core.List.{List}
 use Prim.Native.Nat.{ℕ, _≤_, _<_}
 use native.Mathlib.Omega.{arith}
@@ -28,7 +28,7 @@ use Rattle.model.specs.Recovery.{keeps-crash, keeps-heard, keeps-rolled}
 use Rattle.model.specs.Runs.{Holds, Follows, demand3}
 use Rattle.image.specs.Outcome.{Outcome, refused, opened, degree-set, sent, released, held, dropped, waits, delivered, logged, checkpointed, told, crashed, heard, rolled, gap-set, kept-size}
 use Rattle.image.specs.Sets.{set-found}
-use Rattle.image.specs.Tables.{modelOf, sizeOf, stepped, opening-done}
+use Rattle.image.specs.Tables.{modelOf, sizeOf, stepped, opening-done, size-served, model-served}
 
 -- a refused step changes nothing in the history
 pub fed-refused : (x : Command) (number : ℕ) (h : History) → fedStep x (Refused number) h ≡ h
@@ -132,6 +132,7 @@ follows n =
           let o = outcome x (s .reads) in
           let k = outcome-keeps o unopened (s .inv) in
           record { holds = record { model = _; reads = record { size-is = kept-size o unopened; model-is = refl }; inv = k .inv }; keeps = k };
+      turn-reads = λ μ q c lent low e. record { size-is = size-served (q .table) c ∙ e .size-is; model-is = model-served (q .table) c lent low ∙ e .model-is };
       hearer-below = λ s b a i accepted. hearer-below (outcome (Hear b a i) (s .reads)) accepted;
       lets-out = λ s x m mask goes. let-out-under s goes refl;
     }

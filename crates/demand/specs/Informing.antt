@@ -12,10 +12,10 @@ use Rattle.history.specs.Demand.{Run, stepIn, next, justOpened, FromOpening, up
 use Rattle.model.specs.Model.{Model, putMessage, gapModel, sendMessage, releaseMessage, noteController}
 use Rattle.model.specs.Invariant.{Inv}
 use Rattle.model.specs.Informed.{AllInformed, informed-opened, informed-degree, informed-logged, informed-checkpointed, informed-told, informed-begun, informed-crashed, informed-heard, informed-rolled}
-use Rattle.calls.specs.Made.{NoDoneOpening}
+use Rattle.calls.specs.Made.{NoDoneOpening, Unturned}
 use Rattle.model.specs.Runs.{Holds, along}
 use Rattle.image.specs.Outcome.{Outcome, refused, opened, degree-set, sent, released, held, dropped, waits, delivered, logged, checkpointed, told, crashed, heard, rolled, gap-set}
-use Rattle.image.specs.Tables.{modelOf, opening-done}
+use Rattle.image.specs.Tables.{modelOf, opening-done, model-served}
 use Rattle.demand.specs.Demanded.{ReadOff, table-inv, table-outcome, follows}
 
 -- every step but a done opening keeps what each controller knows at least
@@ -45,11 +45,15 @@ pub informed-next : {n : ℕ} {r : Run} (s : Holds n (ReadOff n) r) (x : Command
 unfolding next stepCall
 informed-next s x unopened all = outcome-informed (table-outcome s x) unopened (table-inv s) all
 
+-- whoever was served last
+pub informed-turned : {n : ℕ} → Unturned (λ r. AllInformed n (modelOf (r .table)))
+informed-turned {n} q c lent low = subst (AllInformed n) (sym (model-served (q .table) c lent low))
+
 -- After each first part of a list from an opening each controller knows that.
 pub all-informed : (t g : List ℕ) (n k : ℕ) (l : List Call) → FromOpening t g n k l → (before rest : List Call) → l ≡ before ++ rest →
     AllInformed n (modelOf (upTo t g n k before .table))
 unfolding justOpened
 all-informed t g n k l O =
-    along (follows n) t g k l O (λ r. AllInformed n (modelOf (r .table)))
+    along (follows n) t g k l O (λ r. AllInformed n (modelOf (r .table))) informed-turned
     (subst (AllInformed n) (sym (opening-done t g n k (O .done) .model-is)) (informed-opened n k))
     (λ before x after e q y s. informed-next (s .holds) y (s .unopened))

@@ -8,3 +8,4 @@ pub mod Blamed
 pub mod InForm
 pub mod Claims
 pub mod SetClaims
+pub mod DispatchClaims

@@ -14,7 +14,7 @@ use Rattle.rules.specs.Form.{inForm}
 use Rattle.rules.specs.Steps.{AfterBoth, refusingBoth, openRefusals, stepOpen}
 use Rattle.rules.specs.Step.{OutBoth, outBoth, writtenBoth, looksAtForm, perform, stepOn, lent, step}
 use Rattle.rules.specs.declared.Answer.{Answer}
-use Rattle.rules.specs.declared.Answer.the-variants.{Done, Sent, Released, Held, Delivered, Dropped, Waits, Crashed, Heard, Rolled, Refused, SetReleased, SetHeld}
+use Rattle.rules.specs.declared.Answer.the-variants.{Done, Sent, Released, Held, Delivered, Dropped, Waits, Crashed, Heard, Rolled, Refused, SetReleased, SetHeld, Idle}
 use Rattle.rules.specs.declared.Command.{Command}
 use Rattle.rules.specs.declared.Command.the-variants.{Open, SetDegree, Send, Release, Deliver, Log, Checkpoint, Tell, Crash, Hear, SetGap}
 use Rattle.laws.specs.Answering.{Lent, LentFor}
@@ -35,6 +35,7 @@ isDone (Rolled c k undone replayed owner i) = false
 isDone (Refused number) = false
 isDone (SetReleased mask) = false
 isDone (SetHeld mask) = false
+isDone Idle = false
 
 -- a lent table of its length, of which b says whether it is in form
 abbrev pub FormKnown : List ℕ → Bool → Type 0

@@ -33,6 +33,7 @@ fn is_done(a: Answer) -> bool
         Answer::Refused(_) => false,
         Answer::SetReleased(_) => false,
         Answer::SetHeld(_) => false,
+        Answer::Idle => false,
     }
 }
 

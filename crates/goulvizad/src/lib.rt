@@ -1,10 +1,10 @@
-// The C interface: one step, a list of steps, the step that sets the gap, the release of a set, and two questions, on buffers that the
-// caller lends. include/goulvizad.h documents it.
+// The C interface: one step, a list of steps, the step that sets the gap, the release of a set, the dispatcher, and two questions, on buffers
+// that the caller lends. include/goulvizad.h documents it.
 ghost use mathlib.Core.Path.{_≡_};
 ghost use mathlib.Core.List.{List};
 ghost use Prim.Native.Nat.{ℕ};
 ghost use lib.ListN.{length};
-ghost use Rattle.goulvizad.specs.Call.{gapCall, setCall};
+ghost use Rattle.goulvizad.specs.Call.{gapCall, setCall, dispatchCall};
 ghost use Rattle.lines.specs.declared.Parsed.the-variants.{Asks};
 ghost use Rattle.questions.specs.Numbers.{formNumber, checkpointNumber};
 ghost use Rattle.reporting.specs.Values.{valueRoom};
@@ -83,6 +83,18 @@ pub extern "C" fn goulvizad_release_set(
         return run::WRONG_VALUES;
     }
     reporting::give_answer(sets::release_set(t, g, messages), values)
+}
+
+// One call of the dispatcher, which looks at the table alone.
+#[no_mangle]
+pub extern "C" fn goulvizad_dispatch(t: &mut [u32], values: &mut [u32]) -> u32
+    ensures { λ r. ⌜ ((g : List ℕ) → returned r (now (t .exit)) g (now (values .exit)) ≡ dispatchCall (now (t .entry)) g (now (values .entry))) ⌝ }
+{
+    if values.len() != reporting::VALUES {
+        return run::WRONG_VALUES;
+    }
+    let said = dispatch::dispatch(t);
+    reporting::give_answer(said, values)
 }
 
 // Whether the table has its length and is in form.

@@ -5,11 +5,12 @@ use mathlib.Core.Bool.{true, false}
 use mathlib.Core.List.{List, _∷_, _++_}
 use mathlib.Core.Logic.{_⊎_}
 use Prim.Native.Nat.{ℕ, _<_}
-use Rattle.rules.specs.Step.{Call, asks}
+use Rattle.rules.specs.Step.{Call, asks, dispatch}
+use Rattle.rules.specs.declared.Answer.{Answer}
 use Rattle.rules.specs.declared.Answer.the-variants.{Dropped, Rolled}
 use Rattle.rules.specs.declared.Command.the-variants.{Deliver, Hear}
-use Rattle.history.specs.History.{Interval, History, member, newest}
-use Rattle.history.specs.Demand.{Run, stepIn, next, RestsOnLost, upTo}
+use Rattle.history.specs.History.{Interval, History, member, newest, answers}
+use Rattle.history.specs.Demand.{Run, stepIn, next, RestsOnLost, upTo, callIn}
 
 -- The hearer has heard the crash that ended incarnation i of the crashed controller, and y rests on an interval of that controller that was
 -- lost in it.
@@ -48,11 +49,16 @@ pub record RolledFor (r : Run) (hearer crashed i : ℕ) : Type 0 where
   pub each-orphan : let then = next (asks (Hear hearer crashed i)) r .history in
       (y : Interval) → member y (r .history .chain hearer) ≡ true → member y (then .chain hearer) ≡ false → OrphanBy then hearer y crashed i
 
+-- A call with this answer drops message m and names this crash: a delivery, or one that the dispatcher performs (W7).
+pub data DropsNaming : Call → Answer → ℕ → ℕ → ℕ → Type 0 where
+  by-delivery : (m echoed crashed i : ℕ) → DropsNaming (asks (Deliver m)) (Dropped echoed crashed i) m crashed i
+  by-dispatcher : (m crashed i : ℕ) → DropsNaming dispatch (Dropped m crashed i) m crashed i
+
 -- lists from the opening of t, beside the ledger g, with n and k
 module _ (t g : List ℕ) (n k : ℕ) (l : List Call) where
   pub record Blame : Type 0 where
-    pub dropped : (before after : List Call) (m echoed crashed i : ℕ) → l ≡ before ++ asks (Deliver m) ∷ after →
-        stepIn (upTo t g n k before) (Deliver m) .answer ≡ Dropped echoed crashed i → DroppedFor (upTo t g n k before) m crashed i
+    pub dropped : (before after : List Call) (x : Call) (m crashed i : ℕ) → l ≡ before ++ x ∷ after →
+        DropsNaming x (callIn (upTo t g n k before) x .answer) m crashed i → DroppedFor (upTo t g n k before) m crashed i
     pub rolled : (before after : List Call) (hearer crashed i echoed kept undone replayed owner ended : ℕ) → l ≡ before ++ asks (Hear hearer crashed i) ∷ after →
         stepIn (upTo t g n k before) (Hear hearer crashed i) .answer ≡ Rolled echoed kept undone replayed owner ended →
         (owner ≡ crashed) × (ended ≡ i) × RolledFor (upTo t g n k before) hearer crashed i

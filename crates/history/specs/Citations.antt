@@ -9,7 +9,7 @@ use Rattle.base.specs.Lists.{tab}
 use Rattle.table.specs.Field.{desk}
 use Rattle.rules.specs.Limits.{house}
 use Rattle.rules.specs.Ledger.{ledgerWords}
-use Rattle.rules.specs.Step.{Call, asks, releaseSet}
+use Rattle.rules.specs.Step.{Call, asks, releaseSet, dispatch}
 use Rattle.rules.specs.declared.Answer.{Answer}
 use Rattle.rules.specs.declared.Answer.the-variants.{Done, Sent, Released, SetReleased}
 use Rattle.rules.specs.declared.Command.{Command}
@@ -64,6 +64,7 @@ allLetOut q (m ∷ l) = allLetOut (letOutTo q m) l
 unfoldable pub cited : Call → Answer → Citations → Citations
 cited (asks x) a q = citedStep x a q
 cited (releaseSet l) a q = cond (answers a (SetReleased 0)) (allLetOut q l) q
+cited dispatch a q = q
 
 -- "a count, then 128 pairs of message number and payload, in the order of publishing. Unused pairs are 0."
 abbrev pub pairOf : Citation → List ℕ

@@ -47,6 +47,10 @@ justOpened t g n k =
     let o = step t g (Open n k) in
     record { table = o .table; ledger = o .ledger; history = opening n k; citations = noCitations }
 
+-- no opening in a list is done
+abbrev pub NoOpening : Run → List Call → Type 0
+NoOpening r l = (before after : List Call) (size degree : ℕ) → l ≡ before ++ asks (Open size degree) ∷ after → stepIn (runs r before) (Open size degree) .answer ≢ Done
+
 -- a hearing is accepted
 pub data Accepted : Answer → Type 0 where
   answersHeard : (hearer : ℕ) → Accepted (Heard hearer)
@@ -80,7 +84,7 @@ module _ (t g : List ℕ) (n k : ℕ) where
   -- The opening is done, and no opening in the list is: a done opening begins a new list.
   pub record FromOpening (l : List Call) : Type 0 where
     pub done : step t g (Open n k) .answer ≡ Done
-    pub no-opening : (before after : List Call) (size degree : ℕ) → l ≡ before ++ asks (Open size degree) ∷ after → stepIn (upTo before) (Open size degree) .answer ≢ Done
+    pub no-opening : NoOpening (justOpened t g n k) l
 
   module _ (l : List Call) where
     -- the history at the end of the list

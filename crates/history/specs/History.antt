@@ -6,7 +6,7 @@ use Prim.Native.Nat.{ℕ, _+_, _-_}
 use lib.ListN.{length, getD, drop}
 use Rattle.base.specs.Choice.{_==_, _≤?_, _<?_}
 use Rattle.rules.specs.Report.{report}
-use Rattle.rules.specs.Step.{Call, asks, releaseSet}
+use Rattle.rules.specs.Step.{Call, asks, releaseSet, dispatch}
 use Rattle.rules.specs.declared.Answer.{Answer}
 use Rattle.rules.specs.declared.Answer.the-variants.{Done, Sent, Delivered, Crashed, Heard, Rolled}
 use Rattle.rules.specs.declared.Command.{Command}
@@ -332,7 +332,9 @@ fedStep (Hear b crashed i) a h =
     (cond (answers a (Rolled 0 0 0 0 0 0)) (rollingBack informed b (valueAt a 1)) h)
 fedStep (SetGap q) a h = cond (answers a Done) (gapSet h q) h
 
--- asking for a step feeds that step; a set changes nothing, as its releases would
+-- asking for a step feeds that step; a set changes nothing, as its releases would; what the dispatcher delivers is delivered, as its answer
+-- tells, and what it drops changes nothing
 unfoldable pub fed : Call → Answer → History → History
 fed (asks x) a h = fedStep x a h
 fed (releaseSet l) a h = h
+fed dispatch a h = cond (answers a (Delivered 0 0 0)) (delivering h (valueAt a 0)) h

@@ -4,6 +4,7 @@ pub mod Demand
 pub mod Examples
 pub mod Ceiling
 pub mod Blame
+pub mod Fair
 pub mod Progress
 pub mod Citable
 pub mod Asked

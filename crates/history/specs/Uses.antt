@@ -14,12 +14,12 @@ use Rattle.base.specs.Choice.{holds, fails}
 use Rattle.table.specs.Field.{desk}
 use Rattle.rules.specs.Limits.{lastIncarnation}
 use Rattle.rules.specs.Sets.{nth}
-use Rattle.rules.specs.Step.{Call, asks, releaseSet, stepCall}
+use Rattle.rules.specs.Step.{Call, asks, releaseSet, stepCall, dispatch}
 use Rattle.rules.specs.declared.Answer.the-variants.{Done, Sent, Released, Dropped, Waits, Rolled, SetReleased, SetHeld}
 use Rattle.rules.specs.declared.Command.the-variants.{Send, Release, Deliver, Checkpoint, Tell, Hear}
 use Rattle.history.specs.History.{Interval, History, member, newest}
 use Rattle.history.specs.Demand.{callIn, stepIn, next, Accepted, RestsOnLost, named, LetsGo, alone, together, upTo, end, Demand3}
-use Rattle.history.specs.Blame.{OrphanBy, Blame}
+use Rattle.history.specs.Blame.{DropsNaming, by-delivery, by-dispatcher, OrphanBy, Blame, DroppedFor}
 use Rattle.history.specs.Progress.{SentIn, HoldsBack, held-together, HeldIn, LetOutIn, Deliverable, CrashIn, HasHeard, CanHear}
 use Rattle.history.specs.Asked.{Secures, checkpoints, undoes, SecuredIn, Spreads, by-checkpoint, by-telling, Asked, AllAsked, Learned, its-own, was-told, has-heard, Cleared, held-without, was-asked, each-learned, AllCleared, Eventually}
 
@@ -87,26 +87,38 @@ module _ (t g : List ℕ) (n k : ℕ) (l : List Call) where
         (subst (λ a. LetsGo (releaseSet messages) a (nth messages i) mask) (sym answer) (together messages i mask below))
 
   -- WHICH CRASH IT WAS
+  -- a delivery that drops its message
+  pub drop-named : (before : List Call) (m echoed crashed i : ℕ) → stepIn (upTo t g n k before) (Deliver m) .answer ≡ Dropped echoed crashed i →
+      DropsNaming (asks (Deliver m)) (callIn (upTo t g n k before) (asks (Deliver m)) .answer) m crashed i
+  unfolding stepCall
+  drop-named before m echoed crashed i answer = subst (λ a. DropsNaming (asks (Deliver m)) a m crashed i) (sym answer) (by-delivery m echoed crashed i)
+
   module _ (said : Blame t g n k l) where
-    -- a delivery that is dropped
-    module _ (before after : List Call) (m echoed crashed i : ℕ) (e : l ≡ before ++ asks (Deliver m) ∷ after)
-        (answer : stepIn (upTo t g n k before) (Deliver m) .answer ≡ Dropped echoed crashed i) where
+    -- the dispatcher names the crash, too
+    pub dispatcher-names : (before after : List Call) (m crashed i : ℕ) → l ≡ before ++ dispatch ∷ after → callIn (upTo t g n k before) dispatch .answer ≡ Dropped m crashed i →
+        DroppedFor (upTo t g n k before) m crashed i
+    dispatcher-names before after m crashed i e answer =
+        said .dropped before after dispatch m crashed i e (subst (λ a. DropsNaming dispatch a m crashed i) (sym answer) (by-dispatcher m crashed i))
+
+    -- a message that is dropped
+    module _ (before after : List Call) (x : Call) (m crashed i : ℕ) (e : l ≡ before ++ x ∷ after)
+        (drops : DropsNaming x (callIn (upTo t g n k before) x .answer) m crashed i) where
       abbrev seen : History
       seen = upTo t g n k before .history
 
       -- has its cause, in a crash of the controller that it names,
       pub dropped-with-cause : (seen .heard (seen .receiver m) crashed i ≡ true)
           × (z : Interval) × (z .owner ≡ crashed) × (seen .rests (seen .sending m) z ≡ true) × (seen .lost z i ≡ true)
-      dropped-with-cause = let o = said .dropped before after m echoed crashed i e answer .is-orphan in (o .heard, o .on, o .owner-is, o .rests, o .lost)
+      dropped-with-cause = let o = said .dropped before after x m crashed i e drops .is-orphan in (o .heard, o .on, o .owner-is, o .rests, o .lost)
 
       -- and neither in one of a lower controller,
       pub lower-loses-nothing : (other j : ℕ) → other < crashed → OrphanBy seen (seen .receiver m) (seen .sending m) other j → ⊥
       lower-loses-nothing other j below o =
-          ⊎-elim (λ u. omega arith) (λ u. omega (arith, u .0)) (said .dropped before after m echoed crashed i e answer .lowest other j o)
+          ⊎-elim (λ u. omega arith) (λ u. omega (arith, u .0)) (said .dropped before after x m crashed i e drops .lowest other j o)
 
       -- nor in another of that one
       pub only-crash : (j : ℕ) → OrphanBy seen (seen .receiver m) (seen .sending m) crashed j → j ≡ i
-      only-crash j o = ⊎-elim (λ u. absurd (omega arith)) (λ u. u .1) (said .dropped before after m echoed crashed i e answer .lowest crashed j o)
+      only-crash j o = ⊎-elim (λ u. absurd (omega arith)) (λ u. u .1) (said .dropped before after x m crashed i e drops .lowest crashed j o)
 
     -- a hearing that rolls back
     module _ (before after : List Call) (hearer crashed i echoed kept undone replayed owner ended : ℕ) (e : l ≡ before ++ asks (Hear hearer crashed i) ∷ after)

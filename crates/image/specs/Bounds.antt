@@ -83,7 +83,7 @@ module _ (σ τ : State) (e : Agree σ τ) (b : Bounded σ) where
       (sym (e Gap (omega arith)))
 
 -- a house in form is bounded: of the controllers from n on every word is 0
-bounded-form : (σ : State) → Form house σ → Bounded σ
+pub bounded-form : (σ : State) → Form house σ → Bounded σ
 bounded-form σ f =
     record {
       live-le = λ c cl.

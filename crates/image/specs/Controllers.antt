@@ -5,7 +5,7 @@ use Prim.Native.Nat.{ℕ, _+_, _≤_, _<_, max}
 use native.Mathlib.Omega.{arith}
 use Rattle.base.specs.Choice.{_<?_, le?}
 use Rattle.base.specs.Lists.{tab, length-tab, getD-tab}
-use Rattle.table.specs.Field.{State, Known, End, Gap, Degree, Incarnation, StableCount, same}
+use Rattle.table.specs.Field.{State, Known, End, Gap, Degree, Incarnation, StableCount, same, Served}
 use Rattle.table.specs.Change.{put, put-same, putPart}
 use Rattle.table.specs.Layout.{controllers, incarnations}
 use Rattle.table.specs.Numbering.{numberOf, number-ltb, numbers-put}
@@ -36,6 +36,14 @@ image-gap σ q =
     let n = numbers-put σ Gap q refl in
     model-path (λ d c. cond (c <? controllers) (renumbered σ (put σ Gap q) c (n .number c) d) absentController) (n .last)
     (λ d m. cond (n .record-same m d <? n .used-same d) (modelMessage σ (n .record-same m d)) unsentMessage) (put-same σ Gap q)
+
+-- W7: nothing of a house changes by whom was served last
+pub image-served : (σ : State) (c : ℕ) → image (put σ Served c) ≡ image σ
+unfolding image controllerBy modelMessage placeVector messageVector put same
+image-served σ c =
+    let n = numbers-put σ Served c refl in
+    model-path (λ d b. cond (b <? controllers) (renumbered σ (put σ Served c) b (n .number b) d) absentController) (n .last)
+    (λ d m. cond (n .record-same m d <? n .used-same d) (modelMessage σ (n .record-same m d)) unsentMessage) refl
 
 -- L, C and the kept ones of H: "c's known word for itself and its incarnation becomes the new stable count"
 pub image-logged : (σ : State) (c k : ℕ) → c < controllers → σ (Incarnation c) < incarnations →

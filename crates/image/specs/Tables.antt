@@ -8,10 +8,11 @@ use lib.ListN.{length}
 use borrow.Author.Tests.{eqb-true}
 use Rattle.base.specs.Choice.{_==_, cond-ind}
 use Rattle.base.specs.Cases.{firstOf}
-use Rattle.table.specs.Field.{State, Size}
+use Rattle.table.specs.Field.{State, Size, Served, word}
+use Rattle.table.specs.Change.{put, put-other}
 use Rattle.table.specs.Layout.{controllers, tableWords}
 use Rattle.table.specs.Words.{state, words, words-state, word-at}
-use Rattle.rules.specs.Limits.{house}
+use Rattle.rules.specs.Limits.{house, lastServed}
 use Rattle.rules.specs.Refusal.{LENGTH}
 use Rattle.rules.specs.Ledger.{blankLedger}
 use Rattle.rules.specs.Steps.{AfterBoth, refusingBoth, openHouse, openRefusals, stepOpen}
@@ -22,14 +23,16 @@ use Rattle.rules.specs.declared.Command.the-variants.{Open}
 use Rattle.model.specs.Model.{Model, openModel}
 use Rattle.laws.specs.Facts.{form}
 use Rattle.laws.specs.Allowed.{openAllowed}
-use Rattle.laws.specs.Answering.{not-done}
+use Rattle.laws.specs.Answering.{Lent, not-done}
+use Rattle.keeping.specs.Changes.{kept-served}
 use Rattle.image.specs.Image.{image}
 use Rattle.image.specs.Open.{image-opened}
+use Rattle.image.specs.Controllers.{image-served}
 use Rattle.image.specs.Outcome as O
 use Rattle.image.specs.Outcome.{Outcome}
 use Rattle.image.specs.Tests.{fresh}
 use Rattle.image.specs.Stepped.{outcome-as, stepped-state}
-use Rattle.image.specs.Bounds.{Bounded, bounded-opened, image-same, step-bounded}
+use Rattle.image.specs.Bounds.{Bounded, bounded-form, bounded-opened, image-same, step-bounded}
 
 -- the model of a table
 abbrev pub modelOf : List ℕ → Model
@@ -42,6 +45,14 @@ sizeOf t = state t Size
 -- the model of the table of a state whose places and records are all in it
 image-words : (σ : State) → Bounded σ → modelOf (words σ) ≡ image σ
 image-words σ b = image-same σ (state (words σ)) (λ f v. sym (word-at σ f v)) b
+
+-- whoever was served last: the number of controllers and the model of a table in form stay
+pub size-served : (t : List ℕ) (c : ℕ) → sizeOf (words (put (state t) Served c)) ≡ sizeOf t
+size-served t c = word-at (put (state t) Served c) Size (omega arith) ∙ put-other (state t) Served Size c (λ e. absurd (let z : word Size ≡ word Served = ap word e in omega arith))
+
+pub model-served : (t : List ℕ) (c : ℕ) → Lent t → c ≤ lastServed → modelOf (words (put (state t) Served c)) ≡ modelOf t
+model-served t c lent low =
+    image-words (put (state t) Served c) (bounded-form _ (form house _ (kept-served house (state t) c low (lent .good)))) ∙ image-served (state t) c
 
 -- such a state is left by every step on a table, unless it leaves that table as it was
 image-left : (t g : List ℕ) (x : Command) → length t ≡ tableWords → let τ = stepOn house (state t) g x .left in

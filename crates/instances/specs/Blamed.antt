@@ -14,6 +14,7 @@ use Rattle.rules.specs.Report.{report}
 use Rattle.rules.specs.Vector.{Vector, pair, noPair, flat}
 use Rattle.rules.specs.Form.{stateHeld, stateReleased, stateDropped}
 use Rattle.rules.specs.Steps.{messageRecord, stepDegree}
+use Rattle.rules.specs.Step.{asks}
 use Rattle.rules.specs.declared.Answer.the-variants.{Done, Sent, Released, Dropped, Crashed, Heard, Rolled}
 use Rattle.rules.specs.declared.Command.the-variants.{SetDegree, Send, Release, Deliver, Crash, Hear}
 use Rattle.history.specs.History.{interval, sameInterval, changedAt, changedAtInterval, newest, member, those, degreeSet, sentFrom, joined, leaving, stabilized, hearing, losing, opening, forcedAt, capping, beginning, delivering, restarting, crashing, rollingBack, answers, valueAt, fedStep, fed}
@@ -28,6 +29,7 @@ use Rattle.demand.specs.Blamed.{blame}
 use Rattle.demand.specs.Claims.{hearing-it-undoes-the-sender}
 use Rattle.instances.specs.Lists.{callsOf, Computed, branch}
 use Rattle.instances.specs.Shown.{Shown, shown, shown-to, historyOf, told, answer-in}
+use Rattle.history.specs.Uses.{drop-named}
 
 -- Message 3 from (2;0,2), which rests on (1;0,2), goes out to controller 0; then both are lost, and controller 1 crashes once more.
 abbrev pub twiceLost : List ListingLine
@@ -100,8 +102,9 @@ module _ (t g : List ℕ) (long : length t ≡ tableWords) (wide : length g ≡ 
   -- the answer names controller 1 and the incarnation that its first crash ended
   pub the-lower-is-named : DroppedFor (upTo t g 3 1 (callsOf (take 15 twiceLost))) 3 1 0
   the-lower-is-named =
-      blame t g 3 1 (callsOf twiceLost) (shown-twice .from) .dropped (callsOf (take 15 twiceLost)) [] 3 3 1 0 refl
-      (answer-in t g twiceLost shown-twice (take 15 twiceLost) (line (Deliver 3) (Dropped 3 1 0)) [] refl)
+      blame t g 3 1 (callsOf twiceLost) (shown-twice .from) .dropped (callsOf (take 15 twiceLost)) [] (asks (Deliver 3)) 3 1 0 refl
+      (drop-named t g 3 1 (callsOf twiceLost) (callsOf (take 15 twiceLost)) 3 3 1 0
+      (answer-in t g twiceLost shown-twice (take 15 twiceLost) (line (Deliver 3) (Dropped 3 1 0)) [] refl))
 
   -- though there is another reason, of a controller with a higher number
   pub the-higher-lost-too : let h = upTo t g 3 1 (callsOf (take 15 twiceLost)) .history in OrphanBy h (h .receiver 3) (h .sending 3) 2 0
@@ -117,6 +120,7 @@ module _ (t g : List ℕ) (long : length t ≡ tableWords) (wide : length g ≡ 
       let is = told t g (take 11 heardThen) (shown-to t g heardThen shown-then 11) (λ h. h .sending 3 ≡ interval 2 0 2) (heard-told .sending) in
       let h = end t g 3 1 (callsOf heardThen) in
       subst (λ y. h .heard (y .owner) 1 0 ≡ true → member y (h .chain (y .owner)) ≡ false) is
-      (hearing-it-undoes-the-sender t g 3 1 (callsOf heardThen) (shown-then .from) (callsOf (take 11 heardThen)) (callsOf (drop 12 heardThen)) 3 3 1 0 refl
-      (answer-in t g heardThen shown-then (take 11 heardThen) (line (Deliver 3) (Dropped 3 1 0)) (drop 12 heardThen) refl))
+      (hearing-it-undoes-the-sender t g 3 1 (callsOf heardThen) (shown-then .from) (callsOf (take 11 heardThen)) (callsOf (drop 12 heardThen)) (asks (Deliver 3)) 3 1 0 refl
+      (drop-named t g 3 1 (callsOf heardThen) (callsOf (take 11 heardThen)) 3 3 1 0
+      (answer-in t g heardThen shown-then (take 11 heardThen) (line (Deliver 3) (Dropped 3 1 0)) (drop 12 heardThen) refl)))
       (told t g heardThen shown-then (λ h. h .heard 2 1 0 ≡ true) (heard-told .heard))

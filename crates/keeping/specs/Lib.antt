@@ -9,3 +9,4 @@ pub mod Kept
 pub mod Unrefused
 pub mod StepSame
 pub mod Sets
+pub mod Dispatch

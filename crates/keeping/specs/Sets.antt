@@ -22,7 +22,7 @@ use Rattle.rules.specs.Form.{stateHeld, forDesk, inForm}
 use Rattle.rules.specs.Ledger.{countOf, ledgerOk}
 use Rattle.rules.specs.Steps.{AfterBoth, ownVector, ledgerOut, stepRelease}
 use Rattle.rules.specs.Sets.{nth, recordIn, someAbsent, someNotHeld, senderOf, manySenders, setRefusals, full, someFull, union, someForDesk, setMayGo, desks, outTo, ledgerTo, releaseAll, stepSet}
-use Rattle.rules.specs.Step.{perform, stepOn, writtenBoth, lent, setOn, releaseSet, stepCall}
+use Rattle.rules.specs.Step.{perform, writtenBoth, lent, setOn, releaseSet, stepCall}
 use Rattle.rules.specs.declared.Answer.the-variants.{Refused, SetReleased, SetHeld}
 use Rattle.rules.specs.declared.Command.the-variants.{Release}
 use Rattle.laws.specs.Facts.{Fitting, Form, form, house-fits}
@@ -33,17 +33,12 @@ use Rattle.laws.specs.Releasing.{degree-agree, desk-agree, own-agree, agree-gon
 use Rattle.laws.specs.Bits.{bits-same}
 use Rattle.laws.specs.Sets.{SetAllowed, setAllowed, all-here, outs-numbers}
 use Rattle.laws.specs.Together.{Goes, on-the-way, set-ind}
-use Rattle.keeping.specs.Steps.{form-kept}
+use Rattle.keeping.specs.Steps.{performed, form-kept}
 use Rattle.keeping.specs.Kept.{inForm-same, lent-words}
 use Rattle.keeping.specs.Unrefused.{Sound, ledger-kept, Let, let-refusingBoth, past-first, buffers-fit}
 use Rattle.keeping.specs.StepSame.{SameBoth, same-refuse, same-beside, same-written, same-cond, same-first, same-refusing-both}
 
 -- THE FORM
--- R on a state in form is the step
-pub as-step : (L : Limits) (σ : State) (g : List ℕ) (m : ℕ) → inForm L σ ≡ true → stepOn L σ g (Release m) ≡ stepRelease L σ g m
-unfolding stepOn perform
-as-step L σ g m e = rw e
-
 -- both buffers in form
 pub record BothForm (L : Limits) (σ : State) (g : List ℕ) : Type 0 where
   pub table : inForm L σ ≡ true
@@ -51,8 +46,9 @@ pub record BothForm (L : Limits) (σ : State) (g : List ℕ) : Type 0 where
 
 -- R keeps that
 release-kept : (L : Limits) → Fitting L → (τ : State) (h : List ℕ) (m : ℕ) → BothForm L τ h → BothForm L (stepRelease L τ h m .left) (stepRelease L τ h m .ledger)
+unfolding perform
 release-kept L fit τ h m q =
-    let e = as-step L τ h m (q .table) in
+    let e = performed L τ h (q .table) (Release m) in
     record {
       table = ap (λ (o : AfterBoth). inForm L (o .left)) (sym e) ∙ form-kept L fit τ h (Release m) (q .table);
       ledger = ap (λ (o : AfterBoth). ledgerOk L (o .ledger)) (sym e) ∙ ledger-kept L τ h (Release m) (q .ledger);

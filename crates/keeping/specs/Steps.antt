@@ -1,7 +1,7 @@
 -- A house in form stays in form: every step on a state in form leaves one in form, and an opening that is done leaves one whatever stood
 -- there, for all limits that fit.
 use mathlib.Core.Path.{_≡_, refl, sym, ap, _∙_, subst}
-use mathlib.Core.Bool.{true, false, not, _&&_, _||_, or-true}
+use mathlib.Core.Bool.{true, false, not, _&&_, _||_, or-true, and-false}
 use mathlib.Core.List.{List}
 use Prim.Native.Nat.{ℕ, _+_, _≤_, _<_, max}
 use native.Mathlib.Omega.{arith}
@@ -195,6 +195,11 @@ module _ (L : Limits) where
       kept-perform g (Crash c) = kept-stepCrash c
       kept-perform g (Hear hearer owner i) = kept-stepHear hearer owner i
       kept-perform g (SetGap q) = kept-stepGap q
+
+-- a step on a state in form is not refused for that
+pub performed : (L : Limits) (σ : State) (g : List ℕ) → inForm L σ ≡ true → (x : Command) → stepOn L σ g x ≡ perform L σ g x
+unfolding stepOn
+performed L σ g good x = rw (good, and-false)
 
 -- THE THEOREM
 -- a step on a state in form leaves one in form

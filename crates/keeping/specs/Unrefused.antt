@@ -1,7 +1,7 @@
 -- What the form keeps away: a step on a table and a ledger in form leaves a ledger in form, and is not refused for the table's length, the
 -- table's form or the ledger.
-use mathlib.Core.Path.{_≡_, refl, sym, ap, _∙_}
-use mathlib.Core.Bool.{Bool, true, false, not, cond, _&&_, _||_}
+use mathlib.Core.Path.{_≡_, refl, sym, ap, _∙_, subst}
+use mathlib.Core.Bool.{Bool, true, false, not, _&&_, _||_}
 use mathlib.Core.List.{List, [], _∷_}
 use mathlib.Core.Logic.{_≢_}
 use Prim.Native.Nat.{ℕ}
@@ -17,16 +17,17 @@ use Rattle.rules.specs.Limits.{Limits, house, lastIncarnation}
 use Rattle.rules.specs.Refusal.{LENGTH, FORM, LEDGER}
 use Rattle.rules.specs.Form.{inForm}
 use Rattle.rules.specs.Ledger.{ledgerWords, ledgerOk}
-use Rattle.rules.specs.Steps.{After, refuse, AfterBoth, beside, refusing, refusingBoth, openRefusals, stepOpen, stepDegree, stepSend, releaseRefusals, stepRelease, intervalBegins, stepDeliver, stepLog, stepCheckpoint, stepTell, stepCrash, hear, stepHear, stepGap}
+use Rattle.rules.specs.Steps.{After, AfterBoth, refusing, refusingBoth, openRefusals, stepOpen, stepDegree, stepSend, releaseRefusals, stepRelease, intervalBegins, stepDeliver, stepLog, stepCheckpoint, stepTell, stepCrash, hear, stepHear, stepGap}
 use Rattle.rules.specs.Step.{perform, looksAtForm, stepOn, OutBoth, lent, step}
 use Rattle.rules.specs.declared.Answer.{Answer}
-use Rattle.rules.specs.declared.Answer.the-variants.{Done, Sent, Released, Held, Delivered, Dropped, Waits, Crashed, Heard, Rolled, Refused, SetReleased, SetHeld}
+use Rattle.rules.specs.declared.Answer.the-variants.{Done, Sent, Released, Held, Delivered, Dropped, Waits, Crashed, Heard, Rolled, Refused, SetReleased, SetHeld, Idle}
 use Rattle.rules.specs.declared.Command.{Command}
 use Rattle.rules.specs.declared.Command.the-variants.{Open, SetDegree, Send, Release, Deliver, Log, Checkpoint, Tell, Crash, Hear, SetGap}
 use Rattle.laws.specs.Answering.{not-done, Lent}
 use Rattle.laws.specs.Ledger.{ledgerForm, blank-sound, appended-sound}
 use Rattle.laws.specs.Releasing.{release-cases}
 use Rattle.laws.specs.Delivering.{deliver-cases}
+use Rattle.keeping.specs.Steps.{performed}
 use Rattle.keeping.specs.Kept.{kept, opened}
 
 -- THE LEDGER
@@ -79,6 +80,7 @@ refusedByBuffer (Rolled b k undone replayed owner i) = false
 refusedByBuffer (Refused number) = byBuffer number
 refusedByBuffer (SetReleased mask) = false
 refusedByBuffer (SetHeld mask) = false
+refusedByBuffer Idle = false
 
 -- none of the cases is one of these
 abbrev others : List Case → Bool
@@ -120,7 +122,7 @@ module _ (L : Limits) (σ : State) (g : List ℕ) where
       let-refusingBoth _ _ (past-first _ LEDGER _ (ap not e) refl)
       (release-cases L σ g m (recordOf σ m) (λ o. Let (o .answer)) (λ _. refl) (λ _ _. refl) (λ _ _. refl) (λ _ _ _. refl))
 
-  let-deliver : (m : ℕ) → Let (stepDeliver L σ m .answer)
+  pub let-deliver : (m : ℕ) → Let (stepDeliver L σ m .answer)
   unfolding stepDeliver intervalBegins
   let-deliver m = let-refusing _ _ refl (deliver-cases L σ (recordOf σ m) m (λ o. Let (o .answer)) (λ _. refl) (λ _. refl) (λ _. refl) (λ _ _ _. refl))
 
@@ -147,12 +149,7 @@ module _ (L : Limits) (σ : State) (g : List ℕ) where
 
   -- a step on a state and a ledger in form
   pub let-step : (x : Command) → inForm L σ ≡ true → ledgerOk L g ≡ true → Let (stepOn L σ g x .answer)
-  unfolding stepOn
-  let-step x f e = ap (λ b. refusedByBuffer (cond (looksAtForm x && not b) (beside (refuse FORM σ) g) (perform L σ g x) .answer)) f ∙ go (looksAtForm x)
-    where
-      go : (b : Bool) → Let (cond (b && false) (beside (refuse FORM σ) g) (perform L σ g x) .answer)
-      go true = let-perform x e
-      go false = let-perform x e
+  let-step x f e = subst (λ (o : AfterBoth). Let (o .answer)) (sym (performed L σ g f x)) (let-perform x e)
 
 -- TABLES AND LEDGERS OF WORDS
 -- both lent buffers are in form

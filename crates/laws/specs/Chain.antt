@@ -21,7 +21,7 @@ use Rattle.rules.specs.Shared.{placeRecord, logged, loggedTo, checkpointed, for
 use Rattle.rules.specs.Steps.{chainFull, intervalAdded, noted, messageRefusals, releaseRefusals}
 use Rattle.laws.specs.Facts.{Near, Form, form, below-8, controllerForm, placeForm, messageForm, released-lt, no-message, message-near, house-fits, numbers-le}
 use Rattle.laws.specs.Records.{placeVector-of, messageVector-of}
-use Rattle.laws.specs.Allowed.{messageAllowed, releaseAllowed, Room, room-left}
+use Rattle.laws.specs.Allowed.{MessageAllowed, messageAllowed, releaseAllowed, Room, room-left}
 use Rattle.laws.specs.Numbers.{numbers-capped, numbers-added, numbers-restarted, room-same}
 use Rattle.laws.specs.Agree.{incarnation-same, live-same, placeVector-same, messageVector-same, live-restarted}
 use Rattle.laws.specs.Answering.{Lent}
@@ -283,11 +283,12 @@ pub record Taken (σ : State) (r : ℕ) : Type 0 where
   pub receiver : Chain σ (σ (Receiver r))
   pub room : chainFull house σ (σ (Receiver r)) ≡ false → Room house σ (σ (Receiver r)) (σ (LiveCount (σ (Receiver r))))
 
+pub taken-there : {σ : State} {r : ℕ} → Form house σ → MessageAllowed σ r stateReleased → Taken σ r
+taken-there {σ} {r} f a =
+    record { record-lt = omega (arith, f .used-le, a .record-used); receiver = chain-form σ _ f (released-lt f r (a .record-used) (a .state-is)); room = room-left house σ f house-fits _ _ }
+
 pub taken : (t : List ℕ) (r : ℕ) → Lent t → 0 ≡ firstOf (messageRefusals (state t) r stateReleased) → Taken (state t) r
-taken t r l e =
-    let f = form house (state t) (l .good) in
-    let a = messageAllowed (state t) r stateReleased e in
-    record { record-lt = omega (arith, f .used-le, a .record-used); receiver = chain-of t _ l (released-lt f r (a .record-used) (a .state-is)); room = room-left house (state t) f house-fits _ _ }
+taken t r l e = taken-there (form house (state t) (l .good)) (messageAllowed (state t) r stateReleased e)
 
 -- R: the same; its receiver may be the desk
 pub record Releasable (σ : State) (r : ℕ) : Type 0 where

@@ -11,6 +11,8 @@ pub mod Bits
 pub mod Kept
 pub mod Releasing
 pub mod Delivering
+pub mod Round
+pub mod Dispatching
 pub mod StepWords
 pub mod Fixed
 pub mod Beside

@@ -13,9 +13,9 @@ use Rattle.rules.specs.declared.Answer.the-variants.{Done}
 use Rattle.rules.specs.declared.Command.{Command}
 use Rattle.rules.specs.declared.Command.the-variants.{Open, Hear}
 use Rattle.history.specs.History.{member}
-use Rattle.history.specs.Demand.{Run, callIn, stepIn, next, runs, justOpened, Accepted, RestsOnLost, named, LetsGo, FromOpening, Demand3}
+use Rattle.history.specs.Demand.{Run, callIn, stepIn, next, runs, justOpened, Accepted, RestsOnLost, named, LetsGo, NoOpening, FromOpening, Demand3}
 use Rattle.calls.specs.Sets.{runs-append}
-use Rattle.calls.specs.Made.{NoDoneOpening, NotDone, PartOf, call-ind, part-not-done}
+use Rattle.calls.specs.Made.{NoDoneOpening, NotDone, PartOf, Unturned, call-ind, part-not-done}
 use Rattle.model.specs.Model.{Model, openModel}
 use Rattle.model.specs.Tests.{Is, contrary, fails}
 use Rattle.model.specs.Invariant.{Inv}
@@ -37,18 +37,16 @@ module _ (n : ℕ) (Reads : Run → Model → Type 0) where
     pub holds : Holds r′
     pub keeps : Keeps n (s .model) (r .history) (holds .model) (r′ .history)
 
-  -- A house just opened is read as the model just opened, and one step leads on, unless it is an opening that is done.
+  -- A house just opened is read as the model just opened, and one step leads on, unless it is an opening that is done; the controller last
+  -- served is not looked at.
   pub record Follows : Type 0 where
     pub open-reads : (t g : List ℕ) (k : ℕ) → step t g (Open n k) .answer ≡ Done → Reads (justOpened t g n k) (openModel n k)
     pub step-keeps : {r : Run} (s : Holds r) (x : Command) → NoDoneOpening x (stepIn r x .answer) → Later s (next (asks x) r)
+    pub turn-reads : (μ : Model) → Unturned (λ r. Reads r μ)
     pub hearer-below : {r : Run} (s : Holds r) (hearer crashed i : ℕ) → Accepted (stepIn r (Hear hearer crashed i) .answer) → hearer < n
     pub lets-out : {r : Run} (s : Holds r) (x : Call) (m mask : ℕ) → LetsGo x (callIn r x .answer) m mask → LetUnder (s .model) m mask
 
--- no opening in a list is done
-abbrev pub NoOpening : Run → List Call → Type 0
-NoOpening r l = (before after : List Call) (size degree : ℕ) → l ≡ before ++ asks (Open size degree) ∷ after → stepIn (runs r before) (Open size degree) .answer ≢ Done
-
--- nor in its first part
+-- no opening in the first part of a list is done, if none in the list is
 no-opening-before : (r : Run) (l l′ : List Call) → NoOpening r (l ++ l′) → NoOpening r l
 no-opening-before r l l′ unopened before after size degree e =
     unopened before (after ++ l′) size degree (ap (λ z. z ++ l′) e ∙ append-assoc before (asks (Open size degree) ∷ after) l′)
@@ -87,10 +85,16 @@ later-trans : {n : ℕ} {Reads : Run → Model → Type 0} {r r′ r″ : Run} {
 later-trans p q = record { holds = q .holds; keeps = keeps-trans (p .keeps) (q .keeps) }
 
 module _ {n : ℕ} {Reads : Run → Model → Type 0} (F : Follows n Reads) where
+  -- what is later is so whoever was served last
+  later-turned : {r : Run} (s : Holds n Reads r) → Unturned (Later n Reads s)
+  later-turned s q c lent low l =
+      let h = l .holds in
+      record { holds = record { model = h .model; reads = F .turn-reads (h .model) q c lent low (h .reads); inv = h .inv }; keeps = l .keeps }
+
   -- a call, which is made of steps
   pub call-keeps : {r : Run} (s : Holds n Reads r) (x : Call) → NotDone r x → Later n Reads s (next x r)
   call-keeps {r} s x unopened =
-      call-ind (Later n Reads s) r x (later-refl s) (λ q y p l. later-trans l (F .step-keeps (l .holds) y (part-not-done p unopened)))
+      call-ind (Later n Reads s) r (later-turned s) x (later-refl s) (λ q y p l. later-trans l (F .step-keeps (l .holds) y (part-not-done p unopened)))
 
   -- a list of calls
   pub runs-keep : (l : List Call) {r : Run} (s : Holds n Reads r) → NoOpening r l → Later n Reads s (runs r l)
@@ -155,15 +159,16 @@ module _ {n : ℕ} {Reads : Run → Model → Type 0} (F : Follows n Reads) wher
           (runs-keep rest (part before rest e) (no-opening-after start before rest (subst (NoOpening start) e (O .no-opening))))
 
       -- A fact that holds of the house just opened, and that each step of each call of the list keeps, holds after each first part of the list.
-      -- At a step its invariant is at hand, that it is no done opening, and what it keeps (`AtStep`).
-      pub along : (P : Run → Type 0) → P start →
+      -- At a step its invariant is at hand, that it is no done opening, and what it keeps (`AtStep`). It must not look at the controller last served.
+      pub along : (P : Run → Type 0) → Unturned P → P start →
           ((before : List Call) (x : Call) (after : List Call) → l ≡ before ++ x ∷ after → (q : Run) (y : Command) → AtStep before x q y → P q → P (next (asks y) q)) →
           (before rest : List Call) → l ≡ before ++ rest → P (runs start before)
-      along P p keeps before rest e =
+      along P free p keeps before rest e =
           runs-ind P before start p
           (λ first x after d w. let f : l ≡ first ++ x ∷ (after ++ rest) = e ∙ ap (λ z. z ++ rest) d ∙ append-assoc first (x ∷ after) rest in
           let c = in-list first x (after ++ rest) f in
-          call-ind (λ q. Later n Reads (c .holds) q × P q) (runs start first) x (later-refl (c .holds), w)
+          call-ind (λ q. Later n Reads (c .holds) q × P q) (runs start first)
+          (λ q c₂ lent low so-far. (later-turned (c .holds) q c₂ lent low (so-far .0), free q c₂ lent low (so-far .1))) x (later-refl (c .holds), w)
           (λ q y part so-far. let unopened = part-not-done part (c .unopened) in
           let one = F .step-keeps (so-far .0 .holds) y unopened in
           (later-trans (so-far .0) one, keeps first x (after ++ rest) f q y (record { part = part; holds = so-far .0 .holds; unopened = unopened; one = one }) (so-far .1))) .1)

@@ -262,7 +262,7 @@ module _ {n : ℕ} {Reads : Run → Model → Type 0} (F : Follows n Reads) (t g
   pub lemma-A-1-always : (before rest : List Call) → l ≡ before ++ rest → StableDown (upTo t g n k before .history)
   unfolding justOpened next fed
   lemma-A-1-always before rest e =
-      along F t g k l O (λ r. ((c : ℕ) → Owned (r .history) c) × StableDown (r .history)) (opening-owned n k, stable-down-opened n k)
+      along F t g k l O (λ r. ((c : ℕ) → Owned (r .history) c) × StableDown (r .history)) (λ q c lent low p. p) (opening-owned n k, stable-down-opened n k)
       (λ first x after f q y s p. let step = fed-secures y _ _ (p .0) in
       (λ c. step .owned c (p .0 c), stable-down-keeps (s .holds .inv) (s .one .keeps) (step .newly) (p .1)))
       before rest e .1

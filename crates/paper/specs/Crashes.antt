@@ -14,7 +14,7 @@ use Rattle.rules.specs.Step.{Call, asks, stepCall}
 use Rattle.rules.specs.declared.Answer.{Answer}
 use Rattle.rules.specs.declared.Answer.the-variants.{Crashed}
 use Rattle.rules.specs.declared.Command.{Command}
-use Rattle.rules.specs.declared.Command.the-variants.{Release, Crash, Hear}
+use Rattle.rules.specs.declared.Command.the-variants.{Release, Crash, Hear, Deliver}
 use Rattle.history.specs.History.{Interval, History, member, joined, leaving, stabilized, hearing, losing, flagging, degreeSet, sentFrom, gapSet, delivering, logging, checkpointing, beginning, crashing, rollingBack, opening, answers, fedStep, fed}
 use Rattle.history.specs.Demand.{stepIn, next, justOpened, RestsOnLost, FromOpening, upTo, end}
 use Rattle.history.specs.Progress.{Orphan, CrashIn, HasHeard, CanHear}
@@ -91,18 +91,21 @@ module _ (t g : List ℕ) (n k : ℕ) (l : List Call) where
   crash-in before after (ended c echoed i kept lost replayed) e answer =
       record { before = before; after = after; echoed = echoed; kept = kept; lost = lost; replayed = replayed; is-in = e; answer = answer }
 
-  -- it releases nothing
+  -- it releases and delivers nothing
   no-release : {x : Command} {a : Answer} {c i : ℕ} → Ended x a c i → (m : ℕ) → x ≢ Release m
   no-release (ended c echoed i kept lost replayed) m e = absurd (let z : _≡_ {A = ℕ} 0 1 = cc in omega arith)
+
+  no-delivery : {x : Command} {a : Answer} {c i : ℕ} → Ended x a c i → (m : ℕ) → x ≢ Deliver m
+  no-delivery (ended c echoed i kept lost replayed) m e = absurd (let z : _≡_ {A = ℕ} 0 1 = cc in omega arith)
 
   module _ (O : FromOpening t g n k l) where
     -- a crash that its own controller has heard is in the list
     own-crash : (c i : ℕ) → Is (end t g n k l .heard c c i) → CrashIn t g n k l c i
     unfolding justOpened opening next stepCall fed
     own-crash =
-        along (follows n) t g k l O (λ r. (c i : ℕ) → Is (r .history .heard c c i) → CrashIn t g n k l c i) (λ c i z. contrary z refl)
+        along (follows n) t g k l O (λ r. (c i : ℕ) → Is (r .history .heard c c i) → CrashIn t g n k l c i) (λ q b lent low all. all) (λ c i z. contrary z refl)
         (λ before x after e q y s all c i z.
-        ⊎-elim (all c i) (λ d. let (call-is, here) = part-itself (s .part) (no-release d) in
+        ⊎-elim (all c i) (λ d. let (call-is, here) = part-itself (s .part) (no-release d) (no-delivery d) in
         crash-in before after d (e ∙ ap (λ x. before ++ x ∷ after) call-is) (ap (λ r. stepIn r y .answer) (sym here)))
         (heard-own (s .holds .inv) (outcome y (s .holds .reads)) (s .unopened) c i z))
         l [] (sym (append-nil l))

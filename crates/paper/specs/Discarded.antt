@@ -26,20 +26,21 @@ use Rattle.model.specs.Invariant.{Inv, some-live}
 use Rattle.model.specs.Consequences.{chain-live}
 use Rattle.model.specs.Recovery.{notedController}
 use Rattle.model.specs.Lasting.{Lasts, LastsIn, lasts-same, unchanged, lasts-checkpoint, lasts-begun, lasts-anew, lasts-put, lasts-capped, LiveIn, SparedIn, stays-live}
-use Rattle.calls.specs.Made.{NoDoneOpening}
+use Rattle.calls.specs.Made.{NoDoneOpening, Unturned}
 use Rattle.model.specs.Runs.{AtStep, along}
 use Rattle.image.specs.Reads.{present-sent, incarnation-is, live-is}
 use Rattle.image.specs.Outcome as O
 use Rattle.image.specs.Outcome.{Outcome}
 use Rattle.image.specs.Tables.{modelOf, opening-done}
 use Rattle.progress.specs.Held.{Spared}
-use Rattle.progress.specs.Tables.{same-record, held-before}
+use Rattle.progress.specs.Tables.{same-record, held-before, there-served}
 use Rattle.progress.specs.Answers.{release-refused}
 use Rattle.demand.specs.Demanded.{table-inv, table-outcome, follows}
 use Rattle.keeping.specs.Unrefused.{Sound, sound-opened}
 use Rattle.demand.specs.InForm.{sound-next, sound-after}
 use Rattle.paper.specs.Ready.{stateOfMessage, sent-there}
 use Rattle.paper.specs.Holding.{Sends, sends, just-sent, same-sending, sending-is, begun, none-there}
+use Rattle.keeping.specs.Dispatch.{sound-served}
 
 -- a step leaves the live intervals of a controller whose incarnation stays, and those below its new one where it starts anew
 lasts : {n : ℕ} {μ : Model} {x : Command} {a : Answer} {j : ℕ} {μ′ : Model} → Outcome n μ x a j μ′ → NoDoneOpening x a → LastsIn μ μ′
@@ -138,10 +139,18 @@ module _ (t g : List ℕ) (n k : ℕ) (l : List Call) (O : FromOpening t g n k l
           subst (LiveIn later) (sym (same-sending (s .holds) (s .one) m there))
           (stays-live v (table-inv (s .one .holds)) last (r .history .sending m) owner low (w .live there (kept .was)))
 
+  -- whoever was served last
+  live-turned : Unturned HeldLive
+  live-turned q c lent low w =
+      record {
+        sound = sound-served (q .table) (q .ledger) c low (w .sound);
+        live = λ here held. let (there, same) = there-served (q .table) c lent low m here in w .live there (sym same ∙ held);
+      }
+
   -- so where it is held at the end of the list, its sending interval is live
   pub held-live : let r = upTo t g n k l in
       recordOf (state (r .table)) m < used (state (r .table)) → stateOfMessage (r .table) m ≡ stateHeld → SendingLive t g n k l m
-  held-live = along (follows n) t g k l O HeldLive live-opened live-next l [] (sym (append-nil l)) .live
+  held-live = along (follows n) t g k l O HeldLive live-turned live-opened live-next l [] (sym (append-nil l)) .live
 
   -- Where the sending interval of a message that was sent in the list is not live at its end, its release is refused for its state.
   pub discarded : SentIn t g n k l m → (SendingLive t g n k l m → ⊥) → stepIn (upTo t g n k l) (Release m) .answer ≡ Refused STATE

@@ -9,9 +9,9 @@ use native.Mathlib.Omega.{arith}
 use lib.ListN.{length}
 use Rattle.rules.specs.Report.{report}
 use Rattle.rules.specs.Sets.{nth}
-use Rattle.rules.specs.Step.{Call, asks, releaseSet}
+use Rattle.rules.specs.Step.{Call, asks, releaseSet, dispatch}
 use Rattle.rules.specs.declared.Answer.{Answer}
-use Rattle.rules.specs.declared.Answer.the-variants.{Done, Sent, Released, Held, Delivered, Dropped, Waits, Crashed, Heard, Rolled, Refused, SetReleased, SetHeld}
+use Rattle.rules.specs.declared.Answer.the-variants.{Done, Sent, Released, Held, Delivered, Dropped, Waits, Crashed, Heard, Rolled, Refused, SetReleased, SetHeld, Idle}
 use Rattle.rules.specs.declared.Command.{Command}
 use Rattle.rules.specs.declared.Command.the-variants.{Open, SetDegree, Send, Release, Deliver, Log, Checkpoint, Tell, Crash, Hear, SetGap}
 use Rattle.history.specs.History.{History, member, answers}
@@ -54,6 +54,7 @@ shown (Rolled b k undone replayed owner i) = nothing (Rolled b k undone replayed
 shown (Refused number) = nothing (Refused number) refl refl
 shown (SetReleased mask) = by-set mask
 shown (SetHeld mask) = nothing (SetHeld mask) refl refl
+shown Idle = nothing Idle refl refl
 
 -- where it shows nothing, none was
 nothing-goes : {x : Call} {a : Answer} {m mask : ℕ} → LetsGo x a m mask → answers a (Released 0 0) ≡ false → answers a (SetReleased 0) ≡ false → ⊥
@@ -88,6 +89,8 @@ lets-go? m x (nothing a e f) = inr (λ k o. nothing-goes o e f)
 lets-go? m (asks x) (by-release echoed mask) =
     ⊎-elim (λ is. inl (mask, subst (λ x. LetsGo (asks x) (Released echoed mask) m mask) (sym is) (alone m echoed mask))) (λ ne. inr (λ k o. ne (itself o))) (releases? m x)
 lets-go? m (asks x) (by-set mask) = inr (λ k o. elim o [ ])
+lets-go? m dispatch (by-release echoed mask) = inr (λ k o. elim o [ ])
+lets-go? m dispatch (by-set mask) = inr (λ k o. elim o [ ])
 lets-go? m (releaseSet l) (by-release echoed mask) = inr (λ k o. elim o [ ])
 lets-go? m (releaseSet l) (by-set mask) =
     ⊎-elim (λ p. inl (mask, subst (λ m. LetsGo (releaseSet l) (SetReleased mask) m mask) (p .2) (together l (p .0) mask (p .1)))) (λ none. inr (λ k o. not-among none o)) (among? m l)

@@ -23,7 +23,7 @@ use Rattle.model.specs.Tests.{Is}
 use Rattle.model.specs.Invariant.{Inv, Ext, spoilt-on}
 use Rattle.model.specs.Consequences.{on-chain, live-clean, live-or-lost, sending-begun}
 use Rattle.model.specs.Recovery.{notedController}
-use Rattle.calls.specs.Made.{NoDoneOpening, part-out}
+use Rattle.calls.specs.Made.{NoDoneOpening, part-out, Unturned}
 use Rattle.model.specs.Runs.{Holds, Later, AtStep, along}
 use Rattle.image.specs.Reads.{sent-is, incarnation-is, live-is, from-is, present-sent}
 use Rattle.image.specs.Outcome as O
@@ -33,10 +33,11 @@ use Rattle.laws.specs.Answering.{Lent}
 use Rattle.keeping.specs.Unrefused.{Sound, sound-opened}
 use Rattle.progress.specs.Causes.{NoneCauses}
 use Rattle.progress.specs.Held.{Leaves, let-out, undone}
-use Rattle.progress.specs.Tables.{none-causes-step, none-causes-open, same-record, held-step, sent-held}
+use Rattle.progress.specs.Tables.{none-causes-step, none-causes-open, same-record, held-step, sent-held, none-causes-served, there-served}
 use Rattle.demand.specs.Demanded.{ReadOff, table-inv, table-outcome, follows}
 use Rattle.demand.specs.InForm.{sound-next}
 use Rattle.paper.specs.Ready.{stateOfMessage}
+use Rattle.keeping.specs.Dispatch.{sound-served}
 
 -- the step sent message m
 pub data Sends : Command → Answer → ℕ → Type 0 where
@@ -217,6 +218,15 @@ module _ (t g : List ℕ) (n k : ℕ) (l : List Call) (O : FromOpening t g n k l
       new : recordOf (state u) m < used (state u) → used σ ≤ recordOf σ m → stateOfMessage u m ≡ stateHeld
       new here gone = sent-is-held (r .table) (r .ledger) (w .sound .table) (just-sent (s .holds) y (s .unopened) m gone here) refl
 
+  -- whoever was served last
+  held-turned : Unturned Held
+  held-turned q c lent low w =
+      record {
+        sound = sound-served (q .table) (q .ledger) c low (w .sound);
+        none = none-causes-served (q .table) c lent low (w .none);
+        held = λ here live. let (there, same) = there-served (q .table) c lent low m here in same ∙ w .held there live;
+      }
+
   -- so it is held at the end of the list
   pub is-held : recordOf (state (upTo t g n k l .table)) m < used (state (upTo t g n k l .table)) → SendingLive t g n k l m → stateOfMessage (upTo t g n k l .table) m ≡ stateHeld
-  is-held = along (follows n) t g k l O Held held-opened held-next l [] (sym (append-nil l)) .held
+  is-held = along (follows n) t g k l O Held held-turned held-opened held-next l [] (sym (append-nil l)) .held

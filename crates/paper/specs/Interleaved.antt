@@ -45,7 +45,7 @@ use Rattle.demand.specs.Demanded.{table-inv, table-outcome, follows}
 use Rattle.demand.specs.Beyond.{ledger-cites}
 use Rattle.paper.specs.Ready.{Ready, modelIn, stateOfMessage, there-ok, ready-kept, done-outcome, ready}
 use Rattle.paper.specs.Holding.{same-sending}
-use Rattle.paper.specs.Spreading.{Grown, grown-self, grown-trans, ReadyFrom, grown-kept, grown-next, first, ready-at, grown-from, grown-after}
+use Rattle.paper.specs.Spreading.{Grown, grown-self, grown-trans, ReadyFrom, grown-kept, grown-next, first, ready-at, grown-from, grown-after, grown-turned}
 use Rattle.paper.specs.Named.{held-names, held-covers}
 
 -- ONE RUN
@@ -226,7 +226,7 @@ module _ (t g : List ℕ) (n k : ℕ) (l : List Call) (O : FromOpening t g n k l
       let sent : m ≤ modelOf u .sent = subst (λ (ν : Model). m ≤ ν .sent) (sym is) (out .sent) in
       let none : modelOf u .message m .vec c .number ≤ 0 = le? 1 (modelOf u .message m .vec c .number) (λ pos. contrary (pos-full _ pos) empty) (λ z. omega arith) in
       let on : Grown (modelIn q′) (modelIn (next x r₀)) =
-      part-on (ReadyFrom n (modelIn q′)) r₀ (p .part) (ready-kept unopened q (Release m) (p .part) s′, grown-self (modelIn q′)) (grown-kept unopened) .1 in
+      part-on (ReadyFrom n (modelIn q′)) r₀ grown-turned (p .part) (ready-kept unopened q (Release m) (p .part) s′, grown-self (modelIn q′)) (grown-kept unopened) .1 in
       clear-on (grown-trans on (grown-after t g n k l O before x (let-out .after) e)) m b c sent (omega arith)
 
   -- a release at the end, held or let out: the message is there, and each that it names has its pair left full

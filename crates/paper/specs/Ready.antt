@@ -16,7 +16,7 @@ use Rattle.history.specs.Progress.{SentIn}
 use Rattle.model.specs.Model.{Model}
 use Rattle.model.specs.Invariant.{MessageOk, Inv}
 use Rattle.model.specs.Informed.{AllInformed}
-use Rattle.calls.specs.Made.{NoDoneOpening, NotDone, PartOf, call-ind, part-not-done}
+use Rattle.calls.specs.Made.{NoDoneOpening, NotDone, PartOf, call-ind, part-not-done, Unturned}
 use Rattle.model.specs.Runs.{Holds, in-list, at-end}
 use Rattle.image.specs.Reads.{sent-is, present-sent}
 use Rattle.image.specs.Outcome.{Outcome}
@@ -24,7 +24,8 @@ use Rattle.image.specs.Tables.{modelOf, sizeOf}
 use Rattle.keeping.specs.Unrefused.{Sound}
 use Rattle.demand.specs.Demanded.{sent-last, ReadOff, table-outcome, follows}
 use Rattle.demand.specs.InForm.{sound-next, sound-after}
-use Rattle.demand.specs.Informing.{informed-next, all-informed}
+use Rattle.demand.specs.Informing.{informed-next, all-informed, informed-turned}
+use Rattle.keeping.specs.Dispatch.{sound-served}
 
 -- a run of a house of n controllers of which all is known
 pub record Ready (n : ℕ) (r : Run) : Type 0 where
@@ -57,9 +58,19 @@ ready-step {n} {r} x s unopened =
 pub ready-kept : {n : ℕ} {r : Run} {x : Call} → NotDone r x → (q : Run) (y : Command) → PartOf r x q y → Ready n q → Ready n (next (asks y) q)
 ready-kept unopened q y part w = ready-step y w (part-not-done part unopened)
 
+-- whoever was served last,
+pub ready-turned : {n : ℕ} → Unturned (Ready n)
+ready-turned {n} q c lent low s =
+    let h = s .holds in
+    record {
+      holds = record { model = h .model; reads = follows n .turn-reads (h .model) q c lent low (h .reads); inv = h .inv };
+      sound = sound-served (q .table) (q .ledger) c low (s .sound);
+      informed = informed-turned q c lent low (s .informed);
+    }
+
 -- and so is what a call leaves
 pub ready-next : {n : ℕ} {r : Run} (x : Call) → Ready n r → NotDone r x → Ready n (next x r)
-ready-next {n} {r} x s unopened = call-ind (Ready n) r x s (ready-kept unopened)
+ready-next {n} {r} x s unopened = call-ind (Ready n) r ready-turned x s (ready-kept unopened)
 
 -- the model after a step that is done, by its outcome
 pub done-outcome : {n : ℕ} {r : Run} → Ready n r → (x : Command) → stepIn r x .answer ≡ Done → Outcome n (modelIn r) x Done (sizeOf (next (asks x) r .table)) (modelIn (next (asks x) r))

@@ -11,7 +11,7 @@ use Rattle.rules.specs.Step.{Call, asks, stepCall}
 use Rattle.rules.specs.declared.Answer.{Answer}
 use Rattle.rules.specs.declared.Command.{Command}
 use Rattle.history.specs.History.{interval, History}
-use Rattle.history.specs.Demand.{Run, next, runs, FromOpening, upTo}
+use Rattle.history.specs.Demand.{Run, next, runs, FromOpening, upTo, NoOpening}
 use Rattle.model.specs.Model.{pair, Vec, Controller, Message, Model, putController, putMessage, degreeController, logController, loggedController, flagController, checkpointController, forcedModel, capModel, gapModel, tellController, endController, noteController, beginController, anewController, sendMessage, releasedVec, releaseMessage}
 use Rattle.model.specs.Tests.{Is, changedAt-ind, changedAt-other, changedAt₂-ind, changedAt₂-same, changedAt₂-other}
 use Rattle.model.specs.Invariant.{ControllerOk, Inv}
@@ -19,12 +19,13 @@ use Rattle.model.specs.Vectors.{filtered-ind}
 use Rattle.model.specs.Keeping.{putController-twice}
 use Rattle.model.specs.Recovery.{hears-other, notedController}
 use Rattle.calls.specs.Sets.{runs-append}
-use Rattle.calls.specs.Made.{NoDoneOpening, NotDone, PartOf, call-ind, part-not-done}
-use Rattle.model.specs.Runs.{NoOpening, no-opening-after, not-done, first-part}
+use Rattle.calls.specs.Made.{NoDoneOpening, NotDone, PartOf, call-ind, part-not-done, Unturned}
+use Rattle.model.specs.Runs.{no-opening-after, not-done, first-part}
 use Rattle.image.specs.Outcome as O
 use Rattle.image.specs.Outcome.{Outcome}
 use Rattle.demand.specs.Demanded.{table-inv, table-outcome}
-use Rattle.paper.specs.Ready.{Ready, modelIn, ready-next, ready, ready-kept}
+use Rattle.paper.specs.Ready.{Ready, modelIn, ready-next, ready, ready-kept, ready-turned}
+use Rattle.image.specs.Tables.{model-served}
 
 -- KNOWN WORDS
 -- no known word is lowered
@@ -214,9 +215,12 @@ unfolding next stepCall
 grown-kept unopened q y part w =
     (ready-kept unopened q y part (w .0), grown-trans (w .1) (grown (table-outcome (w .0 .holds) y) (part-not-done part unopened) (table-inv (w .0 .holds))))
 
+pub grown-turned : {n : ℕ} {μ : Model} → Unturned (ReadyFrom n μ)
+grown-turned {n} {μ} q c lent low w = (ready-turned q c lent low (w .0), subst (Grown μ) (sym (model-served (q .table) c lent low)) (w .1))
+
 -- so one call does
 pub grown-next : {n : ℕ} {r : Run} → Ready n r → (x : Call) → NotDone r x → Grown (modelIn r) (modelIn (next x r))
-grown-next {n} {r} s x unopened = call-ind (ReadyFrom n (modelIn r)) r x (s, grown-self (modelIn r)) (grown-kept unopened) .1
+grown-next {n} {r} s x unopened = call-ind (ReadyFrom n (modelIn r)) r grown-turned x (s, grown-self (modelIn r)) (grown-kept unopened) .1
 
 -- a list of calls
 grown-runs : (l : List Call) {n : ℕ} {r : Run} → Ready n r → NoOpening r l → Grown (modelIn r) (modelIn (runs r l))

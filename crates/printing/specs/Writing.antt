@@ -14,7 +14,7 @@ use Rattle.base.specs.Splice.{splice, length-splice}
 use Rattle.rules.specs.Bytes.{bytes}
 use Rattle.rules.specs.Report.{report}
 use Rattle.rules.specs.declared.Answer.{Answer}
-use Rattle.rules.specs.declared.Answer.the-variants.{Done, Sent, Released, Held, Delivered, Dropped, Waits, Crashed, Heard, Rolled, Refused, SetReleased, SetHeld}
+use Rattle.rules.specs.declared.Answer.the-variants.{Done, Sent, Released, Held, Delivered, Dropped, Waits, Crashed, Heard, Rolled, Refused, SetReleased, SetHeld, Idle}
 use Rattle.lines.specs.Lines.{space, lineFeed, zeroDigit, mostDigits, largest, radix, decimalIn, decimal, spaced, lineOf, answerLine, badLine}
 use Rattle.printing.specs.Parts.{numberRoom, answerRoom, Written, Short}
 
@@ -325,6 +325,7 @@ answer-size (Rolled b k undone replayed owner i) = omega (arith, line-size (byte
 answer-size (Refused number) = omega (arith, line-size (bytes "refused") (number ∷ []))
 answer-size (SetReleased mask) = omega (arith, line-size (bytes "released") (mask ∷ []))
 answer-size (SetHeld mask) = omega (arith, line-size (bytes "held") (mask ∷ []))
+answer-size Idle = omega (arith, line-size (bytes "idle") [])
 
 -- the line of an answer that is known to be b
 pub answer-written : {o u : List ℕ} {at r : ℕ} {a b : Answer} → a ≡ b → Written o at (answerLine b) u r → Short o at (answerLine a) u r

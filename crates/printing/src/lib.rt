@@ -97,6 +97,7 @@ pub fn write_answer(out: &mut [u8], at: usize, a: Answer) -> usize
         Answer::Refused(number) => write_line(out, at, b"refused", &[number]),
         Answer::SetReleased(mask) => write_line(out, at, b"released", &[mask]),
         Answer::SetHeld(mask) => write_line(out, at, b"held", &[mask]),
+        Answer::Idle => write_line(out, at, b"idle", &[]),
     }
 }
 

@@ -40,6 +40,7 @@ use Rattle.image.specs.Tests.{spared, condemned-model, filtered-is, released-is
 use Rattle.image.specs.Reads.{message-vec-is}
 use Rattle.image.specs.Tables.{modelOf, sizeOf}
 use Rattle.progress.specs.Tables.{answer-is}
+use Rattle.keeping.specs.Steps.{performed}
 
 -- EMPTY PAIRS
 -- a pair of the model is empty where that of the words is
@@ -92,23 +93,18 @@ module _ (L : Limits) (σ : State) (g : List ℕ) (good : inForm L σ ≡ true) 
   f : Form L σ
   f = form L σ good
 
-  -- a step on a state in form is what its rule says
-  pub performed : (x : Command) → stepOn L σ g x ≡ perform L σ g x
-  unfolding stepOn
-  performed x = rw (good, and-false)
-
   -- C
   checkpoint-done : (c : ℕ) → c < σ Size → stepOn L σ g (Checkpoint c) .answer ≡ Done
   unfolding perform stepCheckpoint
   checkpoint-done c l =
-      ap (λ (o : AfterBoth). o .answer) (performed (Checkpoint c))
+      ap (λ (o : AfterBoth). o .answer) (performed L σ g good (Checkpoint c))
       ∙ ap (λ (o : After). o .answer) (unrefused (checkpointRefusals σ c) σ _ (skip _ CONTROLLER 0 _ (lt-leb (σ Size) c l) none))
 
   -- T
   tell-done : (owner holder : ℕ) → owner < σ Size → holder < σ Size → owner ≢ holder → stepOn L σ g (Tell owner holder) .answer ≡ Done
   unfolding perform stepTell
   tell-done owner holder ol hl ne =
-      ap (λ (o : AfterBoth). o .answer) (performed (Tell owner holder))
+      ap (λ (o : AfterBoth). o .answer) (performed L σ g good (Tell owner holder))
       ∙ ap (λ (o : After). o .answer) (unrefused (tellRefusals σ owner holder) σ _
       (skip _ CONTROLLER 0 _ (rw (lt-leb (σ Size) owner ol, lt-leb (σ Size) holder hl)) (skip _ SAME-CONTROLLER 0 _ (ne-eqb owner holder ne) none)))
 
@@ -128,7 +124,7 @@ module _ (L : Limits) (σ : State) (g : List ℕ) (good : inForm L σ ≡ true) 
         let v = filtered σ (σ (Sender r)) (messageVector σ r) in
         let nobody : maskTo controllers v ≡ 0 =
         mask-none controllers v (subst (λ (w : Vec). (a : ℕ) → full (w a) ≡ false) (sym (released-is σ f m l)) h) in
-        ap (λ (o : AfterBoth). o .answer) (performed (Release m)
+        ap (λ (o : AfterBoth). o .answer) (performed L σ g good (Release m)
         ∙ unrefused-both (releaseRefusals L σ g r) σ g _ (skip _ LEDGER 0 _ (ap not ok) (message-let σ r stateHeld l e)))
         ∙ rw (nobody, nobody-goes σ r) (chosen (forDesk σ r && (L .entries ≤? countOf g)) _ _)
 
@@ -136,7 +132,7 @@ module _ (L : Limits) (σ : State) (g : List ℕ) (good : inForm L σ ≡ true) 
     not-held : ledgerOk L g ≡ true → r < used σ → σ (MessageState r) ≢ stateHeld → stepOn L σ g (Release m) .answer ≡ Refused STATE
     unfolding perform stepRelease refusingBoth
     not-held ok l ne =
-        ap (λ (o : AfterBoth). o .answer) (performed (Release m))
+        ap (λ (o : AfterBoth). o .answer) (performed L σ g good (Release m))
         ∙ ap (λ k. cond (k == 0) (release L σ g m r) (beside (refuse k σ) g) .answer)
         (sym (skip _ LEDGER STATE _ (ap not ok) (message-refused σ r stateHeld l ne)))
 
@@ -152,7 +148,7 @@ module _ (L : Limits) (σ : State) (g : List ℕ) (good : inForm L σ ≡ true) 
       where
         refused-as : (n : ℕ) → (n == 0) ≡ false → n ≡ firstOf (messageRefusals σ r stateReleased) → stepOn L σ g (Deliver m) .answer ≡ Refused n
         refused-as n ne e =
-            ap (λ (o : AfterBoth). o .answer) (performed (Deliver m))
+            ap (λ (o : AfterBoth). o .answer) (performed L σ g good (Deliver m))
             ∙ ap (λ k. cond (k == 0) (deliver L σ m r) (refuse k σ) .answer) (sym e) ∙ ap (λ b. cond b (deliver L σ m r) (refuse n σ) .answer) ne
 
     module _ (l : r < used σ) (e : σ (MessageState r) ≡ stateReleased) where
@@ -168,7 +164,7 @@ module _ (L : Limits) (σ : State) (g : List ℕ) (good : inForm L σ ≡ true) 
       delivered : stepOn L σ g (Deliver m) .answer ≡ deliver L σ m r .answer
       unfolding perform stepDeliver
       delivered =
-          ap (λ (o : AfterBoth). o .answer) (performed (Deliver m))
+          ap (λ (o : AfterBoth). o .answer) (performed L σ g good (Deliver m))
           ∙ ap (λ (o : After). o .answer) (unrefused (messageRefusals σ r stateReleased) σ _ (message-let σ r stateReleased l e))
 
       -- the words say of its vector what the model says: where the model has it condemned, so have the words

@@ -20,7 +20,8 @@ use Rattle.rules.specs.declared.Command.the-variants.{Hear}
 use Rattle.history.specs.Demand.{Accepted, answersHeard, answersRolled}
 use Rattle.keeping.specs.Unrefused.{Sound}
 use Rattle.image.specs.Tables.{sizeOf}
-use Rattle.progress.specs.Answers.{unrefused, performed, same-answer}
+use Rattle.progress.specs.Answers.{unrefused, same-answer}
+use Rattle.keeping.specs.Steps.{performed}
 
 -- it is accepted, unless the hearer must undo and is in the last incarnation
 abbrev pub Hears : ℕ → Answer → Type 0

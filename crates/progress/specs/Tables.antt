@@ -9,12 +9,12 @@ use lib.ListN.{length}
 use borrow.Author.Tests.{eq-eqb, ltb-true}
 use Rattle.base.specs.Choice.{_==_, _<?_, cond-ind, and-right}
 use Rattle.base.specs.Cases.{Case, firstOf}
-use Rattle.table.specs.Field.{State, OfMessage, Size, Incarnation, LiveCount, StableCount, Cause, MessageState, Sender, SendingNumber, word, same, messageHead}
+use Rattle.table.specs.Field.{State, OfMessage, Size, Incarnation, LiveCount, StableCount, Cause, MessageState, Sender, SendingNumber, word, same, messageHead, Served}
 use Rattle.table.specs.Layout.{controllers, tableWords}
 use Rattle.table.specs.Change.{put, putPart}
-use Rattle.table.specs.Words.{state, Agree, agree-words}
-use Rattle.table.specs.Numbering.{numberOf, lastLive, used, recordOf, nextMessage, posted, none-used, posted-used, posted-new, posted-at, number-same, used-agree, record-agree, message-agree}
-use Rattle.rules.specs.Limits.{Limits, house}
+use Rattle.table.specs.Words.{state, Agree, agree-words, words}
+use Rattle.table.specs.Numbering.{numberOf, lastLive, used, recordOf, nextMessage, posted, none-used, posted-used, posted-new, posted-at, number-same, used-agree, record-agree, message-agree, Numbered, numbers-put}
+use Rattle.rules.specs.Limits.{Limits, house, lastServed}
 use Rattle.rules.specs.Vector.{Vector}
 use Rattle.rules.specs.Refusal.{FORM}
 use Rattle.rules.specs.Form.{stateHeld, inForm}
@@ -30,9 +30,11 @@ use Rattle.laws.specs.Records.{length-message-record}
 use Rattle.laws.specs.Answering.{Lent}
 use Rattle.keeping.specs.Steps.{form-kept}
 use Rattle.image.specs.Tables.{opening-done}
-use Rattle.progress.specs.Causes.{NoneCauses, none-unsent, none-causes-kept}
+use Rattle.progress.specs.Causes.{NoneCauses, none-unsent, none-causes-kept, none-unmoved}
 use Rattle.progress.specs.Held.{Leaves, let-out, undone, KeptHeld, was-held, stays-held}
 use Rattle.progress.specs.There.{Stays, there-stays, stays-step}
+use Rattle.progress.specs.Unmoved.{Unmoved, unmoved-put}
+use Rattle.keeping.specs.Changes.{kept-served}
 
 -- STATES WITH THE SAME WORDS
 module _ (σ τ : State) (e : Agree σ τ) (f : Form house τ) where
@@ -245,3 +247,37 @@ sent-held t g s r p m h d =
     let same = record-agree τ ρ e m (omega arith) in
     let l : recordOf τ m < used τ = omega (arith, q .0) in
     (l, e (MessageState (recordOf τ m)) (omega arith, omega arith) ∙ ap (λ r. ρ (MessageState r)) same ∙ q .1)
+
+-- WHOEVER WAS SERVED LAST
+module _ (t : List ℕ) (c : ℕ) (h : Lent t) (low : c ≤ lastServed) where
+  -- the state with c as the controller last served, and that of its table
+  abbrev turnedState : State
+  turnedState = put (state t) Served c
+
+  abbrev served : State
+  served = state (words turnedState)
+
+  same-words : Agree served turnedState
+  same-words = agree-words turnedState refl
+
+  watched-same : Unmoved (state t) turnedState
+  watched-same = unmoved-put (state t) (state t) Served c refl (λ _ _. refl)
+
+  numbers-same : Numbered turnedState (state t)
+  numbers-same = numbers-put (state t) Served c refl
+
+  good : Form house turnedState
+  good = form house turnedState (kept-served house (state t) c low (h .good))
+
+  -- no held message is a cause
+  pub none-causes-served : NoneCauses (state t) → NoneCauses served
+  none-causes-served n = none-agree served turnedState same-words good (none-unmoved (state t) turnedState watched-same n)
+
+  -- a message that is there was there, in the same state
+  pub there-served : (m : ℕ) → recordOf served m < used served →
+      (recordOf (state t) m < used (state t)) × (served (MessageState (recordOf served m)) ≡ state t (MessageState (recordOf (state t) m)))
+  there-served m l =
+      let count = used-agree served turnedState same-words ∙ numbers-same .used-same in
+      let few = form house (state t) (h .good) .used-le in
+      let r = record-agree served turnedState same-words m (omega arith) ∙ numbers-same .record-same m in
+      (omega arith, same-words (MessageState (recordOf served m)) (omega arith, omega arith) ∙ watched-same (MessageState (recordOf served m)) refl ∙ ap (λ r. state t (MessageState r)) r)

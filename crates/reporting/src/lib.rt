@@ -30,6 +30,7 @@ fn report(a: Answer) -> Reported
         Answer::Refused(number) => Reported(10, [number, 0, 0, 0, 0, 0]),
         Answer::SetReleased(mask) => Reported(11, [mask, 0, 0, 0, 0, 0]),
         Answer::SetHeld(mask) => Reported(12, [mask, 0, 0, 0, 0, 0]),
+        Answer::Idle => Reported(13, [0, 0, 0, 0, 0, 0]),
     }
 }
 

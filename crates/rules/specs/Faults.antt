@@ -2,7 +2,7 @@
 -- one small state for each on which the fault would give something else.
 use mathlib.Core.Path.{_≡_, refl}
 use mathlib.Core.Bool.{true, false}
-use mathlib.Core.List.{List, [], _∷_, map}
+use mathlib.Core.List.{List, [], _∷_, map, _++_}
 use Prim.Native.Nat.{ℕ, _+_, _-_}
 use lib.Count.{onesIn, ones}
 use lib.ListN.{set, replicate}
@@ -19,11 +19,12 @@ use Rattle.rules.specs.Vector.{placeVector, messageVector, flat, knownSt
 use Rattle.rules.specs.Form.{stateHeld, stateReleased, stateDelivered, stateLost, stateDropped, statePublished, stateOk, zeros, pairOk, vectorOk, highest, rowOk, placeOk, messageOk, headZeros, headOk}
 use Rattle.rules.specs.Ledger.{countAt, entryAt, ledgerWords, countOf, ledgerOk, appended, blankLedger}
 use Rattle.rules.specs.Shared.{placeRecord, logged, loggedTo, checkpointed, forced, capped, causing, causedIn, causesIn, causes, offeredAgain, newVector, placed, entered, restarted, heldOrDropped, dropHeld, startAnew, removed, latestFlagged, replayed}
-use Rattle.rules.specs.Steps.{refusing, refusingBoth, openHouse, stepOpen, stepGap, recordsFull, stepSend, ownVector, letOut, gone, ledgerOut, mayGo, release, stepRelease, intervalAdded, intervalBegins, noPlace, chainFull, prospect, comesOf, deliver, toldRow, told, crashed, crashFull, stepCrash, noted, lowestCondemned, rolledBack, hear}
+use Rattle.rules.specs.Steps.{refusing, refusingBoth, openHouse, stepOpen, stepGap, recordsFull, stepSend, ownVector, letOut, gone, ledgerOut, mayGo, release, stepRelease, intervalAdded, intervalBegins, noPlace, chainFull, prospect, comesOf, deliver, toldRow, told, crashed, crashFull, stepCrash, noted, lowestCondemned, rolledBack, hear, stepDeliver}
 use Rattle.rules.specs.Sets.{someAbsent, badLength, namedBefore, namedTwice, someNotHeld, manySenders, someFull, bits, union, someForDesk, setMayGo, desks, outTo, ledgerTo, releaseAll, stepSet}
 use Rattle.rules.specs.Report.{report}
 use Rattle.rules.specs.Starred.{Row, _is_by_, rows-hold, no, yes, truth, answer}
 use Rattle.rules.specs.declared.Answer.the-variants.{Done, Sent, Released, Held, Delivered, Dropped, Crashed, Rolled, Refused, SetReleased, SetHeld}
+use Rattle.rules.specs.Dispatch.{dispatched, servable, hasMessage, turn, firstTurn, lowestFor, serve}
 
 -- message 1, in record 0, is from controller 0, of degree 0, and has the pair (0,2) of controller 1, which controller 0 knows to be stable
 abbrev since-logged : State
@@ -128,6 +129,29 @@ with-gap q = put (put (put (put blank (LiveCount 0) 3) (StableCount 0) 2) (Flag 
 abbrev in-head : ℕ → ℕ → State
 in-head k x = put (put blank Size 1) (OfHead k) x
 
+-- a house of three in which message 1 is released for controller 0, and messages 2 and 3 for controller 2; controller c was served last
+abbrev three-released : State
+three-released = put (put (put (put (put blank Size 3) SentCount 3) (MessageState 0) stateReleased) (MessageState 1) stateReleased) (MessageState 2) stateReleased
+
+abbrev served-last : ℕ → State
+served-last c = put (put (put three-released (Receiver 1) 2) (Receiver 2) 2) Served c
+
+-- controller 2 has 64 live intervals
+abbrev full-receiver : State
+full-receiver = put (served-last 1) (LiveCount 2) 64
+
+-- the newest interval of controller 2 rests on (0,5) of controller 1, and message 2 on (1,3)
+abbrev one-waits : State
+one-waits = put (put (put (put (served-last 1) (LiveCount 2) 1) (PairNumber 2 0 1) 5) (MessagePairNumber 1 1) 3) (MessagePairIncarnation 1 1) 1
+
+-- controller 2 has heard that controller 1 kept only number 2 of incarnation 0, and message 2 rests on (0,3)
+abbrev one-condemned : State
+one-condemned = put (put (served-last 1) (MessagePairNumber 1 1) 3) (End 2 1 0) 2
+
+-- what the dispatcher answers, and the controller that it then keeps
+abbrev dispatch-says : State → List ℕ
+dispatch-says σ = let o = dispatched house σ in report (o .answer) .number ∷ report (o .answer) .values ++ (o .left Served ∷ [])
+
 -- controller 1 knows its own intervals to be stable up to number 2 in incarnation 0, and up to 3 in incarnation 1; controller 0 knows
 -- nothing of it
 abbrev untold : State
@@ -143,7 +167,7 @@ abbrev stands : State → ℕ → ℕ → List ℕ
 stands σ p i = σ (Flag 0 p) ∷ σ (StableCount 0) ∷ σ (Known 0 0 i) ∷ []
 
 pub told-apart : List Row
-unfolding put same putPart clearPlaces putStates tab allb anyb numberOf placeOf used recordOf messageOf placeVector messageVector flat knownStable filterPair filtered condemnedPair condemned condemning maskTo mask conflictPair conflict mergePair merged placeRecord logged loggedTo checkpointed forced capped causing causedIn causesIn causes offeredAgain newVector placed entered restarted heldOrDropped dropHeld startAnew removed latestFlagged replayed stateOk zeros pairOk vectorOk highest rowOk placeOk messageOk lastGiven headZeros headOk ledgerOk appended blankLedger splice allOf firstOf refusing refusingBoth openHouse stepOpen stepGap recordsFull stepSend ownVector letOut gone ledgerOut mayGo release stepRelease intervalAdded intervalBegins noPlace prospect comesOf deliver toldRow told crashed stepCrash noted lowestCondemned rolledBack hear someAbsent namedBefore namedTwice someNotHeld manySenders someFull bits union someForDesk setMayGo desks outTo ledgerTo releaseAll stepSet report first onesIn ones
+unfolding put same putPart clearPlaces putStates tab allb anyb numberOf placeOf used recordOf messageOf placeVector messageVector flat knownStable filterPair filtered condemnedPair condemned condemning maskTo mask conflictPair conflict mergePair merged placeRecord logged loggedTo checkpointed forced capped causing causedIn causesIn causes offeredAgain newVector placed entered restarted heldOrDropped dropHeld startAnew removed latestFlagged replayed stateOk zeros pairOk vectorOk highest rowOk placeOk messageOk lastGiven headZeros headOk ledgerOk appended blankLedger splice allOf firstOf refusing refusingBoth openHouse stepOpen stepGap recordsFull stepSend ownVector letOut gone ledgerOut mayGo release stepRelease intervalAdded intervalBegins noPlace prospect comesOf deliver toldRow told crashed stepCrash noted lowestCondemned rolledBack hear someAbsent namedBefore namedTwice someNotHeld manySenders someFull bits union someForDesk setMayGo desks outTo ledgerTo releaseAll stepSet report first onesIn ones stepDeliver servable hasMessage turn firstTurn lowestFor serve dispatched
 told-apart =
     -- "Counting stored pairs at release instead of filtered ones": it would be held.
     (answer (release house since-logged [] 1 0 .answer) is answer (Released 1 0) by refl)
@@ -280,6 +304,17 @@ told-apart =
     ∷ (answer (deliver house two-condemn 1 0 .answer) is answer (Dropped 1 1 1) by refl)
     ∷ (answer (deliver house one-unheard 1 0 .answer) is answer (Dropped 1 2 0) by refl)
     ∷ (answer (hear (put one-orphan (Incarnation 1) 2) 0 1 0 .answer) is answer (Rolled 0 3 1 1 1 0) by refl)
+    -- W7: the round from controller 0, or the highest number taken; from the controller served last; less n only once.
+    ∷ (dispatch-says (served-last 1) is (4 ∷ 2 ∷ 0 ∷ 1 ∷ 2 ∷ []) by refl)
+    ∷ (dispatch-says (served-last 2) is (4 ∷ 1 ∷ 0 ∷ 1 ∷ 0 ∷ []) by refl)
+    ∷ (dispatch-says (served-last 7) is (4 ∷ 2 ∷ 0 ∷ 1 ∷ 2 ∷ []) by refl)
+    -- W7: a full receiver that starves the others, or a message that waits; the next one for the same controller is taken.
+    ∷ (dispatch-says full-receiver is (4 ∷ 1 ∷ 0 ∷ 1 ∷ 0 ∷ []) by refl)
+    ∷ (dispatch-says one-waits is (4 ∷ 3 ∷ 0 ∷ 2 ∷ 2 ∷ []) by refl)
+    -- W7: one that would be dropped passed over, or its controller not kept.
+    ∷ (dispatch-says one-condemned is (5 ∷ 2 ∷ 1 ∷ 0 ∷ 2 ∷ []) by refl)
+    -- W7: a call that writes though it says idle.
+    ∷ (dispatch-says (put blank Size 3) is (13 ∷ 0 ∷ []) by refl)
     -- A telling of less than is known, or of one incarnation only; a checkpoint that leaves the newest interval unlogged. A held message
     -- that rests on it would never go out.
     ∷ ((told untold 1 0 (Known 0 1 0) ∷ told untold 1 0 (Known 0 1 1) ∷ []) is (2 ∷ 3 ∷ []) by refl)

@@ -7,6 +7,7 @@ pub mod Ledger
 pub mod Shared
 pub mod Steps
 pub mod Sets
+pub mod Dispatch
 pub mod Step
 pub mod Order
 pub mod Report

@@ -1,11 +1,11 @@
 -- What each answer is on paper: its word, the number that the C interface gives it, and its values in the order of document 01; W5: "The
 -- answer is released or held, with the union"; W6: `dropped` and `rolled` "now name the crash by controller and incarnation, added at the
--- end".
+-- end"; W7: "it says idle".
 use mathlib.Core.List.{List, [], _∷_}
 use Prim.Native.Nat.{ℕ}
 use Rattle.rules.specs.Bytes.{bytes}
 use Rattle.rules.specs.declared.Answer.{Answer}
-use Rattle.rules.specs.declared.Answer.the-variants.{Done, Sent, Released, Held, Delivered, Dropped, Waits, Crashed, Heard, Rolled, Refused, SetReleased, SetHeld}
+use Rattle.rules.specs.declared.Answer.the-variants.{Done, Sent, Released, Held, Delivered, Dropped, Waits, Crashed, Heard, Rolled, Refused, SetReleased, SetHeld, Idle}
 
 pub record Report : Type 0 where
   pub word : List ℕ
@@ -29,3 +29,4 @@ report (Rolled b k undone replayed owner i) = says (bytes "rolled") 9 (b ∷ k �
 report (Refused number) = says (bytes "refused") 10 (number ∷ [])
 report (SetReleased mask) = says (bytes "released") 11 (mask ∷ [])
 report (SetHeld mask) = says (bytes "held") 12 (mask ∷ [])
+report Idle = says (bytes "idle") 13 []

@@ -1,4 +1,4 @@
--- One step, and one call beside it: on a state and a ledger, and on the words of a lent table and a lent ledger.
+-- One step, and the calls beside it: on a state and a ledger, and on the words of a lent table and a lent ledger.
 use mathlib.Core.Bool.{Bool, true, false, not, cond, _&&_}
 use mathlib.Core.List.{List}
 use Prim.Native.Nat.{ℕ}
@@ -12,6 +12,7 @@ use Rattle.rules.specs.Refusal.{LENGTH, FORM}
 use Rattle.rules.specs.Form.{inForm}
 use Rattle.rules.specs.Steps.{After, refuse, AfterBoth, beside, stepOpen, stepDegree, stepSend, stepRelease, stepDeliver, stepLog, stepCheckpoint, stepTell, stepCrash, stepHear, stepGap}
 use Rattle.rules.specs.Sets.{stepSet}
+use Rattle.rules.specs.Dispatch.{dispatched}
 use Rattle.rules.specs.declared.Answer.{Answer}
 use Rattle.rules.specs.declared.Answer.the-variants.{Refused}
 use Rattle.rules.specs.declared.Command.{Command}
@@ -83,13 +84,19 @@ step t g x = lent t g (λ σ. stepOn house σ g x)
 unfoldable pub setOn : Limits → State → List ℕ → List ℕ → AfterBoth
 setOn L σ g l = cond (not (inForm L σ)) (beside (refuse FORM σ) g) (stepSet L σ g l)
 
+-- W7: a call of the dispatcher, which doesn't look at the ledger; "2 table not in form"
+unfoldable pub dispatchOn : Limits → State → After
+dispatchOn L σ = cond (not (inForm L σ)) (refuse FORM σ) (dispatched L σ)
+
 -- What a list of demand 3 is made of. "A call that a request adds and that writes the table stands in the list too": a call that stands beside
 -- the step function is a constructor.
 pub data Call : Type 0 where
   asks : Command → Call
   releaseSet : List ℕ → Call
+  dispatch : Call
 
 -- a call over the lent buffers
 unfoldable pub stepCall : List ℕ → List ℕ → Call → OutBoth
 stepCall t g (asks x) = step t g x
 stepCall t g (releaseSet l) = lent t g (λ σ. setOn house σ g l)
+stepCall t g dispatch = lent t g (λ σ. beside (dispatchOn house σ) g)

@@ -27,7 +27,7 @@ pub enum Command {
     SetGap(u32),
 }
 
-// The answer to a step, or to the release of a set. specs/Report.antt gives each its word, number and values.
+// The answer to a step, or to a call beside it. specs/Report.antt gives each its word, number and values.
 pub enum Answer {
     Done,
     // message
@@ -54,6 +54,8 @@ pub enum Answer {
     SetReleased(u32),
     // of a set: union of the masks
     SetHeld(u32),
+    // of the dispatcher: nobody was served
+    Idle,
 }
 
 // What would come of delivering a released message.

@@ -165,6 +165,11 @@ module _ (σ : State) where
   unfolding recordOf messageOf used lastGiven
   record-of-message r l = rw (le-leb 1 (r + 1) (omega arith), le-leb (r + 1) (σ SentCount) (omega arith)) (omega arith)
 
+  -- numbers rise with the records in use
+  pub message-rises : (r s : ℕ) → r < s → s < used σ → messageOf σ r < messageOf σ s
+  unfolding messageOf
+  message-rises r s l u = omega arith
+
   -- no more numbers were given than there are records, so that the next fits a word
   pub given-le : used σ ≤ messages → lastGiven σ ≤ messages
   unfolding used lastGiven

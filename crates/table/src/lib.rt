@@ -9,7 +9,7 @@ ghost use Rattle.table.specs.Field.{OfController, OfPlace, OfMessage, Kn
 ghost use Rattle.table.specs.Change.{put};
 ghost use Rattle.table.specs.Layout.{controllers, incarnations, places, messages, tableWords, position};
 ghost use Rattle.table.specs.Words.{state, words};
-ghost use Rattle.table.specs.Numbering.{numberOf, used, lastGiven, recordOf};
+ghost use Rattle.table.specs.Numbering.{numberOf, used, lastGiven, recordOf, messageOf};
 
 // How many there are of each.
 pub const CONTROLLERS: usize = 8;
@@ -471,6 +471,14 @@ pub fn find_record(t: &[u32], m: u32) -> usize
     } else {
         records_used(t) as usize
     }
+}
+
+// And back: the number of the message in record r.
+pub fn message_of(t: &[u32], r: usize) -> u32
+    requires { ⌜ (length (now t) ≡ tableWords) × (r < messages) ⌝ }
+    ensures { λ m. ⌜ m ≡ messageOf (state (now (t .entry))) r ⌝ }
+{
+    r as u32 + 1
 }
 
 // The words of `s` are copied to a part that is lent for them.

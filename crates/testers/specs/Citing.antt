@@ -10,7 +10,7 @@ use lib.ListN.{length, getD, length-append}
 use borrow.Author.Tests.{eqb-true, eqb-false, ne-eqb}
 use Rattle.base.specs.Choice.{_==_, cond-ind, le?}
 use Rattle.base.specs.Cases.{Case, firstOf}
-use Rattle.table.specs.Field.{Field, State, OfMessage, Receiver, Payload, MessageState, word, desk}
+use Rattle.table.specs.Field.{Field, State, OfMessage, Receiver, Payload, MessageState, word, desk, Served}
 use Rattle.table.specs.Layout.{messages, messageWords, tableWords}
 use Rattle.table.specs.Words.{state, words, Agree, agree-words}
 use Rattle.table.specs.Numbering.{used, nextMessage, recordOf, posted, posted-used, posted-new, posted-record, posted-at, posted-kept, posted-missing, none-used, used-agree, record-agree}
@@ -36,6 +36,7 @@ use Rattle.laws.specs.Fixed.{Fixed, numbers-fixed, fixed-writable, plain, fixed
 use Rattle.history.specs.Demand.{Run, stepIn, next, justOpened}
 use Rattle.history.specs.Citations.{Citation, Citations, noCitations, sentWith, letOutTo, citedStep, cited, pairOf, ledgerOf}
 use Rattle.testers.specs.Ledgers.{count-ledger, ledger-none, ledger-more}
+use Rattle.table.specs.Change.{put, put-ind}
 
 -- THE TABLE
 -- each message that is there has the receiver and the payload that its send named
@@ -246,6 +247,13 @@ RunCites r = Cites (state (r .table)) (r .ledger) (r .citations)
 
 on-words : (σ : State) {g : List ℕ} {q : Citations} → Cites σ g q → Cites (state (words σ)) g q
 on-words σ c = record { named = named-agree _ σ _ (agree-words σ refl) (c .named); few = c .few; ledger-is = c .ledger-is }
+
+-- whoever was served last
+pub cites-served : (t : List ℕ) (c : ℕ) {g : List ℕ} {q : Citations} → Cites (state t) g q → Cites (state (words (put (state t) Served c))) g q
+cites-served t c {q = q} w =
+    let σ = state t in
+    on-words (put σ Served c)
+    (record { named = named-kept σ (put σ Served c) q (put-ind (Fixed σ) σ Served c (λ e. absurd (true≢false (sym e))) (λ f _ _. refl)) (w .named); few = w .few; ledger-is = w .ledger-is })
 
 -- each step but an opening that is done keeps that
 pub cites-next : (r : Run) (x : Command) → ((n k : ℕ) → x ≡ Open n k → stepIn r x .answer ≢ Done) → RunCites r → RunCites (next (asks x) r)

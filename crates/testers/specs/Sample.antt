@@ -15,7 +15,7 @@ use Rattle.rules.specs.Form.{stateHeld, stateReleased, stateDelivered, statePub
 use Rattle.rules.specs.Ledger.{ledgerWords, blankLedger}
 use Rattle.rules.specs.Shared.{placeRecord}
 use Rattle.rules.specs.Steps.{openHouse, messageRecord}
-use Rattle.rules.specs.Step.{looksAtForm, stepOn, lent, step, Call, asks, releaseSet, stepCall}
+use Rattle.rules.specs.Step.{looksAtForm, stepOn, lent, step, Call, asks, releaseSet, dispatch, stepCall}
 use Rattle.rules.specs.declared.Answer.{Answer}
 use Rattle.rules.specs.declared.Answer.the-variants.{Done, Sent, Released, Delivered, Crashed, Heard, Rolled}
 use Rattle.rules.specs.declared.Command.{Command}
@@ -92,12 +92,14 @@ unfoldable pub allLook : List Call → Bool
 allLook [] = true
 allLook (asks x ∷ l) = looksAtForm x && allLook l
 allLook (releaseSet messages ∷ l) = allLook l
+allLook (dispatch ∷ l) = allLook l
 
 an-opening : (before after : List Call) (n k : ℕ) → allLook (before ++ asks (Open n k) ∷ after) ≡ false
 unfolding allLook
 an-opening [] after n k = refl
 an-opening (asks x ∷ before) after n k = rw (an-opening before after n k) (and-false (looksAtForm x))
 an-opening (releaseSet messages ∷ before) after n k = an-opening before after n k
+an-opening (dispatch ∷ before) after n k = an-opening before after n k
 
 -- A house of three, all with the degree 1, opened in every table and every ledger of the right length.
 module _ (t g : List ℕ) (long : length t ≡ tableWords) (wide : length g ≡ ledgerWords house) where

@@ -20,7 +20,7 @@ use Rattle.rules.specs.Step.{OutBoth, outBoth, lent, step}
 use Rattle.rules.specs.Report.{report}
 use Rattle.rules.specs.Starred.{answer}
 use Rattle.rules.specs.declared.Answer.{Answer}
-use Rattle.rules.specs.declared.Answer.the-variants.{Done, Sent, Released, Held, Delivered, Dropped, Waits, Crashed, Heard, Rolled, Refused, SetReleased, SetHeld}
+use Rattle.rules.specs.declared.Answer.the-variants.{Done, Sent, Released, Held, Delivered, Dropped, Waits, Crashed, Heard, Rolled, Refused, SetReleased, SetHeld, Idle}
 use Rattle.rules.specs.declared.Command.{Command}
 use Rattle.rules.specs.declared.Command.the-variants.{Open, SetDegree, Send, Release, Deliver, Log, Checkpoint, Tell, Crash, Hear, SetGap}
 use Rattle.history.specs.Demand.{Run, stepIn}
@@ -87,6 +87,7 @@ more lost undone again (Rolled b k u r owner i) = Rolled b k (u + undone) (r + a
 more lost undone again (Refused number) = Refused number
 more lost undone again (SetReleased mask) = SetReleased mask
 more lost undone again (SetHeld mask) = SetHeld mask
+more lost undone again Idle = Idle
 
 abbrev pub invents : ℕ → ℕ → ℕ → Machine
 invents lost undone again t g x = let o = step t g x in outBoth (more lost undone again (o .answer)) (o .table) (o .ledger)

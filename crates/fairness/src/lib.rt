@@ -1,0 +1,1 @@
+// The dispatcher is fair: proved of lists of calls (specs/). No code.
