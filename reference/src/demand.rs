@@ -11,6 +11,9 @@
 //! A set that is let out is judged so by each of its messages, all with the mask of the set: "the limit of
 //! K controllers now speaks of the set as it did of one message".
 //!
+//! A delivery by the dispatcher is judged as one by its number. That nobody is starved isn't judged here: who has a
+//! message that could be delivered isn't told by steps and answers alone.
+//!
 //! The ledger is judged with it, where its words are shown: in a house just opened it has the messages
 //! that the list's releases let out to the desk, in their order, with the payloads of their sends.
 //!
@@ -225,7 +228,7 @@ impl Judge {
                     self.judge_rollback(command, answer, heard_before, &live);
                 }
             }
-            (Command::Deliver { .. }, Answer::Dropped { .. }) => {
+            (Command::Deliver { .. } | Command::Dispatch, Answer::Dropped { .. }) => {
                 history.feed(command, answer)?;
                 if !blame::of_dropped(history, answer) {
                     let position = self.position;

@@ -66,8 +66,9 @@ struct Facts<'a> {
 type Fact<'a> = (&'static str, fn(&Facts<'a>) -> bool);
 
 impl<'a> Facts<'a> {
-    const ALL: [Fact<'a>; 17] = [
+    const ALL: [Fact<'a>; 18] = [
         ("the gaps agree", Self::gaps_agree),
+        ("the controllers last served agree", Self::served_agree),
         ("the chains agree", Self::chains_agree),
         ("the messages agree", Self::messages_agree),
         (
@@ -116,6 +117,10 @@ impl Facts<'_> {
 
     fn gaps_agree(&self) -> bool {
         self.table.gap() == self.history.gap()
+    }
+
+    fn served_agree(&self) -> bool {
+        self.table.served() == self.history.served()
     }
 
     /// A chain is the live places, with their flags, and its place p is stable exactly when p is below the

@@ -2,6 +2,7 @@
 
 mod choose;
 mod condemned;
+mod dispatch;
 mod gaps;
 mod ledgers;
 mod lists;
@@ -13,6 +14,7 @@ mod sets;
 mod tables;
 
 pub use condemned::condemned_table;
+pub use dispatch::{damaged_served, dispatch_table};
 pub use gaps::{damaged_gap, gap, gapped_table};
 pub use ledgers::{damaged_ledger, nearly_full_ledger, sound_ledger};
 pub use lists::{senseless, Walk};

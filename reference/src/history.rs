@@ -78,6 +78,7 @@ pub struct Unreadable;
 pub struct History {
     misreading: Misreading,
     gap: u32,
+    served: u32,
     controllers: Vec<Controller>,
     messages: BTreeMap<u32, Message>,
     intervals: Vec<Interval>,
@@ -89,6 +90,11 @@ impl History {
     /// The gap Q.
     pub fn gap(&self) -> u32 {
         self.gap
+    }
+
+    /// The controller that the dispatcher served last.
+    pub fn served(&self) -> u32 {
+        self.served
     }
 
     /// The controllers, in order.
@@ -160,8 +166,8 @@ impl History {
 
 /// Feeding.
 impl History {
-    /// "O: each chain is (0,1), stable, resting on itself; all degrees are k." It is flagged, and the gap
-    /// is off. What is misread from here on is nothing but in tests.
+    /// "O: each chain is (0,1), stable, resting on itself; all degrees are k." It is flagged, the gap is off,
+    /// and the controller last served is the last. What is misread from here on is nothing but in tests.
     pub fn open(n: u32, degree: u32, misreading: Misreading) -> Result<Self, Unreadable> {
         let n = usize::try_from(n).map_err(|_| Unreadable)?;
         if !(1..=CONTROLLERS).contains(&n) {
@@ -170,6 +176,7 @@ impl History {
         let mut history = History {
             misreading,
             gap: 0,
+            served: n as u32 - 1,
             controllers: Vec::new(),
             messages: BTreeMap::new(),
             intervals: Vec::new(),
@@ -207,11 +214,11 @@ impl History {
                 Answer::Sent { message },
             ) => self.send(sender, receiver, payload, message),
             (Command::Release { message }, Answer::Released { .. }) => self.release(message),
-            // In the order given.
             (Command::ReleaseSet { messages }, Answer::SetReleased { .. }) => {
                 messages.iter().try_for_each(|&m| self.release(m))
             }
             (Command::Deliver { message }, Answer::Delivered { .. }) => self.deliver(message),
+            (Command::Dispatch, answer) => self.dispatch(answer),
             (Command::Log { controller, count }, _) => self.log(controller, count as usize),
             (Command::Checkpoint { controller }, _) => self.checkpoint(controller),
             (Command::Crash { controller }, _) => self.crash(controller),
@@ -272,7 +279,7 @@ impl History {
         Ok(())
     }
 
-    /// "`released`: m is let out", by itself or in a set. One for the desk is published so.
+    /// "`released`: m is let out", by itself or in a set, in the order given. One for the desk is published so.
     fn release(&mut self, message: u32) -> Result<(), Unreadable> {
         if self.message(message)?.receiver == DESK {
             self.published.push(message);
@@ -290,6 +297,17 @@ impl History {
         rests_on.extend_from(&self.intervals[sent.sending_interval].rests_on);
         self.join(receiver, number, false, rests_on);
         self.keep_to_the_gap(receiver)
+    }
+
+    /// A delivery that the dispatcher chose is one like any other. "It keeps the controller last served."
+    fn dispatch(&mut self, answer: Answer) -> Result<(), Unreadable> {
+        if let Answer::Delivered { message, .. } | Answer::Dropped { message, .. } = answer {
+            self.served = self.message(message)?.receiver;
+        }
+        match answer {
+            Answer::Delivered { message, .. } => self.deliver(message),
+            _ => Ok(()),
+        }
     }
 
     /// "L: the q oldest live ones of c not yet stable become stable."

@@ -13,6 +13,7 @@
 //! - [`facts`]: what ties a table to its history after each step of the sound machine.
 //! - [`blames`]: which crash `dropped` and `rolled` name, in words.
 //! - [`causes`]: what became of the causes of lost and undone intervals, in words.
+//! - [`dispatched`]: whom the dispatcher serves and whom it passes over, in words.
 //! - [`forced`]: which new intervals the gap asked a checkpoint of, in words.
 //! - [`rollbacks`]: from which checkpoint a rollback replays, in words.
 //! - [`sets`]: what became of sets of messages, in words.
@@ -23,6 +24,7 @@
 pub mod blames;
 pub mod causes;
 pub mod demand;
+pub mod dispatched;
 pub mod facts;
 pub mod forced;
 pub mod generate;

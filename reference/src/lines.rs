@@ -58,7 +58,8 @@ fn number(digits: &[u8]) -> Option<u32> {
 }
 
 /// Writes a command as its line, without a line feed; [`parse`] reads it back. "New steps get a line in
-/// `house` only where a request names the letter": setting the gap and releasing a set have none.
+/// `house` only where a request names the letter": setting the gap, releasing a set and the dispatcher have
+/// none.
 pub fn write(command: Command) -> Option<String> {
     let line = match command {
         Command::Open { n, degree } => format!("O {n} {degree}"),
@@ -79,13 +80,13 @@ pub fn write(command: Command) -> Option<String> {
             crashed,
             incarnation,
         } => format!("H {hearer} {crashed} {incarnation}"),
-        Command::SetGap { .. } | Command::ReleaseSet { .. } => return None,
+        Command::SetGap { .. } | Command::ReleaseSet { .. } | Command::Dispatch => return None,
     };
     Some(line)
 }
 
 /// Writes an answer as its line, without a line feed. The program never writes those to a set, whose words here
-/// tell them from those to a release.
+/// tell them from those to a release, nor that of an idle dispatcher.
 pub fn render(answer: &Answer) -> String {
     match *answer {
         Answer::Done => "done".to_owned(),
@@ -117,13 +118,12 @@ pub fn render(answer: &Answer) -> String {
             undone,
             replayed,
             crashed,
-            incarnation,
-        } => {
-            format!("rolled {controller} {kept} {undone} {replayed} {crashed} {incarnation}")
-        }
+            incarnation: i,
+        } => format!("rolled {controller} {kept} {undone} {replayed} {crashed} {i}"),
         Answer::Refused { number } => format!("refused {number}"),
         Answer::SetReleased { mask } => format!("set_released {mask}"),
         Answer::SetHeld { mask } => format!("set_held {mask}"),
+        Answer::Idle => "idle".to_owned(),
     }
 }
 

@@ -88,6 +88,8 @@ pub enum Command {
         /// Their numbers, in the order in which those for the desk are published.
         messages: Messages,
     },
+    /// Let the dispatcher choose a delivery, so that nobody is starved. The program has no line for it.
+    Dispatch,
 }
 
 /// The answer to a step.
@@ -185,6 +187,8 @@ pub enum Answer {
         /// The controllers that could revoke one of them: too many.
         mask: u32,
     },
+    /// To the dispatcher: no controller has a message that would be delivered or dropped.
+    Idle,
 }
 
 /// Does one step on a lent table and a lent ledger of any length and content, or refuses it and

@@ -33,6 +33,8 @@ pub const LAST_NUMBER: u32 = PLACES as u32;
 pub const LAST_MESSAGE: u32 = MESSAGES as u32;
 /// The highest gap: "Q, 0 to 64".
 pub const LAST_GAP: u32 = 64;
+/// The highest word for the controller last served, in a house of any size: "in form up to 7".
+pub const LAST_SERVED: u32 = 7;
 
 /// "States: 0 unused, 1 held, 2 released, 3 delivered, 4 lost, 5 dropped"; and "6, published".
 pub mod state {
@@ -55,8 +57,9 @@ pub mod state {
 const N_AT: usize = 0;
 const SENT_AT: usize = 1;
 const GAP_AT: usize = 11;
+const SERVED_AT: usize = 12;
 /// The words of the head that have no meaning.
-const RESERVED: [Range<usize>; 2] = [2..GAP_AT, GAP_AT + 1..CONTROLLERS_AT];
+const RESERVED: [Range<usize>; 2] = [2..GAP_AT, SERVED_AT + 1..CONTROLLERS_AT];
 
 const CONTROLLERS_AT: usize = 16;
 const CONTROLLER_WORDS: usize = 4;
@@ -72,10 +75,13 @@ const PLACE_WORDS: usize = 4 + VECTOR_WORDS;
 
 const MESSAGES_AT: usize = 12_336;
 const MESSAGE_WORDS: usize = 6 + VECTOR_WORDS;
+const STATE_IN: usize = 0;
+const RECEIVER_IN: usize = 2;
 
 // The parts stand one after the other and fill the table.
 const _: () = {
     assert!(N_AT + 1 == SENT_AT && SENT_AT + 1 == RESERVED[0].start);
+    assert!(GAP_AT + 1 == SERVED_AT);
     assert!(CONTROLLERS_AT + CONTROLLERS * CONTROLLER_WORDS == KNOWN_AT);
     assert!(KNOWN_AT + CONTROLLERS * ROW_WORDS == ENDS_AT);
     assert!(ENDS_AT + CONTROLLERS * ROW_WORDS == PLACES_AT);
@@ -171,9 +177,9 @@ impl Message {
     fn decode(words: &[u32]) -> Self {
         let (head, vector) = words.split_at(MESSAGE_WORDS - VECTOR_WORDS);
         Message {
-            state: head[0],
+            state: head[STATE_IN],
             sender: head[1],
-            receiver: head[2],
+            receiver: head[RECEIVER_IN],
             incarnation: head[3],
             number: head[4],
             payload: head[5],
@@ -235,7 +241,12 @@ impl<W: Deref<Target = [u32]>> Table<W> {
         self.0[GAP_AT]
     }
 
-    /// "Words 2 to 15 are 0", but for the gap.
+    /// "The controller last served .. in word 12": by the dispatcher. A lent table may have one that isn't there.
+    pub fn served(&self) -> u32 {
+        self.0[SERVED_AT]
+    }
+
+    /// "Words 2 to 15 are 0", but for these two.
     fn reserved(&self) -> [&[u32]; 2] {
         RESERVED.map(|range| &self.0[range])
     }
@@ -280,6 +291,14 @@ impl<W: Deref<Target = [u32]>> Table<W> {
         Message::decode(&self.0[message_range(message)])
     }
 
+    /// The messages sent that are released and for this receiver, the lowest number first.
+    pub fn released_for(&self, receiver: u32) -> impl Iterator<Item = u32> + '_ {
+        (1..=self.sent().min(LAST_MESSAGE)).filter(move |&message| {
+            let words = &self.0[message_range(message)];
+            words[STATE_IN] == state::RELEASED && words[RECEIVER_IN] == receiver
+        })
+    }
+
     /// The words of the messages from one on to the last.
     fn messages_from(&self, message: u32) -> &[u32] {
         &self.0[message_range(message).start..]
@@ -305,6 +324,11 @@ impl<W: DerefMut<Target = [u32]>> Table<W> {
     /// Sets the gap.
     pub fn set_gap(&mut self, gap: u32) {
         self.0[GAP_AT] = gap;
+    }
+
+    /// Sets the controller last served.
+    pub fn set_served(&mut self, controller: u32) {
+        self.0[SERVED_AT] = controller;
     }
 
     /// Writes the counts of a controller.

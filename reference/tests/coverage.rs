@@ -1,15 +1,17 @@
 //! The generators reach every answer, every refusal, the limits of a house, all that becomes of the
 //! causes of lost and undone intervals, all checkpoints that a rollback goes back to, all crashes that an answer
-//! may name, all that becomes of messages for the desk and of sets, and all checkpoints that the gap forces or doesn't.
+//! may name, all that becomes of messages for the desk and of sets, whom the dispatcher serves and passes over, and all
+//! checkpoints that the gap forces or doesn't.
 
 use reference::blames;
 use reference::causes::{self, Offers};
 use reference::demand::Judge;
+use reference::dispatched;
 use reference::forced;
 use reference::generate::{
-    condemned_table, damaged, damaged_gap, damaged_ledger, gap, gapped_table, in_form_table, named,
-    nearly_full_ledger, senseless, set, set_table, sound_ledger, wrong_length, Profile, Random,
-    Walk,
+    condemned_table, damaged, damaged_gap, damaged_ledger, damaged_served, dispatch_table, gap,
+    gapped_table, in_form_table, named, nearly_full_ledger, senseless, set, set_table,
+    sound_ledger, wrong_length, Profile, Random, Walk,
 };
 use reference::lines;
 use reference::machine::{step, Answer, Command};
@@ -19,20 +21,23 @@ use reference::sets;
 use reference::table::{state, Table, DESK};
 use std::collections::{BTreeMap, BTreeSet};
 
-/// Stand for the step that sets the gap and the one that releases a set, which have no letter.
+/// Stand for the step that sets the gap, the one that releases a set and the dispatcher, which have no letter.
 const SET_GAP: char = 'q';
 const RELEASE_SET: char = 's';
+const DISPATCH: char = 'd';
 
 fn letter(command: Command) -> char {
     let line = lines::write(command).and_then(|line| line.chars().next());
     line.unwrap_or(match command {
         Command::ReleaseSet { .. } => RELEASE_SET,
+        Command::Dispatch => DISPATCH,
         _ => SET_GAP,
     })
 }
 
 /// The answers without their numbers, but a refusal with its own and the letter of its step; and how
-/// often each case of causes, of rollbacks, of crashes named, of the desk, of the gap and of sets came up.
+/// often each case of causes, of rollbacks, of crashes named, of the desk, of the gap, of sets and of the dispatcher
+/// came up.
 #[derive(Default)]
 struct Seen {
     answers: BTreeSet<String>,
@@ -43,6 +48,7 @@ struct Seen {
     desk: BTreeMap<&'static str, u64>,
     forced: BTreeMap<String, u64>,
     sets: BTreeMap<String, u64>,
+    dispatched: BTreeMap<String, u64>,
 }
 
 impl Seen {
@@ -89,11 +95,28 @@ impl Seen {
         }
     }
 
+    fn note_dispatched(&mut self, cases: impl IntoIterator<Item = String>) {
+        for case in cases {
+            *self.dispatched.entry(case).or_default() += 1;
+        }
+    }
+
     /// These cases of sets came up, and no other.
     fn assert_sets(&self, expected: &[&[&str]]) {
         let expected: BTreeSet<&str> = expected.concat().into_iter().collect();
         println!("of sets: {:#?}", self.sets);
         assert!(self.sets.keys().eq(expected), "{:?}", self.sets.keys());
+    }
+
+    /// These cases of the dispatcher came up, and no other.
+    fn assert_dispatched(&self, expected: &[&[&str]]) {
+        let expected: BTreeSet<&str> = expected.concat().into_iter().collect();
+        println!("by the dispatcher: {:#?}", self.dispatched);
+        assert!(
+            self.dispatched.keys().eq(expected),
+            "{:?}",
+            self.dispatched.keys()
+        );
     }
 
     /// These cases of the gap came up, and no other.
@@ -163,13 +186,14 @@ const DESK_ON_LENT: [&str; 7] = [
     "sent",
 ];
 
-const ANSWERS: [&str; 12] = [
+const ANSWERS: [&str; 13] = [
     "crashed",
     "delivered",
     "done",
     "dropped",
     "heard",
     "held",
+    "idle",
     "released",
     "rolled",
     "sent",
@@ -217,6 +241,7 @@ fn lists_reach_everything() {
                 seen.note_forced(forced::cases(&before, command, answer, walk.table()));
                 seen.note_forced(forced::beside_ceiling(judge.ceiling(), &before, answer));
                 seen.note_sets(sets::cases(&before, &ledger, command, answer));
+                seen.note_dispatched(dispatched::cases(&before, command, answer));
                 judge.feed(command, answer);
                 before.copy_from_slice(walk.table());
                 ledger.copy_from_slice(walk.ledger());
@@ -257,6 +282,7 @@ fn lists_reach_everything() {
     assert!(seen.desk.keys().eq(&DESK_IN_LISTS));
     seen.assert_forced(&[&forced::IN_LISTS, &forced::BESIDE_THE_CEILING]);
     seen.assert_sets(&[&sets::IN_LISTS]);
+    seen.assert_dispatched(&[&dispatched::IN_LISTS]);
     assert_eq!((incarnation, live, sent, published), (15, 64, 128, 128));
     assert!(sizes.iter().eq(&[1, 2, 3, 4, 5, 6, 7, 8]), "{sizes:?}");
     assert!(degrees_released.into_iter().eq(0..=8));
@@ -282,12 +308,14 @@ fn lent_tables_reach_everything() {
     let mut random = Random::new(21);
     let mut seen = Seen::default();
     for _ in 0..8_000 {
-        let mut words = match random.below(10) {
+        let mut words = match random.below(12) {
             0 => wrong_length(&mut random),
             1 => damaged(&mut random).0,
             2 => damaged_gap(&mut random),
             3 => in_form_table(&mut random),
             4 | 5 => set_table(&mut random),
+            6 => damaged_served(&mut random),
+            7 | 8 => dispatch_table(&mut random),
             _ => gapped_table(&mut random),
         };
         let mut ledger = match random.below(8) {
@@ -302,6 +330,7 @@ fn lent_tables_reach_everything() {
             });
             let messages = set(&mut random, &words);
             sensible.extend([Command::ReleaseSet { messages }; 2]);
+            sensible.extend([Command::Dispatch; 2]);
             let sensible = random.pick(&sensible).filter(|_| random.chance(50));
             let command = sensible.unwrap_or_else(|| senseless(&mut random));
             let before = words.clone();
@@ -315,6 +344,7 @@ fn lent_tables_reach_everything() {
             seen.note_desk(&before, full, answer, &words);
             seen.note_forced(forced::cases(&before, command, answer, &words));
             seen.note_sets(sets::cases(&before, &ledger_before, command, answer));
+            seen.note_dispatched(dispatched::cases(&before, command, answer));
         }
     }
     see_condemned(&mut seen);
@@ -328,9 +358,10 @@ fn lent_tables_reach_everything() {
     assert!(seen.desk.keys().eq(&DESK_ON_LENT));
     seen.assert_forced(&[&forced::IN_LISTS, &forced::ON_LENT_TOO]);
     seen.assert_sets(&[&sets::IN_LISTS, &sets::ON_LENT_TOO]);
+    seen.assert_dispatched(&[&dispatched::IN_LISTS, &dispatched::ON_LENT_TOO]);
     assert!(seen.answers.iter().eq(&ANSWERS), "{:?}", seen.answers);
-    assert_eq!(seen.refused(refusal::LENGTH), "CDHKLORSTXqs");
-    assert_eq!(seen.refused(refusal::FORM), "CDHKLRSTXqs");
+    assert_eq!(seen.refused(refusal::LENGTH), "CDHKLORSTXdqs");
+    assert_eq!(seen.refused(refusal::FORM), "CDHKLRSTXdqs");
     assert_eq!(seen.refused(refusal::LEDGER), "ORs");
     assert_eq!(seen.refused(refusal::LEDGER_USED_UP), "Rs");
     for (refusal, letters) in REFUSED {

@@ -1,65 +1,20 @@
 //! Every planted fault is found, and by which means.
 
-use reference::demand::{Breach, Judge};
+mod found;
+
+use found::By::{
+    self, Blame, Ceiling, Demand, Fair, Ledger, Lent, Lists, Published, Replayed, Unreadable,
+};
+use found::{Found, CHECKS};
+use reference::demand::Judge;
+use reference::dispatched::Rounds;
 use reference::facts;
 use reference::generate::{
-    condemned_table, damaged, damaged_gap, damaged_ledger, gap, gapped_table, named, senseless,
-    set, set_table, sound_ledger, Profile, Random, Walk,
+    condemned_table, damaged, damaged_gap, damaged_ledger, damaged_served, dispatch_table, gap,
+    gapped_table, named, senseless, set, set_table, sound_ledger, Profile, Random, Walk,
 };
 use reference::history::Misreading;
 use reference::machine::{step, step_with, Command, Fault};
-
-/// A check, in the order of the printed table.
-#[derive(Clone, Copy, Debug, PartialEq, Eq)]
-enum By {
-    /// Demand 3 on hearings, live intervals and releases, by the steps and answers of a list alone.
-    Demand,
-    /// Its claim on what was published, by the same.
-    Published,
-    /// Its claim on the ledger, by the words of the ledger beside them.
-    Ledger,
-    /// The ceiling on replay, by the steps and answers alone.
-    Ceiling,
-    /// The crash that an answer names, by the same.
-    Blame,
-    /// The history's checkpoints, by what an answer says is replayed.
-    Replayed,
-    /// The history, by answers that it can't read.
-    Unreadable,
-    /// The sound machine, by another answer, table or ledger to a step of a list.
-    Lists,
-    /// The same to a single step on a lent table and a lent ledger.
-    Lent,
-}
-
-use By::{Blame, Ceiling, Demand, Ledger, Lent, Lists, Published, Replayed, Unreadable};
-
-const CHECKS: [By; 9] = [
-    Demand, Published, Ledger, Ceiling, Blame, Replayed, Unreadable, Lists, Lent,
-];
-
-/// In how many lists, and in how many single steps, of one machine each check finds a fault.
-#[derive(Clone, Copy, Debug, Default, PartialEq, Eq)]
-struct Found([usize; CHECKS.len()]);
-
-impl Found {
-    fn add(&mut self, by: By, found: bool) {
-        self.0[by as usize] += usize::from(found);
-    }
-
-    /// Each check counts once for a list.
-    fn add_breaches(&mut self, breaches: &[Breach]) {
-        for by in CHECKS {
-            self.add(by, breaches.iter().any(|breach| finder(breach) == by));
-        }
-    }
-
-    /// The checks that find it.
-    fn means(self) -> Vec<By> {
-        let found = |by: &By| self.0[*by as usize] > 0;
-        CHECKS.into_iter().filter(found).collect()
-    }
-}
 
 /// By which checks each fault is found. One that lists show is found on what is lent, too.
 const EXPECTED: [(Fault, &[By]); Fault::PLANTED.len()] = [
@@ -155,7 +110,8 @@ const EXPECTED: [(Fault, &[By]); Fault::PLANTED.len()] = [
     (Fault::GapOf65Taken, &[Lists, Lent]),
     // No step leaves such a table.
     (Fault::GapOf65InForm, &[Lent]),
-    (Fault::GapOutOfForm, &[Lists, Lent]),
+    // Where a gap is set the dispatcher is refused.
+    (Fault::GapOutOfForm, &[Fair, Lists, Lent]),
     (Fault::GapNotCleared, &[Demand, Replayed, Lists, Lent]),
     // The masks of a sender's messages are nested in lists: the largest is the union. But a reading that
     // could go by itself goes with others, and is never lost for it.
@@ -183,9 +139,29 @@ const EXPECTED: [(Fault, &[By]); Fault::PLANTED.len()] = [
     (Fault::NewestCrashBlamed, &[Blame, Lists, Lent]),
     (Fault::OwnEndsBlamed, &[Blame, Lists, Lent]),
     (Fault::HearerBlamed, &[Blame, Lists, Lent]),
+    (Fault::RoundFromTheServed, &[Fair, Lists, Lent]),
+    (Fault::RoundFromZero, &[Fair, Lists, Lent]),
+    // In lists the controller last served is one of the house.
+    (Fault::LessNOnce, &[Lent]),
+    (Fault::HighestNumberTaken, &[Lists, Lent]),
+    (Fault::LowestOfAll, &[Fair, Lists, Lent]),
+    (Fault::FullReceiverChosen, &[Fair, Lists, Lent]),
+    (Fault::WaitingTaken, &[Fair, Unreadable, Lists, Lent]),
+    (Fault::WaitingEndsTheRound, &[Fair, Lists, Lent]),
+    (Fault::DroppedPassedOver, &[Fair, Lists, Lent]),
+    (Fault::IdleBeforeLooking, &[Fair, Lists, Lent]),
+    // Nobody has a message when it goes on, so that nobody is starved by it.
+    (Fault::IdleWrites, &[Lists, Lent]),
+    (Fault::ServedNotWritten, &[Fair, Lists, Lent]),
+    (Fault::DroppedNotServed, &[Fair, Lists, Lent]),
+    (Fault::DeliveryServes, &[Fair, Lists, Lent]),
+    (Fault::ServedNotOpened, &[Lists, Lent]),
+    // No step leaves such a table.
+    (Fault::Served8InForm, &[Lent]),
+    (Fault::ServedBelowNInForm, &[Lent]),
 ];
 
-const PROFILES: [(&Profile, u64); 7] = [
+const PROFILES: [(&Profile, u64); 9] = [
     (&Profile::CRASHES, 50),
     (&Profile::PARTIAL, 30),
     (&Profile::WORN, 15),
@@ -193,6 +169,8 @@ const PROFILES: [(&Profile, u64); 7] = [
     (&Profile::CEILING, 40),
     (&Profile::SETS, 40),
     (&Profile::REELS, 20),
+    (&Profile::DISPATCH, 30),
+    (&Profile::CROWDED, 14),
 ];
 
 /// Walks one list of a faulty machine, and holds each step against the sound one.
@@ -200,8 +178,10 @@ fn inspect_list(fault: Fault, profile: &'static Profile, seed: u64, found: &mut 
     let mut walk = Walk::with_fault(seed, profile, fault);
     let mut judge = Judge::default();
     let (mut table, mut ledger) = (walk.table().to_vec(), walk.ledger().to_vec());
-    let (mut differs, mut replays) = (false, true);
+    let mut rounds = Rounds::default();
+    let (mut differs, mut replays, mut fair) = (false, true, true);
     while let Some((command, answer)) = walk.next() {
+        fair &= rounds.feed(&table, command, answer).is_ok();
         let before_it = judge.history();
         replays &= before_it.is_none_or(|history| facts::replayed_agrees(history, answer));
         judge.feed(command, answer);
@@ -213,23 +193,8 @@ fn inspect_list(fault: Fault, profile: &'static Profile, seed: u64, found: &mut 
     }
     found.add_breaches(&judge.finish());
     found.add(Replayed, !replays);
+    found.add(Fair, !fair);
     found.add(Lists, differs);
-}
-
-/// The check that finds this breach. Demand 3 is meant as it was before there was a desk.
-fn finder(breach: &Breach) -> By {
-    match breach {
-        Breach::NotUndone { .. }
-        | Breach::UndoneWithoutCause { .. }
-        | Breach::LiveOrphan { .. }
-        | Breach::TooManyNamed { .. }
-        | Breach::OwnerNotNamed { .. } => Demand,
-        Breach::PublishedRevoked { .. } => Published,
-        Breach::LedgerDiffers { .. } => Ledger,
-        Breach::AboveCeiling { .. } => Ceiling,
-        Breach::WrongCrash { .. } => Blame,
-        Breach::Unreadable { .. } => Unreadable,
-    }
 }
 
 fn inspect_lists(fault: Fault) -> Found {
@@ -242,11 +207,12 @@ fn inspect_lists(fault: Fault) -> Found {
     found
 }
 
-/// How many single steps are tried on what is lent, how many sets, and how many deliveries and hearings where much is
-/// condemned.
+/// How many single steps are tried on what is lent, how many sets, how many deliveries and hearings where much is
+/// condemned, and how many calls of the dispatcher.
 const LENT_STEPS: usize = 2_500;
 const LENT_SETS: usize = 1_500;
 const LENT_CONDEMNED: usize = 500;
+const LENT_CALLS: usize = 1_000;
 
 fn has_most_rules(command: Command) -> bool {
     matches!(
@@ -299,18 +265,37 @@ fn lent_condemned(random: &mut Random) -> (Vec<u32>, Vec<u32>, Command) {
     (table, sound_ledger(random), command)
 }
 
+/// A table, mostly with many messages released, a ledger, and the dispatcher, now and then a delivery.
+fn lent_call(random: &mut Random) -> (Vec<u32>, Vec<u32>, Command) {
+    let table = match random.below(8) {
+        0 => damaged_served(random),
+        _ => dispatch_table(random),
+    };
+    let mut steps = named(random, &table);
+    steps.retain(|step| matches!(step, Command::Deliver { .. } | Command::Open { .. }));
+    let other = random.pick(&steps).filter(|_| random.chance(15));
+    let command = other.unwrap_or(Command::Dispatch);
+    (table, sound_ledger(random), command)
+}
+
+/// What is lent, with a step, and how often.
+type Make = fn(&mut Random) -> (Vec<u32>, Vec<u32>, Command);
+
+const LENT: [(Make, u64, usize); 4] = [
+    (lent, 31, LENT_STEPS),
+    (lent_set, 32, LENT_SETS),
+    (lent_condemned, 33, LENT_CONDEMNED),
+    (lent_call, 34, LENT_CALLS),
+];
+
 /// In how many single steps each machine differs from the sound one.
 fn inspect_lent(faults: &[Fault]) -> Vec<usize> {
-    let [mut random, mut of_sets, mut condemned] = [31, 32, 33].map(Random::new);
     let mut differences = vec![0; faults.len()];
-    for step in 0..LENT_STEPS + LENT_SETS + LENT_CONDEMNED {
-        let (table, ledger, command) = if step < LENT_STEPS {
-            lent(&mut random)
-        } else if step < LENT_STEPS + LENT_SETS {
-            lent_set(&mut of_sets)
-        } else {
-            lent_condemned(&mut condemned)
-        };
+    let made = LENT.into_iter().flat_map(|(make, seed, count)| {
+        let mut random = Random::new(seed);
+        (0..count).map(move |_| make(&mut random))
+    });
+    for (table, ledger, command) in made {
         let outcome = |fault| {
             let (mut table, mut ledger) = (table.clone(), ledger.clone());
             let answer = step_with(fault, &mut table, &mut ledger, command);
@@ -329,8 +314,8 @@ fn every_fault_is_found_by_these_means() {
     let lent = inspect_lent(&Fault::PLANTED);
     let lists: u64 = PROFILES.iter().map(|(_, lists)| lists).sum();
     println!(
-        "of {lists} lists, and of {LENT_STEPS} steps, {LENT_SETS} sets and {LENT_CONDEMNED} \
-         deliveries and hearings on what is lent:"
+        "of {lists} lists, and of {LENT_STEPS} steps, {LENT_SETS} sets, {LENT_CONDEMNED} \
+         deliveries and hearings and {LENT_CALLS} calls of the dispatcher on what is lent:"
     );
     print_row("", CHECKS.map(|by| format!("{by:?}")));
     let mut found = EXPECTED.map(|(fault, _)| (fault, inspect_lists(fault)));

@@ -4,8 +4,8 @@ mod common;
 
 use common::House;
 use reference::generate::{
-    damaged, damaged_gap, damaged_ledger, gapped_table, in_form_table, noise, sound_ledger,
-    wrong_length, Profile, Random, Walk,
+    damaged, damaged_gap, damaged_ledger, damaged_served, dispatch_table, gapped_table,
+    in_form_table, noise, sound_ledger, wrong_length, Profile, Random, Walk,
 };
 use reference::ledger::is_sound;
 use reference::machine::{step, Answer, Command};
@@ -24,6 +24,7 @@ fn range(words: &[u32], position: usize) -> RangeInclusive<u32> {
         0 => 1..=8,
         1 => 0..=128,
         11 => 0..=64,
+        12 => 0..=7,
         2..=15 => 0..=0,
         16..=47 => {
             let (c, field) = ((position - 16) / 4, (position - 16) % 4);
@@ -153,10 +154,29 @@ fn gaps() {
         assert_eq!(in_form(&house.words), expected, "a gap of {gap}");
     }
     house.words[11] = 5;
-    for other in (2..=10).chain(12..=15) {
+    for other in (2..=10).chain(13..=15) {
         let mut words = house.words.clone();
         words[other] = 5;
         assert!(!in_form(&words), "word {other}");
+    }
+}
+
+/// "Word 12 is in form up to 7", whatever n is.
+#[test]
+fn controllers_last_served() {
+    let mut random = Random::new(8);
+    for _ in 0..200 {
+        let words = dispatch_table(&mut random);
+        assert!(in_form(&words) && in_form_by_position(&words));
+        let words = damaged_served(&mut random);
+        assert!(!in_form(&words) && !in_form_by_position(&words));
+    }
+    for n in 1..=8 {
+        let mut house = House::after(&format!("O {n} 0"));
+        for word in (0..=20).chain([64, 128, u32::MAX]) {
+            house.words[12] = word;
+            assert_eq!(in_form(&house.words), word <= 7, "{word} of {n}");
+        }
     }
 }
 

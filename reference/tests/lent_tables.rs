@@ -3,8 +3,8 @@
 //! its rule names, and checkpoints are forced where the gap asks for them.
 
 use reference::generate::{
-    damaged_ledger, gap, gapped_table, named, nearly_full_ledger, senseless, set, set_table,
-    sound_ledger, Random,
+    damaged_ledger, dispatch_table, gap, gapped_table, named, nearly_full_ledger, senseless, set,
+    set_table, sound_ledger, Random,
 };
 use reference::ledger::is_sound;
 use reference::machine::{step, Answer, Command};
@@ -69,6 +69,10 @@ impl Copier<'_> {
             Command::ReleaseSet { messages } if matches!(answer, Answer::SetReleased { .. }) => {
                 messages.iter().for_each(|&message| self.let_out(message));
             }
+            Command::Dispatch => {
+                self.message(answer);
+                self.served(answer);
+            }
             _ => self.message(answer),
         }
     }
@@ -103,6 +107,13 @@ impl Copier<'_> {
                 self.new_interval(self.to.message(message).receiver as usize);
             }
             _ => {}
+        }
+    }
+
+    /// Whom the dispatcher has served.
+    fn served(&mut self, answer: Answer) {
+        if let Answer::Delivered { message, .. } | Answer::Dropped { message, .. } = answer {
+            self.to.set_served(self.to.message(message).receiver);
         }
     }
 
@@ -233,22 +244,23 @@ fn any_ledger(random: &mut Random) -> Vec<u32> {
     }
 }
 
-/// A senseless step, a gap set, sets, and a step of each letter that names what is there.
+/// A senseless step, a gap set, sets, calls of the dispatcher, and a step of each letter that names what is there.
 fn commands(random: &mut Random, words: &[u32]) -> Vec<Command> {
     let gap = gap(random);
     let sets = [0, 1, 2].map(|_| set(random, words));
     let mut commands = vec![senseless(random), Command::SetGap { gap }];
     commands.extend(sets.map(|messages| Command::ReleaseSet { messages }));
+    commands.extend([Command::Dispatch; 2]);
     commands.extend(named(random, words));
     commands
 }
 
-/// A table in form, sometimes one with many messages held.
+/// A table in form, sometimes one with many messages held or released.
 fn any_table(random: &mut Random) -> Vec<u32> {
-    if random.chance(30) {
-        set_table(random)
-    } else {
-        gapped_table(random)
+    match random.below(10) {
+        0..=2 => set_table(random),
+        3..=5 => dispatch_table(random),
+        _ => gapped_table(random),
     }
 }
 
@@ -270,7 +282,7 @@ fn keeps_to_the_gap(table: Table<&[u32]>, command: Command, answer: Answer) -> b
 #[test]
 fn steps_keep_the_form_and_write_only_what_they_name() {
     let mut random = Random::new(11);
-    let (mut accepted, mut refused, mut published) = (0, 0, 0);
+    let (mut accepted, mut refused, mut published, mut served) = (0, 0, 0, 0);
     for _ in 0..1_500 {
         let mut words = any_table(&mut random);
         let mut ledger = any_ledger(&mut random);
@@ -295,10 +307,11 @@ fn steps_keep_the_form_and_write_only_what_they_name() {
             assert!(stayed_sound, "{command:?} {answer:?}");
             let opened = matches!(command, Command::Open { .. });
             published += u32::from(!opened && ledger != ledger_before);
+            served += u32::from(command == Command::Dispatch && answer != Answer::Idle);
         }
     }
     assert!(accepted > 5_000 && refused > 3_000, "{accepted} {refused}");
-    assert!(published > 50, "{published}");
+    assert!(published > 50 && served > 500, "{published} {served}");
 }
 
 /// "14 .. stands .. at release and, for the length only, .. at opening": to all other steps the ledger is
@@ -357,7 +370,7 @@ fn the_same_table_and_ledger_give_the_same_answer() {
 fn no_step_gives_state_lost() {
     let mut random = Random::new(13);
     let (mut kept, mut settled) = (0, 0);
-    for _ in 0..1_500 {
+    for _ in 0..2_000 {
         let words = any_table(&mut random);
         for command in commands(&mut random, &words) {
             let mut after = words.clone();

@@ -33,6 +33,7 @@ fn every_letter_is_read_and_written() {
 #[test]
 fn a_gap_has_no_line() {
     assert_eq!(write(Command::SetGap { gap: 3 }), None);
+    assert_eq!(write(Command::Dispatch), None);
     assert_eq!(parse(b"Q 3"), None);
     assert_eq!(parse(b"G 3"), None);
 }

@@ -1,6 +1,6 @@
 //! Random lists of the sound machine: demand 3 and the ceiling on replay hold, the table and the ledger
-//! agree with their history after each step, so do the replay figures, and a refused step and a set that is
-//! held change no word of either.
+//! agree with their history after each step, so do the replay figures, and a refused step, a set that is held
+//! and an idle dispatcher change no word of either.
 
 use reference::demand::Judge;
 use reference::facts;
@@ -20,7 +20,10 @@ fn walk_list(profile: &'static Profile, seed: u64) -> usize {
     let mut steps = 0;
     while let Some((command, answer)) = walk.next() {
         let label = || format!("{} list {seed}, step {steps}: {command:?}", profile.name);
-        if matches!(answer, Answer::Refused { .. } | Answer::SetHeld { .. }) {
+        if matches!(
+            answer,
+            Answer::Refused { .. } | Answer::SetHeld { .. } | Answer::Idle
+        ) {
             let unwritten = before == walk.table() && ledger_before == walk.ledger();
             assert!(unwritten, "{}: {answer:?}, and wrote", label());
         } else {
@@ -94,6 +97,16 @@ fn sets() {
 #[test]
 fn reels() {
     assert!(walk_lists(&Profile::REELS, 600) > 100_000);
+}
+
+#[test]
+fn dispatch() {
+    assert!(walk_lists(&Profile::DISPATCH, 1_500) > 250_000);
+}
+
+#[test]
+fn crowded() {
+    assert!(walk_lists(&Profile::CROWDED, 100) > 50_000);
 }
 
 #[test]

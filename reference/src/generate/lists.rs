@@ -71,6 +71,9 @@ impl Walk {
             let messages = set(&mut self.random, &self.table);
             return Command::ReleaseSet { messages };
         }
+        if self.profile.dispatches > 0 && self.random.chance(self.profile.dispatches) {
+            return Command::Dispatch;
+        }
         if self.random.chance(self.profile.senseless) {
             return senseless(&mut self.random);
         }

@@ -48,6 +48,8 @@ pub struct Profile {
     pub(super) gaps: Option<Gaps>,
     /// How many of a hundred steps release a set. The program has no line for that either.
     pub(super) sets: u32,
+    /// How many of a hundred steps are calls of the dispatcher. The program has no line for these either.
+    pub(super) dispatches: u32,
 }
 
 /// Weights in the order of the letters O K S R D L C T X H.
@@ -78,6 +80,7 @@ impl Profile {
         weights: weights([1, 6, 50, 60, 70, 12, 4, 14, 6, 14]),
         gaps: None,
         sets: 0,
+        dispatches: 0,
     };
     /// Few controllers that crash often and hear late.
     pub const CRASHES: Profile = Profile {
@@ -90,6 +93,7 @@ impl Profile {
         weights: weights([0, 2, 50, 60, 80, 8, 2, 6, 9, 16]),
         gaps: None,
         sets: 0,
+        dispatches: 0,
     };
     /// Little is stable and little is known, so that most work hangs on other work.
     pub const PARTIAL: Profile = Profile {
@@ -102,6 +106,7 @@ impl Profile {
         weights: weights([0, 2, 60, 70, 90, 6, 0, 6, 5, 10]),
         gaps: None,
         sets: 0,
+        dispatches: 0,
     };
     /// One controller's chain and the messages fill up.
     pub const FULL: Profile = Profile {
@@ -114,6 +119,7 @@ impl Profile {
         weights: weights([0, 2, 60, 60, 70, 30, 12, 10, 2, 4]),
         gaps: None,
         sets: 0,
+        dispatches: 0,
     };
     /// Incarnations run out.
     pub const WORN: Profile = Profile {
@@ -126,6 +132,7 @@ impl Profile {
         weights: weights([0, 3, 40, 50, 70, 2, 1, 4, 14, 30]),
         gaps: None,
         sets: 0,
+        dispatches: 0,
     };
     /// Mostly nonsense.
     pub const WILD: Profile = Profile {
@@ -138,6 +145,7 @@ impl Profile {
         weights: weights([3, 10, 30, 30, 30, 10, 10, 10, 10, 10]),
         gaps: None,
         sets: 0,
+        dispatches: 0,
     };
     /// All goes to the desk, until the ledger is full: it takes every message of a house.
     pub const DESK: Profile = Profile {
@@ -150,6 +158,7 @@ impl Profile {
         weights: weights([0, 2, 60, 60, 4, 4, 2, 4, 2, 4]),
         gaps: None,
         sets: 0,
+        dispatches: 0,
     };
     /// As [`CRASHES`](Profile::CRASHES), where the gap is set anew while work goes on, and turned off.
     pub const GAPS: Profile = Profile {
@@ -165,6 +174,7 @@ impl Profile {
             first: None,
         }),
         sets: 0,
+        dispatches: 0,
     };
     /// A narrow gap from the opening on, and crashes that follow each other closely.
     pub const CEILING: Profile = Profile {
@@ -180,6 +190,7 @@ impl Profile {
             first: Some(1..=6),
         }),
         sets: 0,
+        dispatches: 0,
     };
     /// Any gap from the opening on, with one controller's chain filling up.
     pub const LONG: Profile = Profile {
@@ -195,6 +206,7 @@ impl Profile {
             first: Some(1..=64),
         }),
         sets: 0,
+        dispatches: 0,
     };
     /// Readings that leave together, among crashes, while the gap is set at times.
     pub const SETS: Profile = Profile {
@@ -210,6 +222,7 @@ impl Profile {
             first: None,
         }),
         sets: 12,
+        dispatches: 0,
     };
     /// Reels of many readings, of which most are held until a set takes them.
     pub const REELS: Profile = Profile {
@@ -222,8 +235,39 @@ impl Profile {
         weights: weights([0, 2, 120, 2, 12, 4, 3, 8, 1, 2]),
         gaps: None,
         sets: 7,
+        dispatches: 0,
     };
-    /// Those whose lists are lines of the program: the gap is never set, and no set released.
+    /// Much is on its way to few controllers, and mostly the dispatcher delivers it, among crashes that are heard
+    /// late, while the gap is set at times.
+    pub const DISPATCH: Profile = Profile {
+        name: "dispatch",
+        controllers: 1..=8,
+        steps: 100..=300,
+        senseless: 1,
+        to_last: 30,
+        to_desk: 4,
+        weights: weights([1, 3, 60, 80, 12, 5, 1, 3, 5, 6]),
+        gaps: Some(Gaps {
+            percent: 1,
+            first: None,
+        }),
+        sets: 1,
+        dispatches: 16,
+    };
+    /// One controller's chain fills up by the dispatcher while others are served, too.
+    pub const CROWDED: Profile = Profile {
+        name: "crowded",
+        controllers: 3..=5,
+        steps: 500..=600,
+        senseless: 0,
+        to_last: 90,
+        to_desk: 0,
+        weights: weights([0, 2, 60, 70, 1, 30, 12, 10, 3, 4]),
+        gaps: None,
+        sets: 0,
+        dispatches: 25,
+    };
+    /// Those whose lists are lines of the program: the gap is never set, no set released, and nothing dispatched.
     pub const LETTERED: [&'static Profile; 7] = [
         &Profile::MIXED,
         &Profile::CRASHES,
@@ -234,7 +278,7 @@ impl Profile {
         &Profile::DESK,
     ];
     /// All of them.
-    pub const ALL: [&'static Profile; 12] = [
+    pub const ALL: [&'static Profile; 14] = [
         &Profile::MIXED,
         &Profile::CRASHES,
         &Profile::PARTIAL,
@@ -247,5 +291,7 @@ impl Profile {
         &Profile::LONG,
         &Profile::SETS,
         &Profile::REELS,
+        &Profile::DISPATCH,
+        &Profile::CROWDED,
     ];
 }

@@ -15,7 +15,10 @@ pub(super) fn fits(command: Command, answer: Answer) -> bool {
             Answer::Done,
         )
         | (Command::Send { .. }, Answer::Sent { .. })
-        | (Command::ReleaseSet { .. }, Answer::SetReleased { .. } | Answer::SetHeld { .. }) => true,
+        | (Command::ReleaseSet { .. }, Answer::SetReleased { .. } | Answer::SetHeld { .. })
+        | (Command::Dispatch, Answer::Delivered { .. } | Answer::Dropped { .. } | Answer::Idle) => {
+            true
+        }
         (
             Command::Release { message: named },
             Answer::Released { message, .. } | Answer::Held { message, .. },

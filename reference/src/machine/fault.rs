@@ -3,21 +3,24 @@
 //! The rules ask for a fault in one place each; what the faulty machine does instead is here, so that
 //! the sound rules can be read without it. What a rule asks for is in [`asked`]; what is only bent after a
 //! sound step is in [`bent`], and in [`gap`] where it concerns the gap. Both are in [`sets`] where it
-//! concerns a set.
+//! concerns a set, and in [`dispatch`] where it concerns the dispatcher. [`around`] has all that needs no
+//! rule, and [`kinds`] says what it takes to show a fault.
 
+mod around;
 mod asked;
 mod bent;
+mod dispatch;
 mod gap;
+mod kinds;
 mod sets;
 
+pub(super) use around::around;
 pub(super) use asked::{
     blamed, condemned_by_number, in_form, larger_of_each, ledger_fits, most_gap,
     replayed_by_hearing,
 };
+pub(super) use dispatch::next_served;
 pub(super) use sets::{look_at_set, readings_counted, union};
-
-use super::{Answer, Command};
-use crate::refusal;
 
 /// What is wrong with a machine.
 #[derive(Clone, Copy, Debug, PartialEq, Eq)]
@@ -170,11 +173,45 @@ pub enum Fault {
     OwnEndsBlamed,
     /// Naming the hearer for a rollback, and not who crashed.
     HearerBlamed,
+    /// Dispatching from the controller last served on, and not from the one after it.
+    RoundFromTheServed,
+    /// Dispatching from controller 0 on, whoever was served last.
+    RoundFromZero,
+    /// Taking n off the controllers of a round once, and not as often as needed.
+    LessNOnce,
+    /// Dispatching the highest number of the messages for a controller.
+    HighestNumberTaken,
+    /// Dispatching the lowest number of the messages for all controllers.
+    LowestOfAll,
+    /// Choosing a message that would get 12, so that the dispatcher is refused again and again.
+    FullReceiverChosen,
+    /// Choosing a message that waits.
+    WaitingTaken,
+    /// Ending the round with the first controller that has a released message, be it one that waits.
+    WaitingEndsTheRound,
+    /// Passing over messages that would be dropped.
+    DroppedPassedOver,
+    /// One that says `idle` before looking.
+    IdleBeforeLooking,
+    /// Going on to the next controller when the dispatcher says idle.
+    IdleWrites,
+    /// Not writing down who was served.
+    ServedNotWritten,
+    /// Not writing it down where the message was dropped.
+    DroppedNotServed,
+    /// Writing it down at every delivery, and not only at those by the dispatcher.
+    DeliveryServes,
+    /// Opening with controller 0 as the one last served.
+    ServedNotOpened,
+    /// Taking a table with 8 as the controller last served for in form.
+    Served8InForm,
+    /// Taking no table for in form whose controller last served isn't below n.
+    ServedBelowNInForm,
 }
 
 impl Fault {
     /// Every planted fault.
-    pub const PLANTED: [Fault; 71] = [
+    pub const PLANTED: [Fault; 88] = [
         Fault::LargerAcrossIncarnations,
         Fault::NumbersWithoutIncarnations,
         Fault::StoredPairsCounted,
@@ -246,178 +283,22 @@ impl Fault {
         Fault::NewestCrashBlamed,
         Fault::OwnEndsBlamed,
         Fault::HearerBlamed,
+        Fault::RoundFromTheServed,
+        Fault::RoundFromZero,
+        Fault::LessNOnce,
+        Fault::HighestNumberTaken,
+        Fault::LowestOfAll,
+        Fault::FullReceiverChosen,
+        Fault::WaitingTaken,
+        Fault::WaitingEndsTheRound,
+        Fault::DroppedPassedOver,
+        Fault::IdleBeforeLooking,
+        Fault::IdleWrites,
+        Fault::ServedNotWritten,
+        Fault::DroppedNotServed,
+        Fault::DeliveryServes,
+        Fault::ServedNotOpened,
+        Fault::Served8InForm,
+        Fault::ServedBelowNInForm,
     ];
-
-    /// Whether some list in a house just opened shows the fault. The others need a table or a ledger
-    /// that no list leads to.
-    pub fn shows_in_lists(self) -> bool {
-        !matches!(
-            self,
-            Fault::None
-                | Fault::FullBeforeHeld
-                | Fault::PublishedElsewhereInForm
-                | Fault::DeskChangedAsCause
-                | Fault::FourteenOnlyForTheDesk
-                | Fault::LedgerLookedAtByAll
-                | Fault::DegreeBeforeLedger
-                | Fault::StableFlagsOnly
-                | Fault::GapOf65InForm
-                | Fault::LargestMaskForTheUnion
-                | Fault::RoomForTheFirst
-                | Fault::SetFullBeforeHeld
-                | Fault::SetLedgerOnlyForTheDesk
-        )
-    }
-
-    /// Whether it takes a gap in the table to show the fault: no script of the program does then, since it
-    /// has no line to set one.
-    pub fn needs_a_gap(self) -> bool {
-        matches!(
-            self,
-            Fault::FlaggedWithoutLogging
-                | Fault::LoggedOnlyBefore
-                | Fault::ForcedNotKnown
-                | Fault::CrashStartNotCounted
-                | Fault::RollbackStartNotCounted
-                | Fault::MoreThanTheGap
-                | Fault::StableFlagsOnly
-                | Fault::RemovedFlagsCounted
-                | Fault::GapOf65Taken
-                | Fault::GapOf65InForm
-                | Fault::GapOutOfForm
-                | Fault::GapNotCleared
-        )
-    }
-
-    /// Whether it takes a set to show the fault, which has no line either.
-    pub fn needs_a_set(self) -> bool {
-        matches!(
-            self,
-            Fault::EachMaskByItself
-                | Fault::LargestMaskForTheUnion
-                | Fault::StoredPairsJoined
-                | Fault::SetByTheDegree
-                | Fault::DoubledTaken
-                | Fault::SeventeenTaken
-                | Fault::NoneTaken
-                | Fault::SendersTaken
-                | Fault::LengthBeforeMessages
-                | Fault::SendersBeforeStates
-                | Fault::FirstLetOut
-                | Fault::ThoseWithinLetOut
-                | Fault::OneVectorForAll
-                | Fault::PublishedInTableOrder
-                | Fault::RoomForTheFirst
-                | Fault::SetFullBeforeHeld
-                | Fault::SetLedgerOnlyForTheDesk
-        )
-    }
-
-    fn bends_what_was_written(self) -> bool {
-        matches!(
-            self,
-            Fault::EndWordOnRollback
-                | Fault::KeptNotLogged
-                | Fault::KnownNotRaised
-                | Fault::HeldKept
-                | Fault::LostGiven
-                | Fault::EndsBeforeCrash
-                | Fault::CondemnedOffered
-                | Fault::WritesNoWord
-                | Fault::PublishedWithoutEntry
-                | Fault::LedgerWrittenOnHeld
-                | Fault::LedgerNotCleared
-                | Fault::EntryOutOfOrder
-                | Fault::FlaggedWithoutLogging
-                | Fault::LoggedOnlyBefore
-                | Fault::ForcedNotKnown
-                | Fault::CrashStartNotCounted
-                | Fault::RollbackStartNotCounted
-                | Fault::MoreThanTheGap
-                | Fault::ForcedWhenOff
-                | Fault::StableFlagsOnly
-                | Fault::RemovedFlagsCounted
-                | Fault::GapNotCleared
-                | Fault::FirstLetOut
-                | Fault::ThoseWithinLetOut
-                | Fault::OneVectorForAll
-                | Fault::PublishedInTableOrder
-        )
-    }
-}
-
-/// The faults that need no rule: an answer given before the step, or an answer, a table or a ledger
-/// bent after it. For all others the step is done on what was lent and answers for itself.
-pub(super) fn around(
-    fault: Fault,
-    table: &mut [u32],
-    ledger: &mut [u32],
-    command: Command,
-    step: impl FnOnce(&mut [u32], &mut [u32]) -> Answer,
-) -> Answer {
-    if let Some(answer) = before_looking(fault, command) {
-        return answer;
-    }
-    if !fault.bends_what_was_written() {
-        return invented(fault, step(table, ledger));
-    }
-    let (table_before, ledger_before) = (table.to_vec(), ledger.to_vec());
-    let answer = step(table, ledger);
-    bent::bend_table(fault, &table_before, table, answer);
-    gap::bend(fault, &table_before, table, command, answer);
-    bent::bend_ledger(fault, &ledger_before, ledger, table, answer);
-    if let Command::ReleaseSet { messages } = command {
-        let before = (&table_before[..], &ledger_before[..]);
-        sets::bend(fault, before, (table, ledger), &messages, answer);
-    }
-    answer
-}
-
-fn before_looking(fault: Fault, command: Command) -> Option<Answer> {
-    match (fault, command) {
-        (Fault::RefusesAll, _) => Some(Answer::Refused {
-            number: refusal::LENGTH,
-        }),
-        (Fault::DoneToAll, _) => Some(Answer::Done),
-        (Fault::WaitsBeforeLooking, Command::Deliver { message }) => {
-            Some(Answer::Waits { message })
-        }
-        (Fault::HeldBeforeLooking, Command::Release { message }) => {
-            Some(Answer::Held { message, mask: 0 })
-        }
-        (Fault::HeldBeforeLooking, Command::ReleaseSet { .. }) => Some(Answer::SetHeld { mask: 0 }),
-        (Fault::HeardBeforeLooking, Command::Hear { hearer, .. }) => {
-            Some(Answer::Heard { controller: hearer })
-        }
-        (Fault::NeverHears, Command::Hear { .. }) => Some(Answer::Refused {
-            number: refusal::NO_SUCH_CRASH,
-        }),
-        _ => None,
-    }
-}
-
-fn invented(fault: Fault, mut answer: Answer) -> Answer {
-    match (fault, &mut answer) {
-        (Fault::InventsLost, Answer::Crashed { lost: figure, .. })
-        | (Fault::InventsUndone, Answer::Rolled { undone: figure, .. })
-        | (
-            Fault::InventsReplayed,
-            Answer::Crashed {
-                replayed: figure, ..
-            }
-            | Answer::Rolled {
-                replayed: figure, ..
-            },
-        ) => *figure += 1,
-        (
-            Fault::HearerBlamed,
-            Answer::Rolled {
-                controller,
-                crashed,
-                ..
-            },
-        ) => *crashed = *controller,
-        _ => {}
-    }
-    answer
 }

@@ -1,9 +1,11 @@
 //! The rules of the steps. Each looks at its refusals first, in their order, and writes only once none
 //! is left.
 
+mod delivery;
 mod release;
 mod shared;
 
+pub(super) use delivery::Prospect;
 pub(super) use release::{are_distinct, Leaving, SET_SIZES};
 
 use super::{fault, Answer, Command, Fault};
@@ -52,6 +54,7 @@ pub(super) fn perform(
         } => house.hear(hearer, crashed, incarnation),
         Command::SetGap { gap } => house.set_gap(gap),
         Command::ReleaseSet { messages } => house.release_set(&messages),
+        Command::Dispatch => house.dispatch(),
     }
 }
 
@@ -127,12 +130,14 @@ impl House<'_> {
 /// The steps.
 impl House<'_> {
     /// "n controllers, all with K = k; each has (0,1), flagged, stable, known to its owner, own pair
-    /// (0,1) in its vector; all else 0." And "an opening that is done clears the ledger".
+    /// (0,1) in its vector; all else 0." But the controller last served is "n − 1 after opening". And "an
+    /// opening that is done clears the ledger".
     fn open(&mut self, n: u32, degree: u32) -> Outcome {
         ensure(can_open(n, degree), refusal::DEGREE)?;
         self.ledger()?.clear();
         self.table.clear();
         self.table.set_n(n);
+        self.table.set_served(n - 1);
         for c in 0..n as usize {
             let counts = Controller {
                 degree,
@@ -185,44 +190,6 @@ impl House<'_> {
         self.table.set_sent(message);
         self.table.set_message(message, &record);
         Ok(Answer::Sent { message })
-    }
-
-    /// "Deliver at its receiver c. Condemned to c: dropped", and then "it is the lowest-numbered controller
-    /// whose pair condemns the vector, with that pair's incarnation". "Else filter both c's newest vector
-    /// and the message's for c"; then it waits, or "a new interval begins with cause m and flag 0; .. c's
-    /// own pair is the new interval. State: delivered." No message for the desk is ever released, so
-    /// that its delivery is refused.
-    fn deliver(&mut self, message: u32) -> Outcome {
-        let record = self.message(message)?;
-        ensure(record.state == state::RELEASED, refusal::STATE)?;
-        let receiver = record.receiver as usize;
-        if let Some(owner) = self.condemned_by(&record.vector, &self.table.ends(receiver)) {
-            let otherwise = fault::blamed(self.fault, self.table.words(), &record);
-            let (owner, incarnation) =
-                otherwise.unwrap_or((owner, record.vector[owner].incarnation));
-            self.table.set_state(message, state::DROPPED);
-            return Ok(Answer::Dropped {
-                message,
-                crashed: owner as u32,
-                incarnation,
-            });
-        }
-        let known = self.table.known(receiver);
-        let ours = filtered(&self.table.newest(receiver).vector, &known);
-        let theirs = filtered(&record.vector, &known);
-        let Some(vector) = self.merged(message, receiver, &ours, &theirs) else {
-            return Ok(Answer::Waits { message });
-        };
-        let live = self.table.controller(receiver).live;
-        ensure(live < LAST_NUMBER, refusal::PLACES_USED_UP)?;
-        let interval = self.begin_next(receiver, message, vector);
-        self.keep_to_the_gap(receiver);
-        self.table.set_state(message, state::DELIVERED);
-        Ok(Answer::Delivered {
-            message,
-            incarnation: interval.incarnation,
-            number: interval.number,
-        })
     }
 
     /// "Log the q oldest live intervals that are not stable."

@@ -2,7 +2,7 @@
 
 use super::{
     state, Controller, Message, Place, Table, CONTROLLERS, DESK, LAST_GAP, LAST_INCARNATION,
-    LAST_MESSAGE, LAST_NUMBER,
+    LAST_MESSAGE, LAST_NUMBER, LAST_SERVED,
 };
 use crate::vector::{Pair, Row, Vector};
 
@@ -34,11 +34,12 @@ impl Form<'_> {
     }
 
     /// "n (1 to 8); word 1: messages sent (0 to 128); words 2 to 15 are 0", but for the gap, which is
-    /// "in form up to 64".
+    /// "in form up to 64", and the controller last served, which is "in form up to 7", whatever n is.
     fn head(&self) -> bool {
         (1..=CONTROLLERS as u32).contains(&self.n)
             && self.sent <= LAST_MESSAGE
             && self.table.gap() <= LAST_GAP
+            && self.table.served() <= LAST_SERVED
             && self.table.reserved().into_iter().all(are_zero)
     }
 

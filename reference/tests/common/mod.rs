@@ -45,13 +45,13 @@ impl House {
     }
 
     /// The answer to one command. A refusal must leave every word of both, and only what is released and an
-    /// opening may write the ledger. A set that is held must leave every word, too.
+    /// opening may write the ledger. A set that is held must leave every word, too, and so must `idle`.
     pub fn answer(&mut self, command: Command) -> String {
         let before = self.clone();
         let answer = lines::render(&step(&mut self.words, &mut self.ledger, command));
         let refused = answer.starts_with("refused");
         let opened = matches!(command, Command::Open { .. });
-        if refused || answer.starts_with("set_held") {
+        if refused || answer.starts_with("set_held") || answer == "idle" {
             assert!(self.words == before.words, "{command:?} wrote: {answer}");
         }
         let released = answer.starts_with("released") || answer.starts_with("set_released");
@@ -65,6 +65,11 @@ impl House {
     pub fn release_set(&mut self, messages: &[u32]) -> String {
         let messages = Messages::of(messages);
         self.answer(Command::ReleaseSet { messages })
+    }
+
+    /// The answer to a call of the dispatcher, which has no line.
+    pub fn dispatch(&mut self) -> String {
+        self.answer(Command::Dispatch)
     }
 
     /// Sets the gap, which has no line; it must be done, and write word 11 alone.

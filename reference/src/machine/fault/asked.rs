@@ -6,6 +6,7 @@ use crate::machine::rules::can_open;
 use crate::machine::Command;
 use crate::table::{
     self, state, Message, Table, CONTROLLERS, DESK, INCARNATIONS, LAST_GAP, LAST_MESSAGE,
+    LAST_SERVED,
 };
 use crate::vector::{is_pair_condemned, Pair, Row, Vector};
 use std::array;
@@ -44,13 +45,18 @@ pub(super) fn is_for_desk(words: &[u32], message: u32) -> bool {
 
 /// Whether a faulty machine takes words for a table in form, where it may see that otherwise.
 pub(in crate::machine) fn in_form(fault: Fault, words: &[u32]) -> Option<bool> {
-    let gap = Table::new(words)?.gap();
+    let table = Table::new(words)?;
+    let (gap, served) = (table.gap(), table.served());
     match fault {
         Fault::PublishedElsewhereInForm => Some(in_form_with(words, publish_nothing_elsewhere)),
         Fault::GapOf65InForm if gap == LAST_GAP + 1 => {
             Some(in_form_with(words, |table| table.set_gap(LAST_GAP)))
         }
         Fault::GapOutOfForm if gap != 0 => Some(false),
+        Fault::Served8InForm if served == LAST_SERVED + 1 => {
+            Some(in_form_with(words, |table| table.set_served(LAST_SERVED)))
+        }
+        Fault::ServedBelowNInForm if served >= table.n() => Some(false),
         _ => None,
     }
 }
