@@ -1,7 +1,8 @@
 /*
  * A crash in a library of four controllers, what follows from it, readings that go out to be cited, two
- * that leave together, a ceiling on replay, and a list of steps in one call, told in words. It comes
- * across every answer, and shows two refusals and the two returns that are no answers.
+ * that leave together, a ceiling on replay, a list of steps in one call, and messages that are handed out
+ * until none is left, told in words. It comes across every answer, and shows two refusals and the two
+ * returns that are no answers.
  *
  *     rt staticlib goulvizad
  *     cc examples/recovery.c -Iinclude -Ltarget/staticlib -lgoulvizad -o target/recovery
@@ -17,6 +18,9 @@ static const char *const names[CONTROLLERS] = {"arm", "drive", "catalogue", "ben
 
 /* The house. A real one is kept where it survives: these words are all that the machine knows. */
 static uint32_t table[GOULVIZAD_TABLE_WORDS];
+
+/* The word of the table that has the controller which the dispatcher served last. */
+enum { SERVED = 12 };
 
 /* What it has published. It belongs to the table, and is kept with it. */
 static uint32_t ledger[GOULVIZAD_LEDGER_WORDS];
@@ -162,6 +166,9 @@ static void print_answer(uint32_t answer, const uint32_t *v)
         printf("all are held: they could be revoked by ");
         print_mask(v[0]);
         break;
+    case GOULVIZAD_IDLE:
+        printf("no message is left that could go");
+        break;
     case GOULVIZAD_UNKNOWN_LETTER:
         printf("no step has this letter");
         break;
@@ -219,6 +226,21 @@ static void ask(uint32_t controller)
     printf("is %s at a checkpoint: %s\n", name(controller), due ? "yes, it has to be written" : "no");
 }
 
+/* Hands out what is on its way, message by message, until none is left that could go. */
+static void hand_out(void)
+{
+    uint32_t values[GOULVIZAD_VALUE_WORDS];
+    uint32_t answer;
+
+    do {
+        answer = goulvizad_dispatch(table, GOULVIZAD_TABLE_WORDS, values, GOULVIZAD_VALUE_WORDS);
+        printf("hand out the next: ");
+        print_answer(answer, values);
+        if (answer == GOULVIZAD_DELIVERED)
+            ask(table[SERVED]);
+    } while (answer == GOULVIZAD_DELIVERED || answer == GOULVIZAD_DROPPED);
+}
+
 /* The drive works on from two messages that it hasn't written to stable storage. */
 static void work(void)
 {
@@ -272,7 +294,7 @@ static void crash(void)
     /* Whatever rests on lost work is undone or dropped, and nothing else. */
     step("catalogue hears of drive", 'H', CATALOGUE, DRIVE, 0);
     step("bench hears of drive", 'H', BENCH, DRIVE, 0);
-    step("deliver 4", 'D', 4, 0, 0);
+    hand_out();
 
     /* A refused step changes nothing. The reading was dropped too: it never goes out. */
     step("bench hears of drive", 'H', BENCH, DRIVE, 0);
@@ -362,6 +384,16 @@ static void pass_on(void)
     ask(DRIVE);
 }
 
+/* Message 13 is still on its way to the catalogue. The drive gets two more, and takes only its turns. */
+static void take_turns(void)
+{
+    step("bench sends 10 to drive", 'S', BENCH, DRIVE, 10);
+    step("release 17", 'R', 17, 0, 0);
+    step("bench sends 11 to drive", 'S', BENCH, DRIVE, 11);
+    step("release 18", 'R', 18, 0, 0);
+    hand_out();
+}
+
 /* The ledger for the printed filmography, in the order of publishing. */
 static void cite(void)
 {
@@ -398,6 +430,7 @@ int main(void)
     leave_together();
     bound_replay();
     pass_on();
+    take_turns();
     cite();
     no_steps();
     return 0;

@@ -1,9 +1,10 @@
 /*
  * The house recovery machine: one step function over a lent table and a lent ledger, by the step or for
- * a list of steps, two steps beside it, one that sets the gap and one that releases a set of messages,
- * and two questions. README.md says what it is for, examples/recovery.c shows a crash, all that follows,
- * readings that go out, a set of them, a gap, and a list, docs/GUIDE.md leads through the rules, and
- * crates/rules/specs has them.
+ * a list of steps, three steps beside it, one that sets the gap, one that releases a set of messages and
+ * one that chooses the next delivery, and two questions. README.md says what it is for,
+ * examples/recovery.c shows a crash, all that follows, readings that go out, a set of them, a gap, a
+ * list, and deliveries that are handed out until none is left, docs/GUIDE.md leads through the rules,
+ * and crates/rules/specs has them.
  *
  * The caller owns both buffers and lends them for one call at a time. All that the machine knows stands
  * in them; nothing is kept between calls.
@@ -15,8 +16,8 @@
  *   ledger, the steps and the answers, nor in goulvizad_release_set the messages and any other;
  * - nobody else writes the table, the ledger, the steps or the messages, nor reads the table or the
  *   ledger during goulvizad_step, goulvizad_run and goulvizad_release_set, nor the table during
- *   goulvizad_set_gap. Different houses, each with a table, a ledger and other buffers of its own, may
- *   be used from several threads at once.
+ *   goulvizad_set_gap and goulvizad_dispatch. Different houses, each with a table, a ledger and other
+ *   buffers of its own, may be used from several threads at once.
  *
  * A table and its ledger that are saved or moved between calls are the same house. They belong together
  * and are saved together, as the same step left them. A ledger that is older than its table lacks what
@@ -123,7 +124,7 @@ extern "C" {
  * either. Every 'R' and every set, whatever the receivers of the messages, looks at the count and at the
  * words past the last pair. No step looks at the pairs themselves: one that somebody else has put there
  * is not found out. The other eight letters don't look at the ledger at all, and take one of any length
- * and content, null with length 0 too. The step that sets the gap has none.
+ * and content, null with length 0 too. The step that sets the gap and the dispatcher have none.
  */
 
 /*
@@ -142,8 +143,28 @@ extern "C" {
  */
 
 /*
- * What goulvizad_step, goulvizad_set_gap and goulvizad_release_set return, and the values that they
- * write; goulvizad_run writes both for each of its steps. Zeros follow the values, up to the sixth word.
+ * The dispatcher chooses the next delivery, so that nobody is starved. It goes round the controllers, from
+ * the one after that which it served last, and takes the first that has a released message for it which
+ * 'D' would deliver or drop; of these messages it takes the one with the lowest number, and does its 'D'.
+ * Only goulvizad_dispatch does this; no letter does, so that it stands in no list of steps.
+ *
+ * Word 12 of the table has the controller that it served last: after GOULVIZAD_DELIVERED whom to hand the
+ * message to. One whose message was dropped is served, too. An 'O' that is done makes it n - 1, so that
+ * the first round begins with controller 0, and nothing else writes it. A table from elsewhere may have
+ * any number up to 7 there, whatever n is: the round begins with it plus 1, less n as often as needed.
+ *
+ * A message that is passed over waits, or its receiver has 64 live intervals. GOULVIZAD_IDLE says that
+ * this is so of every message that is released, if there are any, and changes no word. Call it again and
+ * again until it says so; after other steps there may be more that can go.
+ *
+ * A controller that has a message which 'D' would deliver or drop before each of n calls running is served
+ * in one of them, whatever other steps but 'O' come between the calls.
+ */
+
+/*
+ * What goulvizad_step, goulvizad_set_gap, goulvizad_release_set and goulvizad_dispatch return, and the
+ * values that they write; goulvizad_run writes both for each of its steps. Zeros follow the values, up to
+ * the sixth word.
  * A mask has 2 to the power c for each controller c that it names. Kept is the highest number that is
  * kept; by GOULVIZAD_ROLLED what is kept becomes stable, all of it, so that the hearer has to have
  * written it.
@@ -175,6 +196,8 @@ enum {
                                     of them, nobody where one went to the desk */
     GOULVIZAD_SET_HELD = 12,     /* mask: all are kept back, and no word changed; who could revoke one of
                                     them, more than the degree, or with one for the desk anybody */
+    GOULVIZAD_IDLE = 13,         /* no values: to the dispatcher, where no released message would be
+                                    delivered or dropped; no word changed */
 
     /*
      * These two are no answers, and change neither the table nor the ledger nor the value buffer, nor
@@ -280,6 +303,15 @@ uint32_t goulvizad_set_gap(uint32_t *table, size_t table_words, uint32_t gap, ui
 uint32_t goulvizad_release_set(uint32_t *table, size_t table_words, uint32_t *ledger,
                                size_t ledger_words, const uint32_t *messages, size_t message_count,
                                uint32_t *values, size_t values_words);
+
+/*
+ * The step that chooses the next delivery and does it, on a table of any length and content. Returns
+ * GOULVIZAD_DELIVERED or GOULVIZAD_DROPPED, with the values that 'D' gives for that message;
+ * GOULVIZAD_IDLE; GOULVIZAD_REFUSED, by GOULVIZAD_LENGTH or GOULVIZAD_FORM, and for nothing else; or
+ * GOULVIZAD_WRONG_VALUES.
+ */
+uint32_t goulvizad_dispatch(uint32_t *table, size_t table_words, uint32_t *values,
+                            size_t values_words);
 
 #ifdef __cplusplus
 }
