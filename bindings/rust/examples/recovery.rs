@@ -1,6 +1,7 @@
 //! A crash in a library of four controllers, what follows from it, readings that go out to be cited, two that
-//! leave together, a ceiling on replay, and a list of steps in one call, told in words: `examples/recovery.c`
-//! in Rust. There a caller can also ask for what is no step; here it can't.
+//! leave together, a ceiling on replay, a list of steps in one call, and messages that are handed out until none
+//! is left, told in words: `examples/recovery.c` in Rust. There a caller can also ask for what is no step; here
+//! it can't.
 //!
 //!     rt staticlib goulvizad
 //!     cargo run --example recovery
@@ -96,6 +97,7 @@ fn told(answer: Answer) -> String {
             let names = named(mask);
             format!("all are held: they could be revoked by {names}")
         }
+        Answer::Idle => "no message is left that could go".to_owned(),
     }
 }
 
@@ -137,6 +139,18 @@ impl Story {
             "no"
         };
         self.text += &format!("is {} at a checkpoint: {told}\n", name(controller));
+    }
+
+    /// Hands out what is on its way, message by message, until none is left that could go.
+    fn hand_out(&mut self) -> Result<(), Refusal> {
+        loop {
+            let answer = self.table.dispatch();
+            match self.say("hand out the next", answer)? {
+                Answer::Delivered { .. } => self.ask(self.table.served()),
+                Answer::Idle => return Ok(()),
+                _ => {}
+            }
+        }
     }
 
     fn say(&mut self, what: &str, answer: Told) -> Told {
@@ -245,7 +259,7 @@ fn crash(story: &mut Story) -> Result<(), Refusal> {
     // Whatever rests on lost work is undone or dropped, and nothing else.
     story.hear(CATALOGUE)?;
     story.hear(BENCH)?;
-    story.deliver(4)?;
+    story.hand_out()?;
 
     // A refused step changes nothing. The reading was dropped too: it never goes out.
     assert_eq!(story.hear(BENCH), Err(Refusal::AlreadyHeard));
@@ -331,6 +345,15 @@ fn pass_on(story: &mut Story) -> Result<(), Refusal> {
     Ok(())
 }
 
+/// Message 13 is still on its way to the catalogue. The drive gets two more, and takes only its turns.
+fn take_turns(story: &mut Story) -> Result<(), Refusal> {
+    story.send(BENCH, DRIVE, 10)?;
+    story.release(17)?;
+    story.send(BENCH, DRIVE, 11)?;
+    story.release(18)?;
+    story.hand_out()
+}
+
 /// The ledger for the printed filmography, in the order of publishing.
 fn cite(story: &mut Story) {
     for Citation { message, payload } in story.table.citations() {
@@ -348,6 +371,7 @@ fn tell() -> Result<String, Refusal> {
     leave_together(&mut story)?;
     bound_replay(&mut story)?;
     pass_on(&mut story)?;
+    take_turns(&mut story)?;
     cite(&mut story);
     Ok(story.text)
 }

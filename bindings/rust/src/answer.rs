@@ -1,9 +1,10 @@
-//! The twelve answers, and how they are read from what the C interface gives back.
+//! The thirteen answers, and how they are read from what the C interface gives back.
 
 use crate::raw::{returned, VALUE_WORDS};
 use crate::Refusal;
 
-/// The answer to a step that is not refused. The last two are those to a set, and the others to all else.
+/// The answer to a step that is not refused. [`SetReleased`](Answer::SetReleased) and [`SetHeld`](Answer::SetHeld) are
+/// those to a set, [`Idle`](Answer::Idle) is the dispatcher's alone, and the others are to all else.
 #[derive(Clone, Copy, Debug, PartialEq, Eq, Hash)]
 pub enum Answer {
     /// To an opening, a degree set, a log, a checkpoint and a telling; a gap set has no other.
@@ -95,6 +96,9 @@ pub enum Answer {
         /// Who could revoke one of them: more than their sender's degree, or anybody if one is for the desk.
         mask: Mask,
     },
+    /// The dispatcher has nothing to deliver, and no word has changed: each released message waits, or its receiver
+    /// has no place left.
+    Idle,
 }
 
 /// The controllers that a release names.
@@ -162,6 +166,7 @@ pub(crate) fn read(number: u32, values: [u32; VALUE_WORDS]) -> Option<Result<Ans
         }
         (returned::SET_RELEASED, [mask, 0, 0, 0, 0, 0]) => Answer::SetReleased { mask: Mask(mask) },
         (returned::SET_HELD, [mask, 0, 0, 0, 0, 0]) => Answer::SetHeld { mask: Mask(mask) },
+        (returned::IDLE, [0, 0, 0, 0, 0, 0]) => Answer::Idle,
         (returned::REFUSED, [number, 0, 0, 0, 0, 0]) => {
             return Refusal::from_number(number).map(Err)
         }

@@ -2,9 +2,9 @@
 //! by the C interface of its static library (`include/goulvizad.h`).
 //!
 //! A [`Table`] is a house that owns its words and its ledger. Words that live elsewhere, as in a mapped
-//! file, are lent to [`step()`], [`set_gap()`] or [`release_set()`] for one step at a time, or to [`run()`]
-//! for a list of them. A [`Step`] has an [`Answer`] or a [`Refusal`], which changes no word. Nothing is kept
-//! between calls, and different houses may be used from several threads at once.
+//! file, are lent to [`step()`], [`set_gap()`], [`release_set()`] or [`dispatch()`] for one step at a time, or to
+//! [`run()`] for a list of them. A [`Step`] has an [`Answer`] or a [`Refusal`], which changes no word. Nothing is
+//! kept between calls, and different houses may be used from several threads at once.
 //!
 //! ```
 //! use goulvizad::{Answer, Refusal, Step, Table};
@@ -112,6 +112,33 @@
 //!
 //! let crashed = table.step(Step::Crash { controller: DRIVE })?;
 //! assert!(matches!(crashed, Answer::Crashed { kept: 5, lost: 0, replayed: 0, .. }));
+//! # Ok::<(), Refusal>(())
+//! ```
+
+//! Which message is delivered next can be left to the machine ([`Table::dispatch`]). It goes round, so that nobody is
+//! starved, and is idle once nothing is left that could go.
+//!
+//! ```
+//! use goulvizad::{Answer, Refusal, Step, Table};
+//!
+//! const ARM: u32 = 0;
+//! const DRIVE: u32 = 1;
+//! const CATALOGUE: u32 = 2;
+//!
+//! let mut table = Table::new();
+//! table.step(Step::Open { n: 3, degree: 3 })?;
+//! for (message, receiver) in [(1, DRIVE), (2, DRIVE), (3, CATALOGUE)] {
+//!     table.step(Step::Send { sender: ARM, receiver, payload: 7 })?;
+//!     table.step(Step::Release { message })?;
+//! }
+//!
+//! // The catalogue comes before the drive's second message.
+//! let mut delivered = Vec::new();
+//! while let Answer::Delivered { message, .. } = table.dispatch()? {
+//!     delivered.push((message, table.served()));
+//! }
+//! assert_eq!(delivered, [(1, DRIVE), (3, CATALOGUE), (2, DRIVE)]);
+//! assert_eq!(table.dispatch()?, Answer::Idle);
 //! # Ok::<(), Refusal>(())
 //! ```
 
@@ -254,6 +281,45 @@ pub fn release_set(
             answered
         }
         _ => panic!("no answer to a set {messages:?}: {number} with {values:?}"),
+    }
+}
+
+/// Chooses the next delivery in the lent words and does it. It goes round the controllers, from the one after that
+/// which it served last, and takes the first that has a released message which [`Step::Deliver`] would deliver or
+/// drop, and of these messages the one with the lowest number. No ledger is looked at.
+///
+/// The answer is [`Delivered`](Answer::Delivered) or [`Dropped`](Answer::Dropped), as by [`Step::Deliver`], and word 12
+/// has the controller that was served; or [`Idle`](Answer::Idle), where each released message waits or its receiver
+/// has no place left. It is refused for the length and the form of the words alone.
+///
+/// A controller that has such a message before each of n calls running, of n controllers, is served in one of them,
+/// whatever other steps but openings come between the calls.
+///
+/// ```
+/// use goulvizad::{dispatch, step, Answer, Refusal, Step, LEDGER_WORDS, TABLE_WORDS};
+///
+/// let (mut words, mut ledger) = (vec![0; TABLE_WORDS], [0; LEDGER_WORDS]);
+/// assert_eq!(dispatch(&mut words), Err(Refusal::Form));
+/// step(&mut words, &mut ledger, Step::Open { n: 2, degree: 0 })?;
+/// step(&mut words, &mut ledger, Step::Send { sender: 0, receiver: 1, payload: 7 })?;
+/// assert_eq!(dispatch(&mut words), Ok(Answer::Idle));
+/// step(&mut words, &mut ledger, Step::Release { message: 1 })?;
+/// assert!(matches!(dispatch(&mut words), Ok(Answer::Delivered { message: 1, .. })));
+/// assert_eq!(words[12], 1);
+/// # Ok::<(), Refusal>(())
+/// ```
+///
+/// # Panics
+/// If what comes back is no answer: the linked library is of another version then.
+pub fn dispatch(words: &mut [u32]) -> Result<Answer, Refusal> {
+    let mut values = [u32::MAX; raw::VALUE_WORDS];
+    let number = raw::dispatch(words, &mut values);
+    match answer::read(number, values) {
+        Some(
+            answered @ (Ok(Answer::Delivered { .. } | Answer::Dropped { .. } | Answer::Idle)
+            | Err(_)),
+        ) => answered,
+        _ => panic!("no answer to the dispatcher: {number} with {values:?}"),
     }
 }
 

@@ -1,6 +1,6 @@
 //! The C interface as it is, numbers in and numbers out. All functions are safe, since a slice carries its
 //! length; [`step`](crate::step()), [`run`](crate::run()), [`set_gap`](crate::set_gap()),
-//! [`release_set`](crate::release_set()), [`in_form`](crate::in_form()) and
+//! [`release_set`](crate::release_set()), [`dispatch`](crate::dispatch()), [`in_form`](crate::in_form()) and
 //! [`is_checkpoint`](crate::is_checkpoint()) stand on them.
 
 /// The words of a table.
@@ -27,8 +27,8 @@ pub const FORMED: u32 = 1;
 /// What [`is_checkpoint`] returns for a controller whose newest interval is one; otherwise it is 0.
 pub const CHECKPOINT: u32 = 1;
 
-/// What [`call`], [`set_gap`] and [`release_set`] return, by the names of the header, and the values that they
-/// write. [`run`] writes both for each of its steps.
+/// What [`call`], [`set_gap`], [`release_set`] and [`dispatch`] return, by the names of the header, and the values
+/// that they write. [`run`] writes both for each of its steps.
 pub mod returned {
     /// No values.
     pub const DONE: u32 = 0;
@@ -56,6 +56,8 @@ pub mod returned {
     pub const SET_RELEASED: u32 = 11;
     /// The mask, to a set.
     pub const SET_HELD: u32 = 12;
+    /// No values, to the dispatcher.
+    pub const IDLE: u32 = 13;
     /// No answer: the letter, or one of a list, is no step's. Nothing is written.
     pub const UNKNOWN_LETTER: u32 = 100;
     /// No answer: the value buffer hasn't [`VALUE_WORDS`](super::VALUE_WORDS) words, or the words of a list
@@ -104,6 +106,12 @@ extern "C" {
         table: *mut u32,
         table_words: usize,
         gap: u32,
+        values: *mut u32,
+        values_words: usize,
+    ) -> u32;
+    fn goulvizad_dispatch(
+        table: *mut u32,
+        table_words: usize,
         values: *mut u32,
         values_words: usize,
     ) -> u32;
@@ -221,6 +229,23 @@ pub fn release_set(
             ledger.len(),
             messages.as_ptr(),
             messages.len(),
+            values.as_mut_ptr(),
+            values.len(),
+        )
+    }
+}
+
+/// Chooses the next delivery and does it: [`DELIVERED`](returned::DELIVERED), [`DROPPED`](returned::DROPPED),
+/// [`IDLE`](returned::IDLE), [`REFUSED`](returned::REFUSED) or [`WRONG_VALUES`](returned::WRONG_VALUES). It takes
+/// no ledger.
+pub fn dispatch(table: &mut [u32], values: &mut [u32]) -> u32 {
+    // SAFETY: as in `call`: the pointers come with the lengths of their slices, which are borrowed
+    // mutably until the call returns. It keeps no pointer.
+    #[allow(unsafe_code)]
+    unsafe {
+        goulvizad_dispatch(
+            table.as_mut_ptr(),
+            table.len(),
             values.as_mut_ptr(),
             values.len(),
         )

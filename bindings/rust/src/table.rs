@@ -5,6 +5,9 @@ use crate::{
 };
 use std::fmt::{self, Debug, Formatter};
 
+/// The position of the controller last served.
+const SERVED: usize = 12;
+
 /// A house that owns its words and its ledger. Only steps change them, so they always belong together.
 #[derive(Clone, PartialEq, Eq)]
 pub struct Table {
@@ -81,6 +84,17 @@ impl Table {
     /// Releases a set of messages, as [`release_set`](crate::release_set()) does on lent words.
     pub fn release_set(&mut self, messages: &[u32]) -> Result<Answer, Refusal> {
         crate::release_set(&mut self.words[..], &mut self.ledger[..], messages)
+    }
+
+    /// Chooses the next delivery and does it, as [`dispatch`](crate::dispatch()) does on lent words.
+    pub fn dispatch(&mut self) -> Result<Answer, Refusal> {
+        crate::dispatch(&mut self.words[..])
+    }
+
+    /// The controller that [`dispatch`](Table::dispatch) served last; the last one after an opening, so that the first
+    /// round begins with controller 0.
+    pub fn served(&self) -> u32 {
+        self.words[SERVED]
     }
 
     /// Whether the newest live interval of a controller is a checkpoint, as

@@ -9,7 +9,7 @@ use std::path::Path;
 
 /// The entries of the header's enums, by their names without the prefix. The refusals come last, in the
 /// order in which they are given.
-const NAMED: [(&str, u32); 31] = [
+const NAMED: [(&str, u32); 32] = [
     ("DONE", returned::DONE),
     ("SENT", returned::SENT),
     ("RELEASED", returned::RELEASED),
@@ -23,6 +23,7 @@ const NAMED: [(&str, u32); 31] = [
     ("REFUSED", returned::REFUSED),
     ("SET_RELEASED", returned::SET_RELEASED),
     ("SET_HELD", returned::SET_HELD),
+    ("IDLE", returned::IDLE),
     ("UNKNOWN_LETTER", returned::UNKNOWN_LETTER),
     ("WRONG_VALUES", returned::WRONG_VALUES),
     ("LENGTH", Refusal::Length as u32),
@@ -56,7 +57,7 @@ const DEFINED: [(&str, u32); 7] = [
 ];
 
 /// The calls that `raw.rs` declares.
-const CALLS: [&str; 6] = [
+const CALLS: [&str; 7] = [
     "uint32_t goulvizad_step(uint32_t *table, size_t table_words, uint32_t *ledger, \
      size_t ledger_words, uint32_t letter, uint32_t a, uint32_t b, uint32_t c, uint32_t d, \
      uint32_t *values, size_t values_words)",
@@ -70,6 +71,8 @@ const CALLS: [&str; 6] = [
      uint32_t *values, size_t values_words)",
     "uint32_t goulvizad_release_set(uint32_t *table, size_t table_words, uint32_t *ledger, \
      size_t ledger_words, const uint32_t *messages, size_t message_count, uint32_t *values, \
+     size_t values_words)",
+    "uint32_t goulvizad_dispatch(uint32_t *table, size_t table_words, uint32_t *values, \
      size_t values_words)",
 ];
 

@@ -1,8 +1,8 @@
 //! Houses that are saved, lent, cloned, cited from, and used from several threads at once.
 
 use goulvizad::{
-    citations, in_form, is_checkpoint, release_set, run, step, Answer, Citation, Refusal, Step,
-    Table, DESK, LEDGER_WORDS, SET_MOST, TABLE_WORDS,
+    citations, dispatch, in_form, is_checkpoint, release_set, run, step, Answer, Citation, Refusal,
+    Step, Table, DESK, LEDGER_WORDS, SET_MOST, TABLE_WORDS,
 };
 use std::thread;
 
@@ -134,8 +134,9 @@ fn a_list_is_its_steps_one_by_one() {
     assert_eq!(table, by_step);
 }
 
-/// The position of the gap in the words.
+/// The positions of the gap and of the controller last served in the words.
 const GAP: usize = 11;
+const SERVED: usize = 12;
 
 #[test]
 fn a_gap_is_kept_with_the_house() {
@@ -285,6 +286,40 @@ fn a_set_goes_whole_or_not_at_all() {
     assert_eq!((&words[..], ledger), (&table.words()[..], *table.ledger()));
     let cut = release_set(&mut words[1..], &mut ledger, &[4, 3]);
     assert_eq!(cut, Err(Refusal::Length));
+}
+
+/// Two for the second controller and one for the first, which has its turn between them. What is saved in the middle
+/// of a round goes on there.
+#[test]
+fn messages_are_handed_out_in_turns() {
+    let mut table = working();
+    assert_eq!(table.served(), 1);
+    for (message, receiver) in [(3, 1), (4, 1), (5, 0)] {
+        let sender = 1 - receiver;
+        let sending = Step::Send {
+            sender,
+            receiver,
+            payload: 0,
+        };
+        assert_eq!(table.step(sending), Ok(Answer::Sent { message }));
+        assert!(table.step(Step::Release { message }).is_ok());
+    }
+    let mut handed_out = Vec::new();
+    while let Ok(Answer::Delivered { message, .. }) = table.dispatch() {
+        handed_out.push((message, table.served()));
+        table = Table::restore(table.words(), table.ledger()).expect("a house");
+    }
+    assert_eq!(handed_out, [(5, 0), (3, 1), (4, 1)]);
+    let (mut words, before) = (table.words().to_vec(), table.clone());
+    assert_eq!(table.dispatch(), Ok(Answer::Idle));
+    assert_eq!(dispatch(&mut words), Ok(Answer::Idle));
+    assert!(table == before && words == before.words());
+    assert_eq!(dispatch(&mut words[1..]), Err(Refusal::Length));
+    words[SERVED] = 8;
+    assert_eq!(dispatch(&mut words), Err(Refusal::Form));
+    assert_eq!(Table::restore(&words, table.ledger()), Err(Refusal::Form));
+    assert_eq!(table.step(CRASH).map(drop), Ok(()));
+    assert!(matches!(table.dispatch(), Ok(Answer::Delivered { .. })));
 }
 
 /// Only an opening that is done takes them away.

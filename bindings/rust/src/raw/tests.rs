@@ -183,6 +183,26 @@ fn a_set_takes_null_buffers_of_no_words() {
 }
 
 #[test]
+fn the_dispatcher_takes_null_buffers_of_no_words() {
+    let dispatch = |table: Lent, values: Lent| {
+        let (table, table_words) = parts(table);
+        let (values, values_words) = parts(values);
+        // SAFETY: as in `lent`.
+        #[allow(unsafe_code)]
+        unsafe {
+            goulvizad_dispatch(table, table_words, values, values_words)
+        }
+    };
+    let mut table = vec![UNTOUCHED; TABLE_WORDS];
+    let mut values = [UNTOUCHED; VALUE_WORDS];
+    assert_eq!(dispatch(None, None), returned::WRONG_VALUES);
+    assert_eq!(dispatch(Some(&mut table), None), returned::WRONG_VALUES);
+    assert!(table.iter().all(|&word| word == UNTOUCHED));
+    assert_eq!(dispatch(None, Some(&mut values)), returned::REFUSED);
+    assert_eq!(values, [Refusal::Length.number(), 0, 0, 0, 0, 0]);
+}
+
+#[test]
 fn a_null_value_buffer_of_no_words_is_rejected() {
     let mut table = vec![UNTOUCHED; TABLE_WORDS];
     let mut ledger = [UNTOUCHED; LEDGER_WORDS];
