@@ -10,13 +10,14 @@ use std::collections::{BTreeMap, BTreeSet};
 use std::ops::RangeBounds;
 
 /// The answers but the refusals, in the order of the alphabet.
-const ANSWERS: [&str; 12] = [
+const ANSWERS: [&str; 13] = [
     "crashed",
     "delivered",
     "done",
     "dropped",
     "heard",
     "held",
+    "idle",
     "released",
     "rolled",
     "sent",
@@ -25,22 +26,24 @@ const ANSWERS: [&str; 12] = [
     "waits",
 ];
 
-/// Stand for the step that sets the gap and the one that releases a set, which have no letter.
+/// Stand for the step that sets the gap, the one that releases a set and the dispatcher, which have no letter.
 const SET_GAP: char = 'q';
 const RELEASE_SET: char = 's';
+const DISPATCH: char = 'd';
 
 fn letter(command: Command) -> char {
     let letter = lines::write(command).and_then(|line| line.chars().next());
     letter.unwrap_or(match command {
         Command::ReleaseSet { .. } => RELEASE_SET,
+        Command::Dispatch => DISPATCH,
         _ => SET_GAP,
     })
 }
 
 /// Which steps can be given each refusal, in the order of their letters.
 const REFUSED: [(Refusal, &str); 16] = [
-    (refusal::LENGTH, "CDHKLORSTXqs"),
-    (refusal::FORM, "CDHKLRSTXqs"),
+    (refusal::LENGTH, "CDHKLORSTXdqs"),
+    (refusal::FORM, "CDHKLRSTXdqs"),
     (refusal::CONTROLLER, "CHKLSTX"),
     (refusal::MESSAGE, "DRs"),
     (refusal::DEGREE, "KOq"),
@@ -115,7 +118,8 @@ pub struct Seen {
     answers: BTreeSet<String>,
     /// The refusals, each with the letter of its step.
     refusals: BTreeSet<(Refusal, char)>,
-    /// How often each case of causes, of rollbacks, of crashes named, of the desk, of the gap and of sets came up.
+    /// How often each case of causes, of rollbacks, of crashes named, of the desk, of the gap, of sets and of the
+    /// dispatcher came up.
     cases: BTreeMap<String, u64>,
     /// How far the houses went.
     pub extent: Extent,
@@ -135,8 +139,9 @@ impl Seen {
     }
 
     /// Takes note of what became of causes, of rollbacks, of crashes named, of readings for the desk, of new
-    /// intervals by the gap and of sets, in the words of [`reference::causes`], [`reference::rollbacks`],
-    /// [`reference::blames`], [`desk`](crate::desk), [`reference::forced`] and [`reference::sets`].
+    /// intervals by the gap, of sets and of calls of the dispatcher, in the words of [`reference::causes`],
+    /// [`reference::rollbacks`], [`reference::blames`], [`desk`](crate::desk), [`reference::forced`],
+    /// [`reference::sets`] and [`reference::dispatched`].
     pub fn note_cases(&mut self, cases: impl IntoIterator<Item = String>) {
         for case in cases {
             *self.cases.entry(case).or_default() += 1;

@@ -4,14 +4,14 @@
 use crate::agreement::Lent;
 use crate::effort;
 use reference::generate::{
-    condemned_table, damaged, damaged_gap, damaged_ledger, gap, gapped_table, in_form_table, named,
-    nearly_full_ledger, noise, senseless, set, set_table, sound_ledger, with_damage, wrong_length,
-    Profile, Random,
+    condemned_table, damaged, damaged_gap, damaged_ledger, damaged_served, dispatch_table, gap,
+    gapped_table, in_form_table, named, nearly_full_ledger, noise, senseless, set, set_table,
+    sound_ledger, with_damage, wrong_length, Profile, Random,
 };
 use reference::machine::Command;
 
-/// How many lists of each profile. In the first seven no gap is set, and only the last two have sets.
-pub const LISTS: [(&Profile, u64); 12] = [
+/// How many lists of each profile. In the first seven no gap is set, and only the last two call the dispatcher.
+pub const LISTS: [(&Profile, u64); 14] = [
     (&Profile::MIXED, 1_600),
     (&Profile::CRASHES, 700),
     (&Profile::PARTIAL, 500),
@@ -24,7 +24,12 @@ pub const LISTS: [(&Profile, u64); 12] = [
     (&Profile::LONG, 100),
     (&Profile::SETS, 700),
     (&Profile::REELS, 300),
+    (&Profile::DISPATCH, 700),
+    (&Profile::CROWDED, 100),
 ];
+
+/// The lists that no call of the dispatcher stands in.
+pub const UNDISPATCHED: usize = LISTS.len() - 2;
 
 /// Random lent tables of one kind.
 #[derive(Clone, Copy, Debug)]
@@ -50,6 +55,8 @@ enum Steps {
     WithGaps,
     /// Sets are released, with ledgers that often have little room.
     Sets,
+    /// Messages are dispatched, and steps that have a letter done.
+    Dispatch,
 }
 
 impl Tables {
@@ -131,6 +138,29 @@ impl Tables {
         make: condemned_table,
         steps: Steps::Lettered,
     };
+    /// Tables in form with much on its way, and with any controller as the one last served.
+    pub const DISPATCH: Tables = Tables {
+        name: "lent tables for calls",
+        seed: 12,
+        count: 4_000,
+        make: dispatch_table,
+        steps: Steps::Dispatch,
+    };
+    /// The same with one word changed, and others that are refused, mostly for the controller last served; some are
+    /// in form still.
+    pub const DISPATCH_DAMAGED: Tables = Tables {
+        name: "lent calls damaged",
+        seed: 13,
+        count: 1_500,
+        make: |random| match random.below(2) {
+            0 => damaged_served(random),
+            _ => {
+                let table = dispatch_table(random);
+                with_damage(random, table).0
+            }
+        },
+        steps: Steps::Dispatch,
+    };
     /// Those on which steps with letters are done.
     pub const ALL: [Tables; 6] = [
         Tables::IN_FORM,
@@ -142,6 +172,8 @@ impl Tables {
     ];
     /// Those on which sets are released.
     pub const FOR_SETS: [Tables; 2] = [Tables::SETS, Tables::SETS_DAMAGED];
+    /// Those on which messages are dispatched.
+    pub const TO_DISPATCH: [Tables; 2] = [Tables::DISPATCH, Tables::DISPATCH_DAMAGED];
 
     /// Each table with a ledger, and the steps for it.
     pub fn with_steps(self) -> impl Iterator<Item = (Lent, Vec<Command>)> {
@@ -160,6 +192,11 @@ impl Tables {
                     steps
                 }
                 Steps::Sets => sets(&mut random, &table).to_vec(),
+                Steps::Dispatch => {
+                    let mut steps = named(&mut random, &table);
+                    steps.extend([Command::Dispatch, senseless(&mut random)]);
+                    steps
+                }
             };
             (Lent { table, ledger }, steps)
         })
@@ -179,7 +216,7 @@ pub fn gaps_set(random: &mut Random) -> [Command; 2] {
 }
 
 /// A step of each letter with sensible numbers, where the table has its length, and ten with any. None
-/// sets the gap or releases a set.
+/// sets the gap, releases a set or dispatches.
 pub fn steps(random: &mut Random, words: &[u32]) -> Vec<Command> {
     let mut steps = named(random, words);
     steps.extend((0..10).map(|_| senseless(random)));

@@ -16,6 +16,7 @@ pub fn step(table: &mut [u32], ledger: &mut [u32], command: Command) -> Answer {
         Call::ReleaseSet(messages) => {
             goulvizad::release_set(table, ledger, &messages).map(answered)
         }
+        Call::Dispatch => goulvizad::dispatch(table).map(answered),
     })
 }
 
@@ -33,7 +34,7 @@ pub fn run(table: &mut [u32], ledger: &mut [u32], commands: &[Command]) -> Vec<A
     for &command in commands {
         match asked(command) {
             Call::Step(step) => steps.push(step),
-            Call::SetGap(_) | Call::ReleaseSet(_) => {
+            Call::SetGap(_) | Call::ReleaseSet(_) | Call::Dispatch => {
                 answers.extend(listed(table, ledger, &mut steps));
                 answers.push(step(table, ledger, command));
             }
@@ -75,12 +76,15 @@ enum Call {
     SetGap(u32),
     /// One that has none either.
     ReleaseSet(Messages),
+    /// The dispatcher, which takes no ledger either.
+    Dispatch,
 }
 
 fn asked(command: Command) -> Call {
     let step = match command {
         Command::SetGap { gap } => return Call::SetGap(gap),
         Command::ReleaseSet { messages } => return Call::ReleaseSet(messages),
+        Command::Dispatch => return Call::Dispatch,
         Command::Open { n, degree } => Step::Open { n, degree },
         Command::SetDegree { controller, degree } => Step::SetDegree { controller, degree },
         Command::Send {
@@ -180,6 +184,7 @@ fn answered(answer: goulvizad::Answer) -> Answer {
         },
         Proved::SetReleased { mask } => Answer::SetReleased { mask: mask.bits() },
         Proved::SetHeld { mask } => Answer::SetHeld { mask: mask.bits() },
+        Proved::Idle => Answer::Idle,
     }
 }
 

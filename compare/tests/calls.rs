@@ -1,6 +1,6 @@
 //! The C interface itself: letters that are no steps, value buffers of another length, numbers that
 //! aren't looked at, what stands in the values, and that nothing else is written. The call for a list of
-//! steps and the call that sets the gap have their own tests.
+//! steps, the one that sets the gap, the one for a set and the dispatcher have their own tests.
 
 mod called;
 mod margins;

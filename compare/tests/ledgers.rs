@@ -216,8 +216,8 @@ fn refusals_come_in_their_order() {
     }
 }
 
-/// Any words of any number, none too: the other eight steps answer as with the right ledger, do the
-/// same to the table, and leave the ledger as it is.
+/// Any words of any number, none too: the other eight steps, a gap set and the dispatcher answer as with the right
+/// ledger, do the same to the table, and leave the ledger as it is.
 #[test]
 fn other_steps_do_not_look_at_the_ledger() {
     let mut random = Random::new(2);

@@ -1,6 +1,6 @@
 //! Random lists of steps: after each step the answer and every word of the table and of the ledger
-//! agree, the table is in form, the ledger is the one that the steps say, and demand 3, the ceiling on replay
-//! and the crash that an answer names hold of the proved machine's own answers.
+//! agree, the table is in form, the ledger is the one that the steps say, and demand 3, the ceiling on replay,
+//! the crash that an answer names and that the dispatcher starves nobody hold of the proved machine's own answers.
 
 use compare::agreement::{beside, Buffer, Difference, Lent, Parting};
 use compare::coverage::{Extent, Seen};
@@ -8,6 +8,7 @@ use compare::inputs::LISTS;
 use compare::{desk, effort, in_form};
 use reference::causes::{self, Offers};
 use reference::demand::Judge;
+use reference::dispatched::{self, Rounds};
 use reference::generate::{Profile, Walk};
 use reference::machine::{Answer, Command, Fault};
 use reference::{blames, facts, forced, refusal, rollbacks, sets};
@@ -17,15 +18,18 @@ fn compare_list(profile: &'static Profile, seed: u64, seen: &mut Seen) {
     let mut judge = Judge::default();
     let mut opened = false;
     let mut offers = Offers::default();
+    let mut rounds = Rounds::default();
     let walk = Walk::new(seed, profile);
     let mut before = Lent::by(&walk);
     let together = beside(walk, |command, answer, lent| {
         let label = || format!("{} list {seed}: {command:?}, {answer:?}", profile.name);
         opened |= matches!((command, answer), (Command::Open { .. }, Answer::Done));
         assert_eq!(in_form(&lent.table), opened, "{}", label());
-        if let Answer::Refused { .. } | Answer::SetHeld { .. } = answer {
+        if let Answer::Refused { .. } | Answer::SetHeld { .. } | Answer::Idle = answer {
             assert!(*lent == before, "{}: words changed", label());
         }
+        let fair = rounds.feed(&before.table, command, answer);
+        assert!(fair.is_ok(), "{}: {fair:?}", label());
         let before_it = judge.history();
         let replayed = before_it.is_none_or(|history| facts::replayed_agrees(history, answer));
         assert!(replayed, "{}: not what the history has", label());
@@ -42,6 +46,7 @@ fn compare_list(profile: &'static Profile, seed: u64, seen: &mut Seen) {
         seen.note_cases(desk::case(&before, command, answer));
         seen.note_cases(forced::cases(before_it, command, answer, after_it));
         seen.note_cases(sets::cases(before_it, &before.ledger, command, answer));
+        seen.note_cases(dispatched::cases(before_it, command, answer));
         seen.note_extent(lent);
         before.clone_from(lent);
     });
@@ -81,6 +86,7 @@ fn the_machines_agree_on_every_step() {
             &forced::IN_LISTS,
             &forced::BESIDE_THE_CEILING,
             &sets::IN_LISTS,
+            &dispatched::IN_LISTS,
         ],
     );
     assert_eq!(seen.extent, Extent::UTMOST);
@@ -96,6 +102,8 @@ fn parting(fault: Fault) -> Option<Box<Parting>> {
         &Profile::CEILING,
         &Profile::SETS,
         &Profile::REELS,
+        &Profile::DISPATCH,
+        &Profile::CROWDED,
     ];
     profiles.into_iter().find_map(|profile| {
         (0..20).find_map(|seed| {
@@ -132,6 +140,7 @@ fn faults_are_found_by_answers_and_by_words() {
         (Fault::EntryOutOfOrder, Buffer::Ledger),
         (Fault::FirstLetOut, Buffer::Table),
         (Fault::PublishedInTableOrder, Buffer::Ledger),
+        (Fault::ServedNotWritten, Buffer::Table),
     ] {
         let by_word = difference(fault);
         let found = matches!(by_word, Some(Difference::Word { buffer, .. }) if buffer == place);

@@ -1,11 +1,12 @@
 //! Nothing is held for ever, and what is cited stands: the theorems on messages in `paper/specs/Theorems.antt`
 //! (theorem-A-1-messages, theorem-A-2 and those under its name), and `AllCitable` in `history/specs/Citable.antt`.
 //!
-//! In random lists both machines are held to these at every release, of a set too, and every delivery. Where a release
-//! was held, or let a message out, or a delivery waits, the list goes on for a second time: those whom the mask names are asked, or
-//! all but K of them, each by a checkpoint or a crash and by a telling after it, and the sender or the receiver hears
-//! every crash; in any order, and among other steps. Then the message goes out, or comes in, or its work is gone. At
-//! the end of a list everyone is asked so for one controller, and all its messages and all those to it are tried.
+//! In random lists both machines are held to these at every release, of a set too, and every delivery, by the
+//! dispatcher too, which is idle only where they leave nothing to do. Where a release was held, or let a message out,
+//! or a delivery waits, the list goes on for a second time: those whom the mask names are asked, or all but K of them,
+//! each by a checkpoint or a crash and by a telling after it, and the sender or the receiver hears every crash; in any
+//! order, and among other steps. Then the message goes out, or comes in, or its work is gone. At the end of a list
+//! everyone is asked so for one controller, and all its messages and all those to it are tried.
 
 mod woven;
 
@@ -17,7 +18,7 @@ use std::thread;
 use woven::{named, refused, weave, Aim, Broken, House, Met, Trial};
 
 /// How many lists of each profile.
-const LISTS: [(&Profile, u64); 12] = [
+const LISTS: [(&Profile, u64); 14] = [
     (&Profile::MIXED, 1_600),
     (&Profile::CRASHES, 700),
     (&Profile::PARTIAL, 500),
@@ -30,6 +31,8 @@ const LISTS: [(&Profile, u64); 12] = [
     (&Profile::LONG, 60),
     (&Profile::SETS, 700),
     (&Profile::REELS, 200),
+    (&Profile::DISPATCH, 300),
+    (&Profile::CROWDED, 30),
 ];
 
 /// How many other steps stand among those that are needed, of a hundred: none, half of them, most.
@@ -37,7 +40,7 @@ const OTHERS: [u32; 3] = [0, 50, 80];
 
 /// What comes up, and how often at least: by what those of a mask were secured; what is tried after an answer, or at
 /// the end of a list, by what was done for it; and what stands in the lists themselves.
-const CASES: [(&str, u64); 50] = [
+const CASES: [(&str, u64); 51] = [
     ("asked by a checkpoint", 20_000),
     ("asked by a crash", 12_000),
     ("asked by a rollback", 4_000),
@@ -67,6 +70,7 @@ const CASES: [(&str, u64); 50] = [
     ("list: a set refused", 2_500),
     ("list: dropped", 5_000),
     ("list: fewer named again", 3_000),
+    ("list: idle", 2_000),
     ("list: messages held in a set", 10_000),
     ("list: messages let out in a set", 20_000),
     ("list: not dropped", 90_000),
@@ -329,14 +333,15 @@ fn broken(fault: Fault) -> Option<Broken> {
         &Profile::PARTIAL,
         &Profile::CEILING,
         &Profile::SETS,
+        &Profile::DISPATCH,
     ];
     profiles
         .into_iter()
         .find_map(|profile| (0..20).find_map(|seed| check_list(profile, seed, fault).err()))
 }
 
-/// The check can fail: demand 3 accuses none of these machines, which hold or wait for ever, hold what is gone, or
-/// hear nothing.
+/// The check can fail: demand 3 accuses none of these machines, which hold or wait for ever, hold what is gone, hear
+/// nothing, or are idle with something to do.
 #[test]
 fn machines_that_hold_for_ever_are_found() {
     for fault in [
@@ -348,6 +353,9 @@ fn machines_that_hold_for_ever_are_found() {
         Fault::ForcedNotKnown,
         Fault::HeldKept,
         Fault::StoredPairsJoined,
+        Fault::IdleBeforeLooking,
+        Fault::DroppedPassedOver,
+        Fault::WaitingEndsTheRound,
     ] {
         let found = broken(fault);
         println!("{fault:?}: {found:?}");

@@ -154,13 +154,15 @@ fn written(walk: Walk) -> (String, String) {
         .unzip()
 }
 
-/// Whether a fault can show in what the program writes: its ledger isn't shown, and its gap is always off.
+/// Whether a fault can show in what the program writes: its ledger isn't shown, its gap is always off, and it has no
+/// line for a set or the dispatcher.
 fn shows_in_answers(fault: Fault) -> bool {
     let in_the_ledger_alone = matches!(
         fault,
         Fault::PublishedWithoutEntry | Fault::LedgerWrittenOnHeld | Fault::EntryOutOfOrder
     );
-    fault.shows_in_lists() && !in_the_ledger_alone && !fault.needs_a_gap() && !fault.needs_a_set()
+    let without_a_line = fault.needs_a_gap() || fault.needs_a_set() || fault.needs_the_dispatcher();
+    fault.shows_in_lists() && !in_the_ledger_alone && !without_a_line
 }
 
 /// The comparison through the program can fail: every planted fault shows in some answer, but for those

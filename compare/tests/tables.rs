@@ -6,13 +6,13 @@ use compare::coverage::Seen;
 use compare::inputs::{any_ledger, gaps_set, sets, steps, Tables};
 use compare::{desk, effort, in_form};
 use reference::generate::{
-    damaged, damaged_gap, gapped_table, in_form_table, nearly_full_ledger, set_table, Profile,
-    Random, Walk,
+    damaged, damaged_gap, damaged_served, dispatch_table, gapped_table, in_form_table,
+    nearly_full_ledger, set_table, Profile, Random, Walk,
 };
 use reference::machine::{self, Answer, Command, Fault};
 use reference::table::state::{DROPPED, HELD, PUBLISHED};
 use reference::table::{self, Message, Table, DESK, WORDS};
-use reference::{blames, causes, forced, ledger, refusal, rollbacks};
+use reference::{blames, causes, dispatched, forced, ledger, refusal, rollbacks};
 
 /// Does each of many steps on the table and the ledger as they were lent.
 fn compare_table(lent: &Lent, steps: Vec<Command>, seen: &mut Seen) {
@@ -21,7 +21,7 @@ fn compare_table(lent: &Lent, steps: Vec<Command>, seen: &mut Seen) {
         let agreed = on_lent(lent, command);
         let (answer, after) =
             agreed.unwrap_or_else(|difference| panic!("{command:?}: {difference:?}"));
-        if let Answer::Refused { .. } | Answer::SetHeld { .. } = answer {
+        if let Answer::Refused { .. } | Answer::SetHeld { .. } | Answer::Idle = answer {
             assert!(after == *lent, "{command:?}: words changed");
         }
         seen.note(command, answer);
@@ -32,6 +32,7 @@ fn compare_table(lent: &Lent, steps: Vec<Command>, seen: &mut Seen) {
         seen.note_cases(forced::cases(&lent.table, command, answer, &after.table));
         let sets = reference::sets::cases(&lent.table, &lent.ledger, command, answer);
         seen.note_cases(sets);
+        seen.note_cases(dispatched::cases(&lent.table, command, answer));
     }
 }
 
@@ -71,14 +72,23 @@ fn tables_in_form() {
     let condemned = compare_tables(Tables::CONDEMNED);
     assert!(condemned.steps >= 30_000);
     condemned.assert_often(&blames::CASES, 100);
-    let with_sets = compare_tables(Tables::SETS);
-    assert!(with_sets.steps >= 40_000);
-    let of_sets: [&[&str]; 2] = [&reference::sets::IN_LISTS, &reference::sets::ON_LENT_TOO];
-    with_sets.assert_cases::<&str>(&[], &of_sets);
     seen.join(gapped)
         .join(condemned)
-        .join(with_sets)
+        .join(sets_and_calls())
         .assert_all(refusal::CONTROLLER..);
+}
+
+/// What sets and the dispatcher come across on tables in form.
+fn sets_and_calls() -> Seen {
+    let sets = compare_tables(Tables::SETS);
+    assert!(sets.steps >= 40_000);
+    let of_sets: [&[&str]; 2] = [&reference::sets::IN_LISTS, &reference::sets::ON_LENT_TOO];
+    sets.assert_cases::<&str>(&[], &of_sets);
+    let calls = compare_tables(Tables::DISPATCH);
+    assert!(calls.steps >= 40_000);
+    calls.assert_often(&dispatched::IN_LISTS, 50);
+    calls.assert_often(&dispatched::ON_LENT_TOO, 50);
+    sets.join(calls)
 }
 
 #[test]
@@ -91,7 +101,13 @@ fn damaged_tables() {
     let sets = compare_tables(Tables::SETS_DAMAGED);
     assert!(sets.steps >= 10_000);
     assert_eq!(sets.refused(refusal::LENGTH), "s");
-    seen.join(gaps).join(sets).assert_all(refusal::FORM..);
+    let calls = compare_tables(Tables::DISPATCH_DAMAGED);
+    assert!(calls.steps >= 15_000);
+    assert_eq!(calls.refused(refusal::FORM), "CDHKLRSTXd");
+    seen.join(gaps)
+        .join(sets)
+        .join(calls)
+        .assert_all(refusal::FORM..);
 }
 
 #[test]
@@ -125,11 +141,12 @@ fn every_wrong_length_is_refused() {
             let mut steps = steps(&mut random, &lent.table);
             steps.extend(gaps_set(&mut random));
             steps.extend(sets(&mut random, &lent.table));
+            steps.push(Command::Dispatch);
             compare_table(&lent, steps, &mut seen);
         }
         assert!(!in_form(&lent.table), "{length} words");
     }
-    assert_eq!(seen.refused(refusal::LENGTH), "CDHKLORSTXqs");
+    assert_eq!(seen.refused(refusal::LENGTH), "CDHKLORSTXdqs");
     assert!(in_form(&whole[..WORDS]));
 }
 
@@ -142,20 +159,23 @@ fn every_planted_fault_that_no_list_shows_is_found() {
     left.retain(|fault| !fault.shows_in_lists());
     assert!(!left.is_empty());
     for round in 0..1_000 {
-        let table = match round % 5 {
+        let table = match round % 7 {
             0 => in_form_table(&mut random),
             1 => gapped_table(&mut random),
             2 => damaged_gap(&mut random),
             3 => set_table(&mut random),
+            4 => dispatch_table(&mut random),
+            5 => damaged_served(&mut random),
             _ => damaged(&mut random).0,
         };
-        let ledger = match round % 10 {
+        let ledger = match round % 14 {
             3 => nearly_full_ledger(&mut random),
             _ => any_ledger(&mut random),
         };
         let lent = Lent { table, ledger };
         let mut steps = steps(&mut random, &lent.table);
         steps.extend(sets(&mut random, &lent.table));
+        steps.push(Command::Dispatch);
         for command in steps {
             left.retain(|&fault| on_lent_with(fault, &lent, command).is_ok());
         }

@@ -4,18 +4,67 @@
 //!
 //! The steps are chosen by seeds and by the reference, never by what the library answered, so that every
 //! library is given the same.
+//!
+//! With the argument `undispatched` the lines are those that the `digest` of before the dispatcher prints with a
+//! library of before it: word 12 is taken as it was then, and the dispatcher isn't called.
 
 use compare::agreement::Lent;
 use compare::effort;
-use compare::inputs::{Tables, LISTS};
+use compare::inputs::{Tables, LISTS, UNDISPATCHED};
 use reference::generate::{Profile, Walk};
 use reference::lines;
 use reference::machine::{Answer, Command};
-use std::thread;
+use reference::table::LAST_SERVED;
+use std::{env, thread};
+
+const AS_BEFORE: &str = "undispatched";
+
+/// The position of the controller last served.
+const SERVED: usize = 12;
+
+/// What is lent, and word 12 of its table as it would be without a dispatcher: as it was lent, and 0 since a house was
+/// opened.
+struct House {
+    lent: Lent,
+    word: u32,
+}
+
+impl House {
+    fn of(lent: Lent) -> Self {
+        let word = lent.table.get(SERVED).copied();
+        House {
+            lent,
+            word: word.unwrap_or(0),
+        }
+    }
+
+    /// Does a step, and gives what it leaves. Without a dispatcher a table isn't in form where word 12 isn't 0.
+    fn step(&mut self, command: Command, undispatched: bool) -> (Answer, Lent) {
+        if undispatched && self.word != 0 {
+            set_word(&mut self.lent, LAST_SERVED + 1);
+        }
+        let answer = self.lent.step(command);
+        if matches!((command, answer), (Command::Open { .. }, Answer::Done)) {
+            self.word = 0;
+        }
+        let mut left = self.lent.clone();
+        if undispatched {
+            set_word(&mut left, self.word);
+        }
+        (answer, left)
+    }
+}
+
+fn set_word(lent: &mut Lent, word: u32) {
+    if let Some(served) = lent.table.get_mut(SERVED) {
+        *served = word;
+    }
+}
 
 /// FNV-1a of 64 bits, by words of 32 bits. It is written out here since the hashers of the standard
 /// library may change from one version to the next.
 struct Digest {
+    undispatched: bool,
     steps: u64,
     hash: u64,
 }
@@ -24,8 +73,9 @@ impl Digest {
     const BASIS: u64 = 0xCBF2_9CE4_8422_2325;
     const PRIME: u64 = 0x0100_0000_01B3;
 
-    fn new() -> Self {
+    fn new(undispatched: bool) -> Self {
         Digest {
+            undispatched,
             steps: 0,
             hash: Digest::BASIS,
         }
@@ -36,10 +86,10 @@ impl Digest {
     }
 
     /// Does a step, and takes in the line of its answer and every word that it left.
-    fn step(&mut self, lent: &mut Lent, command: Command) {
-        let answer = lent.step(command);
+    fn step(&mut self, house: &mut House, command: Command) {
+        let (answer, left) = house.step(command, self.undispatched);
         self.steps += 1;
-        self.note(answer, lent);
+        self.note(answer, &left);
     }
 
     fn note(&mut self, answer: Answer, left: &Lent) {
@@ -50,37 +100,51 @@ impl Digest {
     }
 }
 
-fn of_lists(profile: &'static Profile, lists: u64) -> Digest {
-    let mut digest = Digest::new();
+fn of_lists(profile: &'static Profile, lists: u64, undispatched: bool) -> Digest {
+    let mut digest = Digest::new(undispatched);
     for seed in 0..effort(lists) {
         let walk = Walk::new(seed, profile);
-        let mut lent = Lent::by(&walk);
-        walk.for_each(|(command, _)| digest.step(&mut lent, command));
+        let mut house = House::of(Lent::by(&walk));
+        walk.for_each(|(command, _)| digest.step(&mut house, command));
     }
     digest
 }
 
 /// Each step is done on the table and the ledger as they were lent.
-fn of_tables(tables: Tables) -> Digest {
-    let mut digest = Digest::new();
+fn of_tables(tables: Tables, undispatched: bool) -> Digest {
+    let mut digest = Digest::new(undispatched);
     for (lent, steps) in tables.with_steps() {
         for command in steps {
-            digest.step(&mut lent.clone(), command);
+            digest.step(&mut House::of(lent.clone()), command);
         }
     }
     digest
 }
 
 fn main() {
-    let lists = LISTS.map(|(profile, lists)| {
-        let worker = thread::spawn(move || of_lists(profile, lists));
-        (profile.name, worker)
-    });
-    let tables = Tables::ALL.into_iter().chain(Tables::FOR_SETS);
-    let tables = tables.map(|tables| (tables.name, thread::spawn(move || of_tables(tables))));
-    let tables: Vec<_> = tables.collect();
-    for (name, worker) in lists.into_iter().chain(tables) {
-        let Digest { steps, hash } = worker.join().expect("steps that all had an answer");
+    let undispatched = match env::args().nth(1) {
+        None => false,
+        Some(word) if word == AS_BEFORE => true,
+        Some(word) => panic!("{word}: not {AS_BEFORE}"),
+    };
+    let (mut lists, mut tables) = (LISTS.to_vec(), Tables::ALL.to_vec());
+    tables.extend(Tables::FOR_SETS);
+    if undispatched {
+        lists.truncate(UNDISPATCHED);
+    } else {
+        tables.extend(Tables::TO_DISPATCH);
+    }
+    let mut workers = Vec::new();
+    for (profile, lists) in lists {
+        let worker = thread::spawn(move || of_lists(profile, lists, undispatched));
+        workers.push((profile.name, worker));
+    }
+    for tables in tables {
+        let worker = thread::spawn(move || of_tables(tables, undispatched));
+        workers.push((tables.name, worker));
+    }
+    for (name, worker) in workers {
+        let Digest { steps, hash, .. } = worker.join().expect("steps that all had an answer");
         println!("{name:<22} {steps:>9} steps  {hash:016x}");
     }
 }
@@ -91,7 +155,7 @@ mod tests {
 
     #[test]
     fn it_is_fnv_1a() {
-        let mut digest = Digest::new();
+        let mut digest = Digest::new(false);
         "foobar".bytes().for_each(|byte| digest.take(byte.into()));
         assert_eq!(digest.hash, 0x8594_4171_F739_67E8);
     }
@@ -99,7 +163,7 @@ mod tests {
     #[test]
     fn every_answer_and_word_counts() {
         let of = |answer, table, ledger| {
-            let mut digest = Digest::new();
+            let mut digest = Digest::new(false);
             digest.note(answer, &Lent { table, ledger });
             digest.hash
         };

@@ -12,7 +12,7 @@ use std::collections::BTreeSet;
 pub const LETTERS: &[u8] = b"OKSRDLCTXH";
 
 /// The answers in the order of their numbers.
-const NAMES: [&str; 13] = [
+const NAMES: [&str; 14] = [
     "done",
     "sent",
     "released",
@@ -26,6 +26,7 @@ const NAMES: [&str; 13] = [
     "refused",
     "set_released",
     "set_held",
+    "idle",
 ];
 
 /// What a call asks for.

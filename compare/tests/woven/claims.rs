@@ -75,6 +75,7 @@ impl House {
             Command::Release { message } => self.allows_release(message, answer),
             Command::Deliver { message } => self.allows_delivery(message, answer),
             Command::ReleaseSet { messages } => self.allows_set(&messages, answer),
+            Command::Dispatch => self.allows_dispatch(answer),
             _ => true,
         }
     }
@@ -124,6 +125,28 @@ impl House {
             Answer::Waits { .. } => !condemned && !standing.is_cleared(),
             _ => !condemned && answer == self.beginning(message, receiver),
         }
+    }
+
+    /// A delivery that the dispatcher chooses is one like any other. It is idle only where none of the messages that
+    /// were let out and not yet taken must be dropped or can begin an interval.
+    fn allows_dispatch(&self, answer: Answer) -> bool {
+        match answer {
+            Answer::Delivered { message, .. } | Answer::Dropped { message, .. } => {
+                self.allows_delivery(message, answer)
+            }
+            Answer::Idle => self.told.keys().all(|&message| self.may_be_left(message)),
+            _ => false,
+        }
+    }
+
+    fn may_be_left(&self, message: u32) -> bool {
+        let Ok((standing, sent)) = self.released(message) else {
+            return true;
+        };
+        let (receiver, sending) = (sent.receiver as usize, sent.sending_interval);
+        let condemned = !self.history.orphans(receiver, &[sending]).is_empty();
+        let full = self.beginning(message, receiver) == refused(refusal::PLACES_USED_UP);
+        self.told[&message].taken || !condemned && (full || !standing.is_cleared())
     }
 
     /// The answer to a delivery that begins the receiver's next interval, if it has a place for one.

@@ -38,11 +38,12 @@ impl Met {
     }
 
     /// What a list itself comes across: deliveries, which are dropped exactly where they rest on lost work that was
-    /// heard of, and sets.
+    /// heard of, an idle dispatcher, and sets.
     pub fn note_step(&mut self, step: (Command, Answer)) {
         match step {
             (_, Answer::Dropped { .. }) => self.note("list: dropped"),
             (_, Answer::Delivered { .. } | Answer::Waits { .. }) => self.note("list: not dropped"),
+            (_, Answer::Idle) => self.note("list: idle"),
             (Command::ReleaseSet { messages }, Answer::SetReleased { .. }) => {
                 self.add("list: messages let out in a set", messages.len() as u64);
             }

@@ -183,6 +183,7 @@ impl Weave<'_> {
             Command::ReleaseSet { messages } => {
                 messages.iter().any(|m| self.aim.messages.contains(m))
             }
+            Command::Dispatch => !self.aim.messages.is_empty(),
             _ => false,
         }
     }

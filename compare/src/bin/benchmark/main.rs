@@ -1,10 +1,10 @@
 //! Times the proved machine and the reference on the same scripts, in one run: by the step, by the step of
 //! a list that is done in one call, by the line of the program, by the check that a table is in form, by single
-//! steps in a house with many live intervals: the hearing of a crash, and what the gap has a part in; and by
-//! a set of messages beside its single releases.
+//! steps in a house with many live intervals: the hearing of a crash, and what the gap has a part in; by a set of
+//! messages beside its single releases; and by the call of the dispatcher.
 //!
 //! With the argument `house_reference` it is the program of the reference, so that one command builds
-//! both sides. With the name of a row of the last three parts and a number it does that so often with the
+//! both sides. With the name of a row of the last four parts and a number it does that so often with the
 //! proved machine and no clock, to have its instructions counted.
 
 mod mixes;
@@ -69,6 +69,8 @@ fn main() -> io::Result<()> {
     singles::by_the_gap().iter().for_each(Single::time);
     heading("microseconds for 16 messages of one sender, 114 held");
     singles::sets().iter().for_each(Single::time);
+    heading("microseconds a call of the dispatcher, n = 8, 128 messages");
+    singles::calls().iter().for_each(Single::time);
     Ok(())
 }
 

@@ -1,5 +1,5 @@
-//! Single steps that are timed, each in a copy of a house that has many live intervals, and the release of many
-//! messages at once or one by one.
+//! Single steps that are timed, each in a copy of a house that has many live intervals, the release of many messages at
+//! once or one by one, and calls of the dispatcher.
 
 use compare::agreement::{on_lent, Lent};
 use compare::proved;
@@ -196,6 +196,51 @@ fn reel(stable: bool) -> Vec<Command> {
     steps
 }
 
+/// The messages by which the house of [`parted`] comes to its work, one of which is delivered anew.
+const PARTED_BY: u32 = 8;
+
+/// Calls of the dispatcher in the houses of [`parted`]: with one message that can go, for the last controller of the
+/// round; where all wait; and where none is released.
+pub fn calls() -> [Single; 3] {
+    let last = LAST_MESSAGE;
+    [
+        (
+            "the last of the round served, 119 passed over",
+            parted(last - 1, [true, true]),
+            "delivered 128 0 3",
+        ),
+        ("idle, 120 wait", parted(last, [true, false]), "idle"),
+        ("idle, none released", parted(last, [false, false]), "idle"),
+    ]
+    .map(|(name, steps, answer)| Single {
+        name,
+        house: led_to(&steps),
+        commands: vec![Command::Dispatch],
+        answer,
+    })
+}
+
+/// Steps to a house of eight with all its messages sent. All controllers but 0 rest on work that 0 has lost, and have
+/// not heard of it, so that what 0 has sent them since, up to this message, waits if it is released. One message
+/// more, from 1 to 7, needn't wait.
+fn parted(waiting: u32, [released, one_more]: [bool; 2]) -> Vec<Command> {
+    let mut steps = vec![Command::Open { n: 8, degree: 8 }];
+    steps.extend(passed(1, 1, 0));
+    steps.extend((1..8).flat_map(|c| passed(1 + c, 0, c)));
+    steps.extend([
+        Command::Crash { controller: 0 },
+        Command::Deliver { message: 1 },
+    ]);
+    for message in PARTED_BY + 1..=waiting {
+        let sent = passed(message, 0, 1 + message % 7);
+        steps.extend(&sent[..1 + usize::from(released)]);
+    }
+    if one_more {
+        steps.extend(&passed(waiting + 1, 1, 7)[..2]);
+    }
+    steps
+}
+
 impl Single {
     /// Prints its times by both machines.
     ///
@@ -232,7 +277,8 @@ impl Single {
 
 /// Does what has this name so many times with the proved machine, each in a copy of its house.
 pub fn repeat(name: &str, times: &str) -> io::Result<()> {
-    let mut singles = hearings().into_iter().chain(by_the_gap()).chain(sets());
+    let singles = hearings().into_iter().chain(by_the_gap());
+    let mut singles = singles.chain(sets()).chain(calls());
     let single = singles.find(|single| single.name == name);
     let single = single.ok_or(ErrorKind::InvalidInput)?;
     let times: usize = times.parse().map_err(io::Error::other)?;
