@@ -19,9 +19,6 @@ static const char *const names[CONTROLLERS] = {"arm", "drive", "catalogue", "ben
 /* The house. A real one is kept where it survives: these words are all that the machine knows. */
 static uint32_t table[GOULVIZAD_TABLE_WORDS];
 
-/* The word of the table that has the controller which the dispatcher served last. */
-enum { SERVED = 12 };
-
 /* What it has published. It belongs to the table, and is kept with it. */
 static uint32_t ledger[GOULVIZAD_LEDGER_WORDS];
 
@@ -237,7 +234,7 @@ static void hand_out(void)
         printf("hand out the next: ");
         print_answer(answer, values);
         if (answer == GOULVIZAD_DELIVERED)
-            ask(table[SERVED]);
+            ask(table[GOULVIZAD_SERVED_WORD]);
     } while (answer == GOULVIZAD_DELIVERED || answer == GOULVIZAD_DROPPED);
 }
 

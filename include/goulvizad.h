@@ -58,6 +58,9 @@ extern "C" {
 /* The receiver that is no controller: the desk, where readings leave the house. The same for every n. */
 #define GOULVIZAD_DESK 8
 
+/* The word of the table that has the controller which the dispatcher served last. */
+#define GOULVIZAD_SERVED_WORD 12
+
 /*
  * The steps. A letter is given by its ASCII code ('O' and so on), its numbers as a, b, c and d in the
  * order of its line. Those that it hasn't are not looked at; d is one that no step has yet. Controllers
@@ -148,8 +151,8 @@ extern "C" {
  * 'D' would deliver or drop; of these messages it takes the one with the lowest number, and does its 'D'.
  * Only goulvizad_dispatch does this; no letter does, so that it stands in no list of steps.
  *
- * Word 12 of the table has the controller that it served last: after GOULVIZAD_DELIVERED whom to hand the
- * message to. One whose message was dropped is served, too. An 'O' that is done makes it n - 1, so that
+ * table[GOULVIZAD_SERVED_WORD] has the controller that it served last: after GOULVIZAD_DELIVERED whom to
+ * hand the message to. One whose message was dropped is served, too. An 'O' that is done makes it n - 1, so that
  * the first round begins with controller 0, and nothing else writes it. A table from elsewhere may have
  * any number up to 7 there, whatever n is: the round begins with it plus 1, less n as often as needed.
  *

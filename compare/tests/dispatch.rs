@@ -8,7 +8,7 @@ use compare::agreement::{on_lent, on_lent_with, Lent};
 use compare::effort;
 use compare::inputs::Tables;
 use goulvizad::raw::returned::{DELIVERED, DROPPED, IDLE, REFUSED, WAITS, WRONG_VALUES};
-use goulvizad::raw::{call, dispatch, VALUE_WORDS};
+use goulvizad::raw::{call, dispatch, SERVED_WORD, VALUE_WORDS};
 use margins::{inner, within_margins, UNTOUCHED};
 use reference::dispatched::{offered, Rounds};
 use reference::generate::{
@@ -19,9 +19,6 @@ use reference::ledger;
 use reference::machine::{Answer, Command, Fault};
 use reference::refusal;
 use reference::table::{self, state, Message, Table, LAST_SERVED, WORDS};
-
-/// The position of the controller last served.
-const SERVED: usize = 12;
 
 /// The number and the values of an answer.
 type Told = (u32, [u32; VALUE_WORDS]);
@@ -87,7 +84,7 @@ fn a_call_is_the_delivery_of_its_message() {
             let mut by_number = lent.table.clone();
             assert_eq!(delivered(&mut by_number, message), given);
             let table = Table::new(&lent.table[..]).expect("a table of its length");
-            by_number[SERVED] = table.message(message).receiver;
+            by_number[SERVED_WORD] = table.message(message).receiver;
             assert!(after.table == by_number, "{answer:?}");
             served += 1;
             dropped += u32::from(given.0 == DROPPED);
@@ -160,7 +157,7 @@ fn every_word_at_every_size() {
                 let (_, after) = alike(&lent, Command::Dispatch);
                 let given = told(&mut lent.table);
                 assert_eq!(given, (DELIVERED, [n - c, 0, 2, 0, 0, 0]), "{word} of {n}");
-                assert_eq!(lent.table[SERVED], c, "{word} of {n}");
+                assert_eq!(lent.table[SERVED_WORD], c, "{word} of {n}");
                 assert!(lent == after);
             }
             assert_eq!(told(&mut lent.table), (IDLE, [0; VALUE_WORDS]));
@@ -177,16 +174,16 @@ fn openings_and_calls_alone_write_the_word() {
             ledger: vec![0; ledger::WORDS],
         };
         lent.step(Command::Open { n, degree: 0 });
-        assert_eq!(lent.table[SERVED], n - 1);
+        assert_eq!(lent.table[SERVED_WORD], n - 1);
     }
     let mut random = Random::new(1);
     for _ in 0..effort(300) {
         let (table, ledger) = (dispatch_table(&mut random), sound_ledger(&mut random));
         let mut lent = Lent { table, ledger };
-        let word = lent.table[SERVED];
+        let word = lent.table[SERVED_WORD];
         for _ in 0..20 {
             lent.step(other_step(&mut random, &lent.table));
-            assert_eq!(lent.table[SERVED], word);
+            assert_eq!(lent.table[SERVED_WORD], word);
         }
     }
 }
@@ -246,7 +243,7 @@ fn one_call_less_is_not_enough() {
             let has = offered.any(|offered| offered.receiver == n - 1 && offered.fate.is_taken());
             assert!(has, "call {call} of {n}");
             assert_eq!(told(&mut lent.table).0, DELIVERED);
-            assert_eq!(lent.table[SERVED] == n - 1, call == n);
+            assert_eq!(lent.table[SERVED_WORD] == n - 1, call == n);
         }
     }
 }

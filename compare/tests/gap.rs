@@ -6,16 +6,15 @@ mod margins;
 use compare::agreement::{on_lent, Lent};
 use compare::{effort, in_form, is_checkpoint};
 use goulvizad::raw::returned::{DONE, REFUSED, WRONG_VALUES};
-use goulvizad::raw::{set_gap, VALUE_WORDS};
+use goulvizad::raw::{set_gap, SERVED_WORD, VALUE_WORDS};
 use margins::{inner, within_margins, UNTOUCHED};
 use reference::generate::{damaged_gap, gap, gapped_table, noise, Profile, Random, Walk};
 use reference::machine::{Answer, Command};
 use reference::table::{self, Table, LAST_GAP, LAST_INCARNATION, LAST_NUMBER, WORDS};
 use reference::{ledger, refusal};
 
-/// The positions of the gap and of the controller last served.
+/// The position of the gap.
 const GAP: usize = 11;
-const SERVED: usize = 12;
 
 /// A house in which much has been done.
 fn house() -> Vec<u32> {
@@ -138,7 +137,7 @@ fn nothing_beside_the_buffers_is_written() {
 #[test]
 fn the_gap_alone_may_be_other_than_0() {
     let mut house = house();
-    for position in (2..16).filter(|&position| position != SERVED) {
+    for position in (2..16).filter(|&position| position != SERVED_WORD) {
         let word = house[position];
         for other in gaps() {
             house[position] = other;

@@ -153,7 +153,7 @@ mod table;
 
 pub use answer::{Answer, Mask};
 pub use ledger::{citations, Citation};
-pub use raw::{LEDGER_WORDS, SET_MOST, TABLE_WORDS};
+pub use raw::{LEDGER_WORDS, SERVED_WORD, SET_MOST, TABLE_WORDS};
 pub use refusal::Refusal;
 pub use step::{Step, DESK};
 pub use table::Table;
@@ -288,15 +288,15 @@ pub fn release_set(
 /// which it served last, and takes the first that has a released message which [`Step::Deliver`] would deliver or
 /// drop, and of these messages the one with the lowest number. No ledger is looked at.
 ///
-/// The answer is [`Delivered`](Answer::Delivered) or [`Dropped`](Answer::Dropped), as by [`Step::Deliver`], and word 12
-/// has the controller that was served; or [`Idle`](Answer::Idle), where each released message waits or its receiver
-/// has no place left. It is refused for the length and the form of the words alone.
+/// The answer is [`Delivered`](Answer::Delivered) or [`Dropped`](Answer::Dropped), as by [`Step::Deliver`], and
+/// word [`SERVED_WORD`] has the controller that was served; or [`Idle`](Answer::Idle), where each released message
+/// waits or its receiver has no place left. It is refused for the length and the form of the words alone.
 ///
 /// A controller that has such a message before each of n calls running, of n controllers, is served in one of them,
 /// whatever other steps but openings come between the calls.
 ///
 /// ```
-/// use goulvizad::{dispatch, step, Answer, Refusal, Step, LEDGER_WORDS, TABLE_WORDS};
+/// use goulvizad::{dispatch, step, Answer, Refusal, Step, LEDGER_WORDS, SERVED_WORD, TABLE_WORDS};
 ///
 /// let (mut words, mut ledger) = (vec![0; TABLE_WORDS], [0; LEDGER_WORDS]);
 /// assert_eq!(dispatch(&mut words), Err(Refusal::Form));
@@ -305,7 +305,7 @@ pub fn release_set(
 /// assert_eq!(dispatch(&mut words), Ok(Answer::Idle));
 /// step(&mut words, &mut ledger, Step::Release { message: 1 })?;
 /// assert!(matches!(dispatch(&mut words), Ok(Answer::Delivered { message: 1, .. })));
-/// assert_eq!(words[12], 1);
+/// assert_eq!(words[SERVED_WORD], 1);
 /// # Ok::<(), Refusal>(())
 /// ```
 ///

@@ -21,6 +21,9 @@ pub const ANSWER_WORDS: usize = 7;
 /// The most messages of a set.
 pub const SET_MOST: usize = 16;
 
+/// The word of a table that has the controller which the dispatcher served last.
+pub const SERVED_WORD: usize = 12;
+
 /// What [`in_form`] returns for a table in form; otherwise it is 0.
 pub const FORMED: u32 = 1;
 

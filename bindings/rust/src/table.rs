@@ -1,12 +1,10 @@
 //! A house that owns its words and its ledger.
 
 use crate::{
-    citations, in_form, is_checkpoint, Answer, Citation, Refusal, Step, LEDGER_WORDS, TABLE_WORDS,
+    citations, in_form, is_checkpoint, Answer, Citation, Refusal, Step, LEDGER_WORDS, SERVED_WORD,
+    TABLE_WORDS,
 };
 use std::fmt::{self, Debug, Formatter};
-
-/// The position of the controller last served.
-const SERVED: usize = 12;
 
 /// A house that owns its words and its ledger. Only steps change them, so they always belong together.
 #[derive(Clone, PartialEq, Eq)]
@@ -94,7 +92,7 @@ impl Table {
     /// The controller that [`dispatch`](Table::dispatch) served last; the last one after an opening, so that the first
     /// round begins with controller 0.
     pub fn served(&self) -> u32 {
-        self.words[SERVED]
+        self.words[SERVED_WORD]
     }
 
     /// Whether the newest live interval of a controller is a checkpoint, as

@@ -1,7 +1,8 @@
 //! Every number, length, letter and call of `include/goulvizad.h` is the one that is used here.
 
 use goulvizad::raw::{
-    returned, ANSWER_WORDS, LEDGER_WORDS, SET_MOST, STEP_WORDS, TABLE_WORDS, VALUE_WORDS,
+    returned, ANSWER_WORDS, LEDGER_WORDS, SERVED_WORD, SET_MOST, STEP_WORDS, TABLE_WORDS,
+    VALUE_WORDS,
 };
 use goulvizad::{Refusal, Step, DESK};
 use std::fs;
@@ -45,8 +46,8 @@ const NAMED: [(&str, u32); 32] = [
 ];
 
 /// What the header defines: the lengths of the buffers, of a step and of an answer, the most messages of a
-/// set, and the receiver that is no controller.
-const DEFINED: [(&str, u32); 7] = [
+/// set, the receiver that is no controller, and the word of the controller last served.
+const DEFINED: [(&str, u32); 8] = [
     ("TABLE_WORDS", TABLE_WORDS as u32),
     ("LEDGER_WORDS", LEDGER_WORDS as u32),
     ("VALUE_WORDS", VALUE_WORDS as u32),
@@ -54,6 +55,7 @@ const DEFINED: [(&str, u32); 7] = [
     ("ANSWER_WORDS", ANSWER_WORDS as u32),
     ("SET_MOST", SET_MOST as u32),
     ("DESK", DESK),
+    ("SERVED_WORD", SERVED_WORD as u32),
 ];
 
 /// The calls that `raw.rs` declares.

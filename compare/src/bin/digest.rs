@@ -11,6 +11,7 @@
 use compare::agreement::Lent;
 use compare::effort;
 use compare::inputs::{Tables, LISTS, UNDISPATCHED};
+use goulvizad::SERVED_WORD;
 use reference::generate::{Profile, Walk};
 use reference::lines;
 use reference::machine::{Answer, Command};
@@ -18,9 +19,6 @@ use reference::table::LAST_SERVED;
 use std::{env, thread};
 
 const AS_BEFORE: &str = "undispatched";
-
-/// The position of the controller last served.
-const SERVED: usize = 12;
 
 /// What is lent, and word 12 of its table as it would be without a dispatcher: as it was lent, and 0 since a house was
 /// opened.
@@ -31,7 +29,7 @@ struct House {
 
 impl House {
     fn of(lent: Lent) -> Self {
-        let word = lent.table.get(SERVED).copied();
+        let word = lent.table.get(SERVED_WORD).copied();
         House {
             lent,
             word: word.unwrap_or(0),
@@ -56,7 +54,7 @@ impl House {
 }
 
 fn set_word(lent: &mut Lent, word: u32) {
-    if let Some(served) = lent.table.get_mut(SERVED) {
+    if let Some(served) = lent.table.get_mut(SERVED_WORD) {
         *served = word;
     }
 }
