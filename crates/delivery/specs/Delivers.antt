@@ -2,7 +2,7 @@
 use mathlib.Core.Path.{_≡_, sym, ap, _∙_, subst}
 use mathlib.Core.Bool.{Bool, true, false}
 use mathlib.Core.List.{List}
-use Prim.Native.Nat.{ℕ, _+_, _<_}
+use Prim.Native.Nat.{ℕ, _+_, _<_, _-_}
 use native.Mathlib.Omega.{arith}
 use lib.ListN.{length, set}
 use Rattle.base.specs.Cases.{firstOf}
@@ -12,7 +12,7 @@ use Rattle.table.specs.Layout.{controllers, tableWords}
 use Rattle.table.specs.Words.{state, words, then-put}
 use Rattle.table.specs.Numbering.{numberOf, recordOf}
 use Rattle.rules.specs.Limits.{house}
-use Rattle.rules.specs.Vector.{Vector, pair, incarnation, pairOf, messageVector, filtered, condemned, condemning, conflict, merged}
+use Rattle.rules.specs.Vector.{Vector, pair, incarnation, pairOf, messageVector, filtered, condemned, condemning, conflict, merged, placeVector}
 use Rattle.rules.specs.Form.{stateReleased, stateDelivered}
 use Rattle.rules.specs.Shared.{placeRecord, capped}
 use Rattle.rules.specs.Steps.{intervalAdded, intervalBegins, noPlace, chainFull, ours, theirs, prospect, comesOf, deliver, messageRefusals, stepDeliver}
@@ -60,36 +60,39 @@ module _ (t : List ℕ) (r c : ℕ) (v : Vector) (b : Bool) (ce : c ≡ state t 
   unfolding prospect
   would-drop h owner e = rw (← ce, ← ve, ← be, h) (ap (λ k. WouldDrop k (incarnation (pairOf v k))) e)
 
--- it is not, and x and y are the newest vector of c and the message's, filtered for c
-pub record Spared (t : List ℕ) (r c : ℕ) (x y : Vector) : Type 0 where
+-- it is not, y is its vector filtered for c, and c has this many live intervals
+pub record Spared (t : List ℕ) (r c : ℕ) (y : Vector) (live : ℕ) : Type 0 where
   pub receiver-is : c ≡ state t (Receiver r)
   pub spared : condemned (state t) c (messageVector (state t) r) ≡ false
-  pub ours-is : x ≡ ours (state t) c
   pub theirs-is : y ≡ theirs (state t) c r
+  pub live-is : live ≡ state t (LiveCount c)
 
-pub spares : (t : List ℕ) (r c : ℕ) (v x y : Vector) (b : Bool) → c ≡ state t (Receiver r) → v ≡ messageVector (state t) r → b ≡ condemned (state t) c v → b ≡ false →
-    x ≡ ours (state t) c → y ≡ filtered (state t) c v → Spared t r c x y
-spares t r c v x y b ce ve be h xe ye =
-    record { receiver-is = ce; spared = ap (condemned (state t) c) (sym ve) ∙ sym be ∙ h; ours-is = xe; theirs-is = ye ∙ ap (filtered (state t) c) ve }
+pub spares : (t : List ℕ) (r c : ℕ) (v y : Vector) (b : Bool) (live : ℕ) → c ≡ state t (Receiver r) → v ≡ messageVector (state t) r → b ≡ condemned (state t) c v → b ≡ false →
+    y ≡ filtered (state t) c v → live ≡ state t (LiveCount c) → Spared t r c y live
+spares t r c v y b live ce ve be h ye le =
+    record { receiver-is = ce; spared = ap (condemned (state t) c) (sym ve) ∙ sym be ∙ h; theirs-is = ye ∙ ap (filtered (state t) c) ve; live-is = le }
 
--- d says whether they conflict
-module _ {t : List ℕ} {r c : ℕ} {x y : Vector} (w : Spared t r c x y) (d : Bool) (de : d ≡ conflict c x y) where
-  -- they do
+-- d says whether the newest vector of c, filtered for c, conflicts with it
+module _ {t : List ℕ} {r c : ℕ} {y : Vector} {live : ℕ} (w : Spared t r c y live) (d : Bool) (de : d ≡ conflict c (filtered (state t) c (placeVector (state t) c (live - 1))) y) where
+  conflict-is : d ≡ conflict c (ours (state t) c) (theirs (state t) c r)
+  conflict-is = de ∙ (λ i. conflict c (filtered (state t) c (placeVector (state t) c (w .live-is i - 1))) (w .theirs-is i))
+
+  -- it does
   pub would-wait : d ≡ true → WouldWait ≡ prospect house (state t) r
   unfolding prospect
-  would-wait q = rw (← w .receiver-is, w .spared, ← w .ours-is, ← w .theirs-is, ← de, q)
+  would-wait q = rw (← w .receiver-is, w .spared, ← conflict-is, q)
 
-  -- they do not, and c has this many live intervals
-  module _ (q : d ≡ false) (live : ℕ) (le : live ≡ state t (LiveCount c)) (full : Bool) (fe : full ≡ noPlace house (state t) c live) where
+  -- it does not
+  module _ (q : d ≡ false) (full : Bool) (fe : full ≡ noPlace house (state t) c live) where
     -- no place is left
     pub no-place-left : full ≡ true → NoPlaceLeft ≡ prospect house (state t) r
     unfolding prospect
-    no-place-left z = rw (← w .receiver-is, w .spared, ← w .ours-is, ← w .theirs-is, ← de, q, ← le, ← fe, z)
+    no-place-left z = rw (← w .receiver-is, w .spared, ← conflict-is, q, ← w .live-is, ← fe, z)
 
     -- or one is
     pub would-begin : full ≡ false → WouldBegin ≡ prospect house (state t) r
     unfolding prospect
-    would-begin z = rw (← w .receiver-is, w .spared, ← w .ours-is, ← w .theirs-is, ← de, q, ← le, ← fe, z)
+    would-begin z = rw (← w .receiver-is, w .spared, ← conflict-is, q, ← w .live-is, ← fe, z)
 
 -- WHAT COMES OF IT
 -- the receiver of a message that D may take has its chain

@@ -55,12 +55,12 @@ pub fn prospect(t: &[u32], r: usize) -> Prospect
         let owner = vector::condemning(t, c, sent);
         return Prospect::WouldDrop(owner as u32, sent[owner][0]);
     }
-    let ours = message::newest_vector(t, c);
     let theirs = vector::filter_vector(t, c, sent);
-    if vector::conflict(c, ours, theirs) {
+    let live = table::live_count(t, c);
+    if vector::place_conflict(t, c, live as usize - 1, theirs) {
         return Prospect::WouldWait;
     }
-    if interval::no_place(t, c, table::live_count(t, c)) {
+    if interval::no_place(t, c, live) {
         return Prospect::NoPlaceLeft;
     }
     Prospect::WouldBegin

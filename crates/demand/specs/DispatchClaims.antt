@@ -1,10 +1,10 @@
 -- What a tester looks for by name in the dispatcher (W7). Which messages would be delivered or dropped is said by what D would answer.
 use Prim.Native.Nat.{_-_}
-use Rattle.history.specs.Fair.{ServesInTurn, IdleIfNobodyHas, FairIn, Fair, IdleLeavesNothing, Drains, DrainsAll}
+use Rattle.history.specs.Fair.{ServesInTurn, IdleIfNobodyHas, FairIn, Fair, IdleLeavesNothing, Drains}
 use Rattle.fairness.specs.Fair.{fair, idle-leaves-nothing}
 use Rattle.fairness.specs.InTurn.{serves-in-turn, idle-if-nobody-has}
 use Rattle.fairness.specs.Example.{n-calls-needed}
-use Rattle.fairness.specs.Drained.{drains, drains-all}
+use Rattle.fairness.specs.Drained.{drains}
 
 -- 1. "Each call goes round from the controller that is word 12 plus 1, less n as often as needed, and takes the first that has a released message for
 -- it which would be delivered or dropped. Of these it takes the lowest number and performs that delivery", as D does; word 12 is the controller that
@@ -29,10 +29,6 @@ n-calls-are-needed = n-calls-needed
 pub idle-leaves-nothing-deliverable : IdleLeavesNothing
 idle-leaves-nothing-deliverable = idle-leaves-nothing
 
--- 128 calls leave that in every table in form;
+-- 128 calls leave that in every table in form. Where all have heard, written and told, none of these waits: `empties-house` in crate `paper`.
 pub all-calls-leave-nothing-deliverable : Drains
 all-calls-leave-nothing-deliverable = drains
-
--- and where no released message can wait only those that would be refused with 12.
-pub all-calls-leave-full-receivers-alone : DrainsAll
-all-calls-leave-full-receivers-alone = drains-all

@@ -25,7 +25,7 @@ use Rattle.rules.specs.declared.Answer.the-variants.{Refused}
 use Rattle.rules.specs.declared.Command.the-variants.{Deliver}
 use Rattle.rules.specs.declared.Prospect.the-variants.{NoPlaceLeft}
 use Rattle.history.specs.Demand.{Run, next, runs}
-use Rattle.history.specs.Fair.{Unhindered, IsReleased, drained, Drains, DrainsAll}
+use Rattle.history.specs.Fair.{IsReleased, drained, Drains}
 use Rattle.laws.specs.Facts.{Form, form, house-fits, released-lt, below-8, message-near}
 use Rattle.laws.specs.Records.{messageVector-of}
 use Rattle.laws.specs.Agree.{messageVector-same}
@@ -38,7 +38,7 @@ use Rattle.laws.specs.Dispatching.{Servable, has-one, record-lt, NobodyHas, Tak
 use Rattle.keeping.specs.Dispatch.{deliver-is, dispatch-is}
 use Rattle.calls.specs.Would.{would-not}
 use Rattle.fairness.specs.Fair.{passes-over}
-use Rattle.fairness.specs.Settling.{leaves, deliver-leaves, deliver-settles, full-if-passed, unhindered-kept}
+use Rattle.fairness.specs.Settling.{Unhindered, leaves, deliver-leaves, deliver-settles, full-if-passed, unhindered-kept}
 
 -- COUNTING
 -- one that passes the second test alone makes a difference
@@ -239,12 +239,12 @@ full : (t g : List ℕ) (m : ℕ) → Lent t → let σ = state t in recordOf σ
 unfolding deliver comesOf
 full t g m table l e z = rw (deliver-is t g m table, let-through house (state t) m l e, z)
 
-pub drains-all : DrainsAll
-drains-all r long good free m is =
+pub drains-all : (r : Run) → Lent (r .table) → ((m : ℕ) → IsReleased r m → Unhindered (state (r .table)) (recordOf (state (r .table)) m)) → (m : ℕ) → IsReleased (drained r) m →
+    step (drained r .table) (drained r .ledger) (Deliver m) .answer ≡ Refused PLACES-USED-UP
+drains-all r table free m is =
     let q = drained r in
     let σ = state (r .table) in
     let k = recordOf (state (q .table)) m in
-    let table : Lent (r .table) = record { long = long; good = good } in
     let then = led messages r table in
     let was = then .released-then k (is .there) (is .released) in
     let back = record-of-message σ k (was .0) in

@@ -26,7 +26,6 @@ use Rattle.rules.specs.declared.Prospect.the-variants.{WouldDrop, WouldWait, No
 use Rattle.laws.specs.Facts.{Near}
 use Rattle.laws.specs.Records.{part-other}
 use Rattle.laws.specs.Delivering.{prospect-cases, deliver-cases}
-use Rattle.history.specs.Fair.{Unhindered, drops, known}
 use Rattle.laws.specs.Dispatching.{Servable, let-through}
 
 -- A DELIVERY
@@ -92,6 +91,12 @@ deliver-settles L σ m s e =
         omega (arith, is)
 
 -- WAITING
+-- The message in record k can't wait: it is condemned to its receiver, or its vector names nothing of other controllers that its receiver doesn't know
+-- to be stable.
+pub data Unhindered (σ : State) (k : ℕ) : Type 0 where
+  drops : condemned σ (σ (Receiver k)) (messageVector σ k) ≡ true → Unhindered σ k
+  known : ((owner : ℕ) → owner < controllers → owner ≢ σ (Receiver k) → knownStable σ (σ (Receiver k)) owner (pairOf (messageVector σ k) owner) ≡ true) → Unhindered σ k
+
 -- a vector of which c knows all that it has of others is in conflict with none
 conflict-none : (σ : State) (c : ℕ) (v w : Vector) → ((owner : ℕ) → owner < controllers → owner ≢ c → knownStable σ c owner (pairOf w owner) ≡ true) →
     conflict c v (filtered σ c w) ≡ false

@@ -12,6 +12,7 @@ use Rattle.table.specs.Words.{state}
 use Rattle.table.specs.Numbering.{lastLive, used, recordOf, present-pos, given-present}
 use Rattle.rules.specs.Limits.{house}
 use Rattle.rules.specs.Form.{stateHeld, stateReleased}
+use Rattle.rules.specs.Vector.{messageVector, condemned}
 use Rattle.rules.specs.Steps.{chainFull}
 use Rattle.rules.specs.Step.{Call, asks}
 use Rattle.rules.specs.declared.Answer.{Answer}
@@ -23,6 +24,7 @@ use Rattle.history.specs.History.{Interval, History, newest}
 use Rattle.history.specs.Demand.{Run, stepIn, named, RestsOnLost, FromOpening, upTo, end}
 use Rattle.history.specs.Progress.{Orphan, Drops, SentIn, SendingLive, HeldIn, LetOutIn, NotLetOut, HasHeard, Deliverable}
 use Rattle.history.specs.Asked.{Secures, SecuredIn, Asked, AllAsked, Cleared, held-without, out-without, was-asked, AllCleared, Names, Unlearned, GoesOut, GoesOutWithin, NotHeld, Begins, Arrives}
+use Rattle.fairness.specs.Settling.{Unhindered, drops, known}
 use Rattle.history.specs.Uses.{mask-cleared}
 use Rattle.model.specs.Model.{Model, full, filtered, releasedVec}
 use Rattle.model.specs.Tests.{Is, contrary, eq?}
@@ -33,7 +35,7 @@ use Rattle.model.specs.Paper.{useful-live, theorem-3-message}
 use Rattle.base.specs.Ranges.{count, count-le}
 use Rattle.image.specs.Reads.{sent-is, incarnation-is, live-is, present-sent, to-is}
 use Rattle.image.specs.Tables.{sizeOf, opening-done}
-use Rattle.progress.specs.Answers.{checkpoint-answers, tell-answers, recordIn, receiverIn, deliverable-is, receiver-below, delivery-drops, dropped-condemned, delivery-goes, release-refused}
+use Rattle.progress.specs.Answers.{checkpoint-answers, tell-answers, recordIn, receiverIn, deliverable-is, receiver-below, delivery-drops, dropped-condemned, delivery-goes, release-refused, condemned-there, known-there}
 use Rattle.demand.specs.Demanded.{table-inv}
 use Rattle.paper.specs.Ready.{Ready, modelIn, stateOfMessage, there-ok, ready, sent-there}
 use Rattle.paper.specs.Crashes.{heard-loss, live-sure}
@@ -41,7 +43,7 @@ use Rattle.paper.specs.Holding.{is-held}
 use Rattle.paper.specs.Discarded.{held-live}
 use Rattle.paper.specs.Spreading.{first, ready-at, grown-from}
 use Rattle.paper.specs.Named.{held-covers, few-go}
-use Rattle.paper.specs.Interleaved.{clear-emptied, sending-then, learned-known, held-clear, names-full, cleared-clear, all-emptied, held-goes-out}
+use Rattle.paper.specs.Interleaved.{clear-emptied, sending-then, learned-known, held-clear, names-full, cleared-clear, all-emptied, held-goes-out, Clear}
 
 -- what rests on one lost in a crash that was heard is an orphan
 loss-orphan : {h : History} {b : ℕ} {y : Interval} → RestsOnLost h h b y → Orphan h y
@@ -288,6 +290,17 @@ module _ (t g : List ℕ) (n k : ℕ) (l : List Call) (O : FromOpening t g n k l
     pub cleared-arrives : AllCleared t g n k l m c → HasHeard t g n k l c → Arrives t g n k l m
     cleared-arrives all heard =
         record { dropped = (λ e. loss-orphan (dropped-exactly .0 e), λ o. dropped-exactly .1 (heard-loss t g n k l O c heard (h .sending m) o)); otherwise = useful-arrives all }
+
+    -- Where its receiver has heard every crash and the others are cleared for it, nothing hinders it: it is condemned, or the receiver knows all that its
+    -- vector names of others to be stable.
+    pub unhindered : ((a : ℕ) → a < n → a ≢ c → Cleared t g n k l m c a) → HasHeard t g n k l c → Unhindered σ (recordOf σ m)
+    unhindered others heard =
+        either (condemned σ (receiverIn u m) (messageVector σ (recordOf σ m))) (λ e. drops e)
+        (λ e. let sure : Orphan h (h .sending m) → ⊥ = λ o.
+        contrary (condemned-there u (r .ledger) (s .sound) m here (is-released .1) (subst (λ X. X) (sym doomed-is) (judged .1 (heard-loss t g n k l O c heard (h .sending m) o)))) e in
+        known (λ a low other. known-there u (r .ledger) (s .sound) m here (is-released .1) a low
+        (λ below. subst (λ b. Clear μ m b a) (sym receiver-is)
+        (cleared-clear t g n k l O m here sure c a receiver-in (others a (omega (arith, below, s .holds .reads .size-is)) (λ z. other (z ∙ sym receiver-is)))))))
 
     -- By the mask of its release: let each controller that it names have been asked.
     pub mask-arrives : (mask : ℕ) → LetOutIn t g n k l m mask → AllAsked t g n k l m mask c → HasHeard t g n k l c → Arrives t g n k l m

@@ -3,20 +3,20 @@ use mathlib.Core.Path.{_≡_, refl, sym, ap, _∙_, subst}
 use mathlib.Core.Bool.{Bool, true, false, not, cond, _&&_, and-false}
 use mathlib.Core.List.{List}
 use mathlib.Core.Logic.{_≢_, _⊎_, inl, inr}
-use Prim.Native.Nat.{ℕ, zero, suc, _+_, _<_}
+use Prim.Native.Nat.{ℕ, zero, suc, _+_, _<_, _≤_}
 use native.Mathlib.Omega.{arith}
 use lib.Count.{ones, onesIn}
 use borrow.Author.Tests.{eq-eqb, ne-eqb, le-leb, lt-leb, not-false}
 use Rattle.base.specs.Choice.{_==_, _≤?_, cond-ind, le?}
 use Rattle.base.specs.Ranges.{anyb-none}
 use Rattle.base.specs.Cases.{Case, firstOf, none, hit, skip}
-use Rattle.table.specs.Field.{State, Size, Degree, Incarnation, LiveCount, MessageState, Sender, Receiver}
+use Rattle.table.specs.Field.{State, Size, Degree, Incarnation, LiveCount, MessageState, Sender, Receiver, Known}
 use Rattle.table.specs.Layout.{controllers}
 use Rattle.table.specs.Words.{state}
 use Rattle.table.specs.Numbering.{lastLive, used, recordOf, number-next}
 use Rattle.rules.specs.Limits.{Limits, house}
 use Rattle.rules.specs.Refusal.{LEDGER, CONTROLLER, MESSAGE, SAME-CONTROLLER, STATE, PLACES-USED-UP, LEDGER-USED-UP}
-use Rattle.rules.specs.Vector.{Vector, empty, pairOf, placeVector, messageVector, filtered, condemned, maskTo, mask, conflictPair, conflict}
+use Rattle.rules.specs.Vector.{Vector, empty, pairOf, placeVector, messageVector, filtered, condemned, maskTo, mask, conflictPair, conflict, knownStable, number, incarnation}
 use Rattle.rules.specs.Form.{stateHeld, stateReleased, forDesk, inForm}
 use Rattle.rules.specs.Ledger.{countOf, ledgerOk}
 use Rattle.rules.specs.Shared.{newestPlace}
@@ -31,13 +31,13 @@ use Rattle.history.specs.Progress.{Drops, drops}
 use Rattle.laws.specs.Facts.{Form, form, messageForm, released-lt}
 use Rattle.laws.specs.Delivering.{deliver-cases}
 use Rattle.keeping.specs.Unrefused.{Sound}
-use Rattle.model.specs.Model.{Vec, full, releasedVec, filtered as filteredFor}
+use Rattle.model.specs.Model.{Vec, full, releasedVec, filtered as filteredFor, Pair}
 use Rattle.model.specs.Tests.{fails, passes, eq?}
 use Rattle.model.specs.Vectors.{Condemned}
 use Rattle.image.specs.Image.{vecOf, image}
 use Rattle.image.specs.Vectors.{length-message}
 use Rattle.image.specs.Tests.{spared, condemned-model, filtered-is, released-is}
-use Rattle.image.specs.Reads.{message-vec-is}
+use Rattle.image.specs.Reads.{message-vec-is, known-is}
 use Rattle.image.specs.Tables.{modelOf, sizeOf}
 use Rattle.progress.specs.Tables.{answer-is}
 use Rattle.keeping.specs.Steps.{performed}
@@ -179,6 +179,21 @@ module _ (L : Limits) (σ : State) (g : List ℕ) (good : inForm L σ ≡ true) 
           subst (Condemned (σ Size) (image σ .controller c)) (sym (message-vec-is σ m l))
           (condemned-model σ c below (messageVector σ r) (messageForm f r l .vector) (length-message σ r) q)
 
+      -- the words have a pair of its vector known stable to the receiver where the model has; pairs beyond the house are empty
+      known-true : (a : ℕ) → a < controllers → (a < σ Size → image σ .message m .vec a .number ≤ image σ .controller c .known a (image σ .message m .vec a .incarnation)) →
+          knownStable σ c a (pairOf (messageVector σ r) a) ≡ true
+      unfolding knownStable
+      known-true a near knows =
+          let p = pairOf (messageVector σ r) a in
+          let ok = messageForm f r l .vector in
+          le-leb (number p) (σ (Known c a (incarnation p)))
+          (le? (a + 1) (σ Size)
+          (λ low. let is = ap (λ (w : Vec). w a) (message-vec-is σ m l) in
+          let word = known-is σ c below a (incarnation p) near (ok .near a near) in
+          let le = subst (λ (q : Pair). q .number ≤ image σ .controller c .known a (q .incarnation)) is (knows (omega arith)) in
+          omega (arith, le, word))
+          (λ high. omega (arith, ok .beyond-number a near (omega arith))))
+
       -- a condemned message is dropped
       deliver-drops : IsCondemned → Drops m (stepOn L σ g (Deliver m) .answer)
       unfolding deliver prospect comesOf
@@ -287,6 +302,17 @@ module _ (t g : List ℕ) (s : Sound t g) where
       pub dropped-condemned : Drops m (step t g (Deliver m) .answer) →
           Condemned (sizeOf t) (modelOf t .controller (receiverIn t m)) (modelOf t .message m .vec)
       dropped-condemned q = drops-condemned house (state t) g good m l e (subst (Drops m) (same-answer (Deliver m)) q)
+
+      -- the words of the table have its vector condemned to the receiver where the model has,
+      pub condemned-there : Condemned (sizeOf t) (modelOf t .controller (receiverIn t m)) (modelOf t .message m .vec) →
+          condemned (state t) (receiverIn t m) (messageVector (state t) (recordIn t m)) ≡ true
+      condemned-there = condemned-true house (state t) g good m l e
+
+      -- and a pair of it known stable to the receiver
+      pub known-there : (a : ℕ) → a < controllers →
+          (a < sizeOf t → modelOf t .message m .vec a .number ≤ modelOf t .controller (receiverIn t m) .known a (modelOf t .message m .vec a .incarnation)) →
+          knownStable (state t) (receiverIn t m) a (pairOf (messageVector (state t) (recordIn t m)) a) ≡ true
+      known-there = known-true house (state t) g good m l e
 
       -- D delivers it where it is not condemned and its filtered vector is empty, unless the receiver's places are used up
       pub delivery-goes : (Condemned (sizeOf t) (modelOf t .controller (receiverIn t m)) (modelOf t .message m .vec) → ⊥) →

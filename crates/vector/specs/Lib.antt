@@ -1,2 +1,3 @@
 pub mod At
 pub mod Mask
+pub mod Conflict

@@ -132,16 +132,31 @@ pub fn conflict_pair(c: usize, owner: usize, p: Pair, q: Pair) -> bool
     (owner != c) & ((p[1] != 0) & ((q[1] != 0) & (p[0] != q[0])))
 }
 
-pub fn conflict(c: usize, v: Vector, w: Vector) -> bool
-    ensures { λ x. ⌜ x ≡ conflict c v w ⌝ }
+// Whether the pair of `owner` at place p of c, filtered for c, conflicts with q. It is looked at only where q isn't empty.
+pub fn place_pair_conflict(t: &[u32], c: usize, p: usize, owner: usize, q: Pair) -> bool
+    requires { ⌜ (length (now t) ≡ tableWords) × (c < controllers) × (p < places) × (owner < controllers) × Near (placeVector (state (now t)) c p) ⌝ }
+    ensures { λ x. ⌜ x ≡ conflictPair c owner (filterPair (state (now (t .entry))) c owner (pairOf (placeVector (state (now (t .entry))) c p) owner)) q ⌝ }
 {
-    let mut some = false;
+    if q[1] == 0 {
+        return false;
+    }
+    let ours = filter_pair(t, c, owner, place_pair(t, c, p, owner));
+    conflict_pair(c, owner, ours, q)
+}
+
+// Whether the vector of place p of c, filtered for c, conflicts with w.
+pub fn place_conflict(t: &[u32], c: usize, p: usize, w: Vector) -> bool
+    requires { ⌜ (length (now t) ≡ tableWords) × (c < controllers) × (p < places) × Near (placeVector (state (now t)) c p) ⌝ }
+    ensures { λ x. ⌜ x ≡ conflict c (filtered (state (now (t .entry))) c (placeVector (state (now (t .entry))) c p)) w ⌝ }
+{
     let mut owner = 0;
     while owner < table::CONTROLLERS {
-        some = some | conflict_pair(c, owner, v[owner], w[owner]);
+        if place_pair_conflict(t, c, p, owner, w[owner]) {
+            return true;
+        }
         owner += 1;
     }
-    some
+    false
 }
 
 // The non-empty pair, or the one with the larger number.
