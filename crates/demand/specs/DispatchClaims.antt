@@ -1,6 +1,7 @@
 -- What a tester looks for by name in the dispatcher (W7). Which messages would be delivered or dropped is said by what D would answer.
 use Prim.Native.Nat.{_-_}
-use Rattle.history.specs.Fair.{ServesInTurn, IdleIfNobodyHas, FairIn, Fair, IdleLeavesNothing, Drains}
+use Rattle.history.specs.Fair.{ServesInTurn, IdleIfNobodyHas, FairIn, Fair, IdleLeavesNothing}
+use Rattle.history.specs.Emptied.{Drains}
 use Rattle.fairness.specs.Fair.{fair, idle-leaves-nothing}
 use Rattle.fairness.specs.InTurn.{serves-in-turn, idle-if-nobody-has}
 use Rattle.fairness.specs.Example.{n-calls-needed}

@@ -25,7 +25,8 @@ use Rattle.rules.specs.declared.Answer.the-variants.{Refused}
 use Rattle.rules.specs.declared.Command.the-variants.{Deliver}
 use Rattle.rules.specs.declared.Prospect.the-variants.{NoPlaceLeft}
 use Rattle.history.specs.Demand.{Run, next, runs}
-use Rattle.history.specs.Fair.{IsReleased, drained, Drains}
+use Rattle.history.specs.Fair.{IsReleased}
+use Rattle.history.specs.Emptied.{drained, Drains}
 use Rattle.laws.specs.Facts.{Form, form, house-fits, released-lt, below-8, message-near}
 use Rattle.laws.specs.Records.{messageVector-of}
 use Rattle.laws.specs.Agree.{messageVector-same}

@@ -1,12 +1,10 @@
 -- W7: what a call of the dispatcher does, and that it starves nobody, in any run, whatever its table. Which messages would be delivered or dropped is
 -- said by what D would answer, and not by the dispatcher's own search.
 use mathlib.Core.Path.{_≡_}
-use mathlib.Core.Bool.{true, cond}
+use mathlib.Core.Bool.{true}
 use mathlib.Core.List.{List, [], _∷_, _++_}
-use mathlib.Core.Logic.{_≢_}
-use Prim.Native.Nat.{ℕ, zero, suc, _+_, _%_, _≤_, _<_}
-use lib.ListN.{length, set, replicate}
-use Rattle.base.specs.Choice.{_==_}
+use Prim.Native.Nat.{ℕ, suc, _+_, _%_, _≤_, _<_}
+use lib.ListN.{length, set}
 use Rattle.table.specs.Field.{Size, Served, MessageState, Receiver}
 use Rattle.table.specs.Layout.{controllers, messages, tableWords, position}
 use Rattle.table.specs.Words.{state}
@@ -17,10 +15,8 @@ use Rattle.rules.specs.Form.{stateReleased, inForm}
 use Rattle.rules.specs.Step.{outBoth, Call, asks, releaseSet, dispatch}
 use Rattle.rules.specs.declared.Answer.{Answer}
 use Rattle.rules.specs.declared.Answer.the-variants.{Delivered, Dropped, Waits, Refused, Idle}
-use Rattle.rules.specs.declared.Command.the-variants.{Deliver, Checkpoint, Tell}
-use Rattle.history.specs.Demand.{Run, callIn, stepIn, runs, NoOpening, FromOpening, upTo}
-use Rattle.history.specs.Progress.{HasHeard}
-use Rattle.history.specs.Asked.{Spreads}
+use Rattle.rules.specs.declared.Command.the-variants.{Deliver}
+use Rattle.history.specs.Demand.{Run, callIn, stepIn, runs, NoOpening}
 
 -- how many controllers the house of a run has, and the controller that its message m is for
 abbrev pub sizeIn : Run → ℕ
@@ -109,51 +105,3 @@ pub record IsReleased (r : Run) (m : ℕ) : Type 0 where
 
 abbrev pub IdleLeavesNothing : Type 0
 IdleLeavesNothing = (r : Run) → callIn r dispatch .answer ≡ Idle → (m : ℕ) → IsReleased r m → PassedOver m (stepIn r (Deliver m) .answer)
-
--- As many calls of the dispatcher as there are message records, one after the other,
-abbrev pub drained : Run → Run
-drained r = runs r (replicate messages dispatch)
-
--- leave nothing that could be delivered.
-abbrev pub Drains : Type 0
-Drains = (r : Run) → length (r .table) ≡ tableWords → inForm house (state (r .table)) ≡ true → (m : ℕ) → IsReleased (drained r) m →
-    PassedOver m (stepIn (drained r) (Deliver m) .answer)
-
--- THE HOUSE EMPTIED
--- C c stands in a list, and T c b after it
-pub record CheckpointThenTell (l : List Call) (c b : ℕ) : Type 0 where
-  pub before : List Call
-  pub between : List Call
-  pub after : List Call
-  pub is-in : l ≡ before ++ asks (Checkpoint c) ∷ (between ++ asks (Tell c b) ∷ after)
-
--- C by all and T by all to all, in a house of n controllers: a list of these two steps alone, in which each controller tells each other after a
--- checkpoint of its own, in whatever order;
-pub record AllTellAll (n : ℕ) (l : List Call) : Type 0 where
-  pub alone : (before : List Call) (x : Call) (after : List Call) → l ≡ before ++ x ∷ after → Spreads x
-  pub each : (c b : ℕ) → c < n → b < n → c ≢ b → CheckpointThenTell l c b
-
--- such as this one: C by each, the highest first,
-unfoldable pub allCheckpoint : ℕ → List Call
-allCheckpoint zero = []
-allCheckpoint (suc c) = asks (Checkpoint c) ∷ allCheckpoint c
-
--- T to b by each but b,
-unfoldable pub allTell : ℕ → ℕ → List Call
-allTell zero b = []
-allTell (suc c) b = cond (c == b) (allTell c b) (asks (Tell c b) ∷ allTell c b)
-
--- and that for each b
-unfoldable pub allTellUpTo : ℕ → ℕ → List Call
-allTellUpTo n zero = []
-allTellUpTo n (suc b) = allTell n b ++ allTellUpTo n b
-
-abbrev pub checkpointsAndTellings : ℕ → List Call
-checkpointsAndTellings n = allCheckpoint n ++ allTellUpTo n n
-
--- Where every controller has heard every crash in a list, these steps after it, and then as many calls of the dispatcher as there are message records,
--- leave no released message but those that would be refused with 12: none waits.
-abbrev pub EmptiesHouse : Type 0
-EmptiesHouse = (t g : List ℕ) (n k : ℕ) (l more : List Call) → FromOpening t g n k l → ((b : ℕ) → b < n → HasHeard t g n k l b) → AllTellAll n more →
-    let r = drained (upTo t g n k (l ++ more)) in
-    (m : ℕ) → IsReleased r m → stepIn r (Deliver m) .answer ≡ Refused PLACES-USED-UP

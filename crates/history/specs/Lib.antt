@@ -8,4 +8,5 @@ pub mod Fair
 pub mod Progress
 pub mod Citable
 pub mod Asked
+pub mod Emptied
 pub mod Uses

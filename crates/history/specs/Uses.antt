@@ -11,17 +11,21 @@ use native.Mathlib.Omega.{arith}
 use lib.Count.{ones}
 use lib.ListN.{length}
 use Rattle.base.specs.Choice.{holds, fails}
-use Rattle.table.specs.Field.{desk}
+use Rattle.table.specs.Field.{desk, Served}
 use Rattle.rules.specs.Limits.{lastIncarnation}
 use Rattle.rules.specs.Sets.{nth}
-use Rattle.rules.specs.Step.{Call, asks, releaseSet, stepCall, dispatch}
+use Rattle.rules.specs.Step.{Call, asks, releaseSet, stepCall, dispatch, OutBoth}
+use Rattle.rules.specs.declared.Answer.{Answer}
 use Rattle.rules.specs.declared.Answer.the-variants.{Done, Sent, Released, Dropped, Waits, Rolled, SetReleased, SetHeld}
 use Rattle.rules.specs.declared.Command.the-variants.{Send, Release, Deliver, Checkpoint, Tell, Hear}
-use Rattle.history.specs.History.{Interval, History, member, newest}
-use Rattle.history.specs.Demand.{callIn, stepIn, next, Accepted, RestsOnLost, named, LetsGo, alone, together, upTo, end, Demand3}
+use Rattle.history.specs.History.{Interval, History, member, newest, answers}
+use Rattle.history.specs.Demand.{callIn, stepIn, next, Accepted, RestsOnLost, named, LetsGo, alone, together, upTo, end, Demand3, Run}
 use Rattle.history.specs.Blame.{DropsNaming, by-delivery, by-dispatcher, OrphanBy, Blame, DroppedFor}
 use Rattle.history.specs.Progress.{SentIn, HoldsBack, held-together, HeldIn, LetOutIn, Deliverable, CrashIn, HasHeard, CanHear}
 use Rattle.history.specs.Asked.{Secures, checkpoints, undoes, SecuredIn, Spreads, by-checkpoint, by-telling, Asked, AllAsked, Learned, its-own, was-told, has-heard, Cleared, held-without, was-asked, each-learned, AllCleared, Eventually}
+use Rattle.history.specs.Emptied.{AllTellAll}
+use Rattle.history.specs.Fair as F
+use Rattle.history.specs.Fair.{Serves, InTurn, sizeIn, receiverIn, turnIn, DeliveredOrDropped, PassedOver}
 
 -- lists from the opening of t, beside the ledger g, with n and k
 module _ (t g : List ℕ) (n k : ℕ) (l : List Call) where
@@ -257,3 +261,29 @@ module _ (t g : List ℕ) (n k : ℕ) (l : List Call) where
         none : (x : Call) → x ≡ asks (Release m) → Spreads x → ⊥
         none _ z (by-checkpoint c) = absurd (let q : _≡_ {A = ℕ} 0 1 = cc in omega arith)
         none _ z (by-telling teller told) = absurd (let q : _≡_ {A = ℕ} 0 1 = cc in omega arith)
+
+-- THE DISPATCHER
+-- a call that serves c
+module _ (r : Run) (c : ℕ) (s : Serves r c) (said : InTurn r c s) where
+  -- answers as the delivery of its message, and leaves the ledger that this leaves;
+  pub answers-as-D : (callIn r dispatch .answer ≡ stepIn r (Deliver (s .message)) .answer) × (callIn r dispatch .ledger ≡ stepIn r (Deliver (s .message)) .ledger)
+  answers-as-D = (ap (λ (o : OutBoth). o .answer) (said .performs), ap (λ (o : OutBoth). o .ledger) (said .performs))
+
+  -- c has its turn in the round, and a controller whose turn is before has no message that D would deliver or drop;
+  pub earlier-have-none : (place : ℕ) × (place < sizeIn r) × (turnIn r place ≡ c)
+      × ((i m : ℕ) → i < place → receiverIn r m ≡ turnIn r i → DeliveredOrDropped m (stepIn r (Deliver m) .answer) → ⊥)
+  earlier-have-none = (said .place, said .short, said .whose, λ i m l for would. said .first i l (record { message = m; for = for; would = would }))
+
+  -- nor has c one with a lower number
+  pub lower-are-none : (m : ℕ) → m < s .message → receiverIn r m ≡ c → DeliveredOrDropped m (stepIn r (Deliver m) .answer) → ⊥
+  lower-are-none m l for would = omega (arith, said .lowest (record { message = m; for = for; would = would }))
+
+-- what is passed over is neither delivered nor dropped
+pub passed-over-stays : {m n : ℕ} {a : Answer} → PassedOver m a → DeliveredOrDropped n a → ⊥
+passed-over-stays F.waits d = elim d [ ]
+passed-over-stays F.no-place d = elim d [ ]
+
+-- each of C by all and T by all to all stands in such a list, T after C
+pub tells-after-checkpoint : {n : ℕ} {l : List Call} → AllTellAll n l → (c b : ℕ) → c < n → b < n → c ≢ b →
+    (before between after : List Call) × (l ≡ before ++ asks (Checkpoint c) ∷ (between ++ asks (Tell c b) ∷ after))
+tells-after-checkpoint all c b below near ne = let w = all .each c b below near ne in (w .before, w .between, w .after, w .is-in)

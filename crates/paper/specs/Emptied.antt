@@ -14,7 +14,8 @@ use Rattle.rules.specs.declared.Command.the-variants.{Deliver, Tell}
 use Rattle.history.specs.Demand.{FromOpening, Run, upTo, end, stepIn}
 use Rattle.history.specs.Progress.{Deliverable, HasHeard}
 use Rattle.history.specs.Asked.{Spreads, Cleared, was-asked}
-use Rattle.history.specs.Fair.{EmptiesHouse, IsReleased, drained, allTellUpTo, AllTellAll, checkpointsAndTellings, allTell, allCheckpoint}
+use Rattle.history.specs.Fair.{IsReleased}
+use Rattle.history.specs.Emptied.{EmptiesHouse, drained, allTellUpTo, AllTellAll, checkpointsAndTellings, allTell, allCheckpoint}
 use Rattle.fairness.specs.Drained.{drains-all}
 use Rattle.model.specs.Consequences.{sending-begun}
 use Rattle.model.specs.Tests.{eq?}

@@ -19,7 +19,7 @@ use Rattle.history.specs.History.{Interval, History, member}
 use Rattle.history.specs.Demand.{Run, callIn, next, runs, FromOpening, upTo, end}
 use Rattle.history.specs.Progress.{SentIn, SendingLive, NotLetOut, HasHeard, Deliverable}
 use Rattle.history.specs.Asked.{Spreads, by-checkpoint, by-telling, was-asked, AllCleared, GoesOut, Arrives, Eventually}
-use Rattle.history.specs.Fair.{allCheckpoint, allTell}
+use Rattle.history.specs.Emptied.{allCheckpoint, allTell}
 use Rattle.model.specs.Tests.{eq?}
 use Rattle.model.specs.Consequences.{live-begun, sending-begun}
 use Rattle.calls.specs.Sets.{runs-append}

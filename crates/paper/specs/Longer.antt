@@ -15,7 +15,7 @@ use Rattle.history.specs.History.{History, fed, fedStep, answers, checkpointing
 use Rattle.history.specs.Demand.{runs, next, FromOpening, Run, end, callIn, upTo, LetsGo, stepIn}
 use Rattle.history.specs.Progress.{HasHeard}
 use Rattle.history.specs.Asked.{by-checkpoint, by-telling, Spreads, checkpoints, Asked, SecuredIn, Secures}
-use Rattle.history.specs.Fair.{CheckpointThenTell}
+use Rattle.history.specs.Emptied.{CheckpointThenTell}
 use Rattle.calls.specs.Sets.{runs-append}
 use Rattle.paper.specs.Spreading.{first}
 use Rattle.paper.specs.Whenever.{checkpoint-is-done, tell-is-done}
