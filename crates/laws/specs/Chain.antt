@@ -283,6 +283,7 @@ pub record Taken (σ : State) (r : ℕ) : Type 0 where
   pub receiver : Chain σ (σ (Receiver r))
   pub room : chainFull house σ (σ (Receiver r)) ≡ false → Room house σ (σ (Receiver r)) (σ (LiveCount (σ (Receiver r))))
 
+-- a released message in use is one, on a state in form
 pub taken-there : {σ : State} {r : ℕ} → Form house σ → MessageAllowed σ r stateReleased → Taken σ r
 taken-there {σ} {r} f a =
     record { record-lt = omega (arith, f .used-le, a .record-used); receiver = chain-form σ _ f (released-lt f r (a .record-used) (a .state-is)); room = room-left house σ f house-fits _ _ }
