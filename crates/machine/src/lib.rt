@@ -47,8 +47,8 @@ pub fn perform(t: &mut [u32], g: &mut [u32], x: Command) -> Answer
         Command::Log(c, q) => controller::log(t, c, q),
         Command::Checkpoint(c) => controller::checkpoint(t, c),
         Command::Tell(owner, holder) => controller::tell(t, owner, holder),
-        Command::Crash(c) => recovery::crash(t, c),
-        Command::Hear(hearer, owner, i) => recovery::hear(t, hearer, owner, i),
+        Command::Crash(c) => crash::crash(t, c),
+        Command::Hear(hearer, owner, i) => hearing::hear(t, hearer, owner, i),
         Command::SetGap(q) => checkpoint::set_gap(t, q),
     }
 }

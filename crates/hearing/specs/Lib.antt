@@ -1,0 +1,2 @@
+pub mod Rolling
+pub mod Hearing

@@ -1,3 +1,0 @@
-pub mod Crashing
-pub mod Rolling
-pub mod Hearing
