@@ -34,7 +34,7 @@ use Rattle.keeping.specs.Changes.{kept-served}
 use Rattle.keeping.specs.Opening.{form-open}
 use Rattle.keeping.specs.Steps.{form-kept}
 use Rattle.keeping.specs.StepSame.{step-words}
-use Rattle.listing.specs.Quiet.{steps, releaseOf, by-message, blank-ok}
+use Rattle.listing.specs.Run.{steps, releaseOf, by-message, blank-ok}
 use Rattle.fairness.specs.Fair.{fair}
 use Rattle.fairness.specs.InTurn.{servable-in, serves-in-turn, serves-first}
 

@@ -8,12 +8,14 @@ use lib.ListN.{length, take, drop, set}
 use Rattle.base.specs.Lists.{tab}
 use Rattle.table.specs.Field.{OfMessage, SentCount, Degree, Known, End, MessageState, messageHead}
 use Rattle.table.specs.Layout.{controllers, tableWords}
+use Rattle.table.specs.Change.{put, putPart}
+use Rattle.rules.specs.Shared.{removed}
 use Rattle.rules.specs.Limits.{house}
 use Rattle.rules.specs.Ledger.{ledgerWords}
 use Rattle.rules.specs.Report.{report}
 use Rattle.rules.specs.Vector.{Vector, pair, noPair, flat}
 use Rattle.rules.specs.Form.{stateHeld, stateReleased, stateDropped}
-use Rattle.rules.specs.Steps.{messageRecord, stepDegree}
+use Rattle.rules.specs.Steps.{messageRecord, stepDegree, rolledBack}
 use Rattle.rules.specs.Step.{asks}
 use Rattle.rules.specs.declared.Answer.the-variants.{Done, Sent, Released, Dropped, Crashed, Heard, Rolled}
 use Rattle.rules.specs.declared.Command.the-variants.{SetDegree, Send, Release, Deliver, Crash, Hear}
@@ -21,8 +23,8 @@ use Rattle.history.specs.History.{interval, sameInterval, changedAt, changedAtI
 use Rattle.history.specs.Demand.{upTo, end}
 use Rattle.history.specs.Blame.{OrphanBy, DroppedFor}
 use Rattle.history.specs.Examples.{ListingLine, line, all}
-use Rattle.listing.specs.Quiet as Q
-use Rattle.listing.specs.Quiet.{steps, quiet-put, quiet-part, quiet-removed, quiet-rolled, blank-ok, goes, further}
+use Rattle.listing.specs.Run as Q
+use Rattle.listing.specs.Run.{steps, blank-ok, goes}
 use Rattle.testers.specs.Sample.{sample, sample-run, allLook}
 use Rattle.testers.specs.Along.{stateAt, ledgerAt}
 use Rattle.demand.specs.Blamed.{blame}
@@ -59,25 +61,25 @@ twice-lost-run =
     let none : Vector = tab controllers (λ (_ : ℕ). noPair) in
     let two : Vector = set (set none 1 (pair 0 2)) 2 (pair 0 2) in
     branch sample-run 6
-    (Q.next (λ q. quiet-put (Degree 2) 2 refl q) refl refl  -- K 2 2
-    (Q.next (λ q. quiet-put SentCount 3 refl (quiet-part (OfMessage 2 0) 0 (messageRecord stateHeld 2 0 0 2 5 two) (λ _. refl) q)) refl refl  -- S 2 0 5
-    (goes (λ q. quiet-put (MessageState 2) stateReleased refl (quiet-part (OfMessage 2 0) messageHead (flat two) (λ _. refl) q)) refl blank-ok refl  -- R 3
-    (Q.next (λ q. quiet-removed 1 1 refl refl refl refl (further 3 refl _ _) (quiet-put (End 1 1 0) 1 refl q)) refl refl  -- X 1
-    (Q.next (λ q. quiet-removed 1 2 refl refl refl refl (further 3 refl _ _) (quiet-put (End 1 1 1) 2 refl q)) refl refl  -- X 1
-    (Q.next (λ q. quiet-removed 2 1 refl refl refl refl (further 3 refl _ _) (quiet-put (End 2 2 0) 1 refl q)) refl refl  -- X 2
-    (Q.next (λ q. quiet-put (Known 0 1 0) 1 refl (quiet-put (End 0 1 0) 1 refl q)) refl refl  -- H 0 1 0
-    (Q.next (λ q. quiet-put (Known 0 1 1) 2 refl (quiet-put (End 0 1 1) 2 refl q)) refl refl  -- H 0 1 1
-    (Q.next (λ q. quiet-put (Known 0 2 0) 1 refl (quiet-put (End 0 2 0) 1 refl q)) refl refl  -- H 0 2 0
-    (Q.next (λ q. quiet-put (MessageState 2) stateDropped refl q) refl refl  -- D 3
+    (Q.next (λ σ. put σ (Degree 2) 2) refl  -- K 2 2
+    (Q.next (λ σ. put (putPart σ (OfMessage 2 0) 0 (messageRecord stateHeld 2 0 0 2 5 two)) SentCount 3) refl  -- S 2 0 5
+    (goes (λ σ. put (putPart σ (OfMessage 2 0) messageHead (flat two)) (MessageState 2) stateReleased) blank-ok refl  -- R 3
+    (Q.next (λ σ. removed (put σ (End 1 1 0) 1) 1 1) refl  -- X 1
+    (Q.next (λ σ. removed (put σ (End 1 1 1) 2) 1 2) refl  -- X 1
+    (Q.next (λ σ. removed (put σ (End 2 2 0) 1) 2 1) refl  -- X 2
+    (Q.next (λ σ. put (put σ (End 0 1 0) 1) (Known 0 1 0) 1) refl  -- H 0 1 0
+    (Q.next (λ σ. put (put σ (End 0 1 1) 2) (Known 0 1 1) 2) refl  -- H 0 1 1
+    (Q.next (λ σ. put (put σ (End 0 2 0) 1) (Known 0 2 0) 1) refl  -- H 0 2 0
+    (Q.next (λ σ. put σ (MessageState 2) stateDropped) refl  -- D 3
     Q.end))))))))))
 
 heard-then-run : Computed heardThen
 unfolding steps stateAt ledgerAt sample-run goes branch stepDegree twice-lost-run
 heard-then-run =
     branch twice-lost-run 10
-    (Q.next (λ q. quiet-put (Known 0 1 0) 1 refl (quiet-put (End 0 1 0) 1 refl q)) refl refl  -- H 0 1 0
-    (Q.next (λ q. quiet-put (MessageState 2) stateDropped refl q) refl refl  -- D 3
-    (Q.next (λ q. quiet-rolled 2 1 refl refl refl refl refl (further 3 refl _ _) (quiet-put (Known 2 1 0) 1 refl (quiet-put (End 2 1 0) 1 refl q))) refl refl  -- H 2 1 0
+    (Q.next (λ σ. put (put σ (End 0 1 0) 1) (Known 0 1 0) 1) refl  -- H 0 1 0
+    (Q.next (λ σ. put σ (MessageState 2) stateDropped) refl  -- D 3
+    (Q.next (λ σ. rolledBack (put (put σ (End 2 1 0) 1) (Known 2 1 0) 1) 2 1) refl  -- H 2 1 0
     Q.end)))
 
 -- what its lines tell: to controller 0 the sending interval is an orphan by the crash of controller 2, too

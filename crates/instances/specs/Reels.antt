@@ -13,6 +13,8 @@ use Rattle.base.specs.Lists.{tab}
 use Rattle.base.specs.Splice.{splice}
 use Rattle.table.specs.Field.{State, OfMessage, SentCount, Degree, End, MessageState, desk, messageHead}
 use Rattle.table.specs.Layout.{controllers, tableWords}
+use Rattle.table.specs.Change.{put, putPart}
+use Rattle.rules.specs.Shared.{removed}
 use Rattle.rules.specs.Limits.{house}
 use Rattle.rules.specs.Report.{report}
 use Rattle.rules.specs.Vector.{Vector, pair, noPair, flat}
@@ -28,8 +30,8 @@ use Rattle.history.specs.Citations.{Citation, noCitations, sentWith, letOutTo, 
 use Rattle.history.specs.Demand.{Run, callIn, next, runs, justOpened, named, LetsGo, together, FromOpening, upTo, end}
 use Rattle.history.specs.Examples.{ListingLine, line, all, allCited}
 use Rattle.laws.specs.Ledger.{appended-sound}
-use Rattle.listing.specs.Quiet as Q
-use Rattle.listing.specs.Quiet.{steps, quiet-put, quiet-part, quiet-removed, blank-ok, goes, further, quiet-opened}
+use Rattle.listing.specs.Run as Q
+use Rattle.listing.specs.Run.{steps, blank-ok, goes, opened-form}
 use Rattle.testers.specs.Sample.{sample, asked, calls, sample-run, allLook, opened-three, from-opening}
 use Rattle.testers.specs.Along.{citations-after, Stage, stateAt, ledgerAt, commandAt, stage-at}
 use Rattle.keeping.specs.Sets.{set-words}
@@ -67,12 +69,12 @@ unfolding steps stateAt ledgerAt sample-run goes branch stepDegree
 reel-run =
     let two : Vector = set (set none 1 (pair 0 2)) 2 (pair 0 2) in
     branch sample-run 6
-    (Q.next (λ q. quiet-put (Degree 2) 2 refl q) refl refl  -- K 2 2
-    (Q.next (λ q. quiet-put SentCount 3 refl (quiet-part (OfMessage 2 0) 0 (messageRecord stateHeld 2 0 0 2 5 two) (λ _. refl) q)) refl refl  -- S 2 0 5
-    (Q.next (λ q. quiet-put SentCount 4 refl (quiet-part (OfMessage 3 0) 0 (messageRecord stateHeld 2 1 0 2 6 two) (λ _. refl) q)) refl refl  -- S 2 1 6
-    (goes (λ q. quiet-put (MessageState 2) stateReleased refl (quiet-part (OfMessage 2 0) messageHead (flat two) (λ _. refl) q)) refl blank-ok refl  -- R 3
-    (goes (λ q. quiet-put (MessageState 3) stateReleased refl (quiet-part (OfMessage 3 0) messageHead (flat two) (λ _. refl) q)) refl blank-ok refl  -- R 4
-    (Q.next (λ q. quiet-removed 1 1 refl refl refl refl (further 4 refl _ _) (quiet-put (End 1 1 0) 1 refl q)) refl refl  -- X 1
+    (Q.next (λ σ. put σ (Degree 2) 2) refl  -- K 2 2
+    (Q.next (λ σ. put (putPart σ (OfMessage 2 0) 0 (messageRecord stateHeld 2 0 0 2 5 two)) SentCount 3) refl  -- S 2 0 5
+    (Q.next (λ σ. put (putPart σ (OfMessage 3 0) 0 (messageRecord stateHeld 2 1 0 2 6 two)) SentCount 4) refl  -- S 2 1 6
+    (goes (λ σ. put (putPart σ (OfMessage 2 0) messageHead (flat two)) (MessageState 2) stateReleased) blank-ok refl  -- R 3
+    (goes (λ σ. put (putPart σ (OfMessage 3 0) messageHead (flat two)) (MessageState 3) stateReleased) blank-ok refl  -- R 4
+    (Q.next (λ σ. removed (put σ (End 1 1 0) 1) 1 1) refl  -- X 1
     Q.end))))))
 
 blank-count : countOf (blankLedger house) ≡ 0
@@ -83,12 +85,12 @@ unfoldable readings-run : Computed readings
 unfolding steps goes blankLedger appended splice
 readings-run =
     let cited-once = appended-sound house (blankLedger house) 2 4 blank-ok (omega (arith, blank-count)) in
-    (Q.next (λ q. quiet-put SentCount 1 refl (quiet-part (OfMessage 0 0) 0 (messageRecord stateHeld 0 desk 0 1 5 none) (λ _. refl) q)) refl refl  -- S 0 8 5
-    (Q.next (λ q. quiet-put SentCount 2 refl (quiet-part (OfMessage 1 0) 0 (messageRecord stateHeld 0 desk 0 1 4 none) (λ _. refl) q)) refl refl  -- S 0 8 4
-    (Q.next (λ q. quiet-put SentCount 3 refl (quiet-part (OfMessage 2 0) 0 (messageRecord stateHeld 0 1 0 1 6 none) (λ _. refl) q)) refl refl  -- S 0 1 6
-    (goes (λ q. quiet-put (MessageState 1) statePublished refl (quiet-part (OfMessage 1 0) messageHead (flat none) (λ _. refl) q)) refl blank-ok refl  -- R 2
-    (goes (λ q. quiet-put (MessageState 2) stateReleased refl (quiet-part (OfMessage 2 0) messageHead (flat none) (λ _. refl) q)) refl cited-once refl  -- R 3
-    (goes (λ q. quiet-put (MessageState 0) statePublished refl (quiet-part (OfMessage 0 0) messageHead (flat none) (λ _. refl) q)) refl cited-once refl  -- R 1
+    (Q.next (λ σ. put (putPart σ (OfMessage 0 0) 0 (messageRecord stateHeld 0 desk 0 1 5 none)) SentCount 1) refl  -- S 0 8 5
+    (Q.next (λ σ. put (putPart σ (OfMessage 1 0) 0 (messageRecord stateHeld 0 desk 0 1 4 none)) SentCount 2) refl  -- S 0 8 4
+    (Q.next (λ σ. put (putPart σ (OfMessage 2 0) 0 (messageRecord stateHeld 0 1 0 1 6 none)) SentCount 3) refl  -- S 0 1 6
+    (goes (λ σ. put (putPart σ (OfMessage 1 0) messageHead (flat none)) (MessageState 1) statePublished) blank-ok refl  -- R 2
+    (goes (λ σ. put (putPart σ (OfMessage 2 0) messageHead (flat none)) (MessageState 2) stateReleased) cited-once refl  -- R 3
+    (goes (λ σ. put (putPart σ (OfMessage 0 0) messageHead (flat none)) (MessageState 0) statePublished) cited-once refl  -- R 1
     Q.end))))))
 
 -- THE SET
@@ -120,7 +122,7 @@ module _ (t g : List ℕ) (long : length t ≡ tableWords) (wide : length g ≡ 
     set-answer =
         let o = opened-three t g long wide in
         let s = subst (λ xs. Stage (upTo t g 3 1 xs .table) (upTo t g 3 1 xs .ledger) (stateAt w j) (ledgerAt w j) (commandAt (asked l) j)) before
-        (stage-at w (quiet-opened 1) (justOpened t g 3 1) (o .table-is) (o .ledger-is) j) in
+        (stage-at w (opened-form 1 refl) (justOpened t g 3 1) (o .table-is) (o .ledger-is) j) in
         ap₂ (λ u k. stepCall u k (releaseSet messages) .answer) (s .table-is) (s .ledger-is) ∙ ap (λ o. o .answer) (set-words (stateAt w j) (ledgerAt w j) messages) ∙ lets (s .good looks)
 
     -- so it leads where its releases lead

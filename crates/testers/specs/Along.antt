@@ -15,8 +15,8 @@ use Rattle.rules.specs.declared.Answer.{Answer}
 use Rattle.rules.specs.declared.Answer.the-variants.{Done}
 use Rattle.rules.specs.declared.Command.{Command}
 use Rattle.rules.specs.declared.Command.the-variants.{Open}
-use Rattle.listing.specs.Quiet as Q
-use Rattle.listing.specs.Quiet.{Quiet, quiet-opened, in-form}
+use Rattle.listing.specs.Run as Q
+use Rattle.listing.specs.Run.{left-form}
 use Rattle.history.specs.History.{fed}
 use Rattle.history.specs.Citations.{cited}
 use Rattle.history.specs.Demand.{Run, stepIn, next, runs}
@@ -68,17 +68,13 @@ citations-after r (x ∷ l) h =
 -- the state that step j of a run on states finds, and the ledger; those at its end for a step further on
 unfoldable pub stateAt : {σ : State} {g : List ℕ} {xs : List Command} {ys : List Answer} → Q.Run σ g xs ys → ℕ → State
 stateAt (Q.end {σ}) j = σ
-stateAt (Q.opening {σ} e w) zero = σ
-stateAt (Q.opening e w) (suc j) = stateAt w j
-stateAt (Q.next {σ} keep f e w) zero = σ
-stateAt (Q.next keep f e w) (suc j) = stateAt w j
+stateAt (Q.next {σ} change e w) zero = σ
+stateAt (Q.next change e w) (suc j) = stateAt w j
 
 unfoldable pub ledgerAt : {σ : State} {g : List ℕ} {xs : List Command} {ys : List Answer} → Q.Run σ g xs ys → ℕ → List ℕ
 ledgerAt (Q.end {g = g}) j = g
-ledgerAt (Q.opening {g = g} e w) zero = g
-ledgerAt (Q.opening e w) (suc j) = ledgerAt w j
-ledgerAt (Q.next {g = g} keep f e w) zero = g
-ledgerAt (Q.next keep f e w) (suc j) = ledgerAt w j
+ledgerAt (Q.next {g = g} change e w) zero = g
+ledgerAt (Q.next change e w) (suc j) = ledgerAt w j
 
 -- step x finds the table t, that of the state σ, in form if it looks, and the ledger g, which is k
 pub record Stage (t g : List ℕ) (σ : State) (k : List ℕ) (x : Command) : Type 0 where
@@ -106,17 +102,13 @@ StageAt r {xs = xs} w j = let s = runs r (calls (take j xs)) in Stage (s .table)
 opening-stage : {t g : List ℕ} {σ : State} {k : List ℕ} (n degree : ℕ) → t ≡ words σ → g ≡ k → Stage t g σ k (Open n degree)
 opening-stage n degree e h = record { table-is = e; ledger-is = h; good = λ z. absurd (true≢false (sym z)) }
 
-pub stage-at : {σ : State} {g : List ℕ} {xs : List Command} {ys : List Answer} (w : Q.Run σ g xs ys) → Quiet σ → (r : Run) → r .table ≡ words σ → r .ledger ≡ g →
+pub stage-at : {σ : State} {g : List ℕ} {xs : List Command} {ys : List Answer} (w : Q.Run σ g xs ys) → inForm house σ ≡ true → (r : Run) → r .table ≡ words σ → r .ledger ≡ g →
     (j : ℕ) → StageAt r w j
 unfolding runs stateAt ledgerAt next stepCall
-stage-at Q.end q r e h zero = opening-stage 0 0 e h
-stage-at Q.end q r e h (suc j) = opening-stage 0 0 e h
-stage-at (Q.opening {k = k} p w) q r e h zero = opening-stage 3 k e h
-stage-at (Q.opening {k = k} p w) q r e h (suc j) =
-    let o = stage-step (opening-stage 3 k e h) ∙ ap writtenBoth p in
-    stage-at w (quiet-opened k) (next (asks (Open 3 k)) r) (ap (λ o. o .table) o) (ap (λ o. o .ledger) o) j
-stage-at (Q.next {σ} keep f p w) q r e h zero = record { table-is = e; ledger-is = h; good = λ _. in-form σ q f }
-stage-at (Q.next {σ} {x = x} keep f p w) q r e h (suc j) =
-    let s : Stage (r .table) (r .ledger) σ _ x = record { table-is = e; ledger-is = h; good = λ _. in-form σ q f } in
+stage-at Q.end f r e h zero = opening-stage 0 0 e h
+stage-at Q.end f r e h (suc j) = opening-stage 0 0 e h
+stage-at (Q.next change p w) f r e h zero = record { table-is = e; ledger-is = h; good = λ _. f }
+stage-at (Q.next {σ} {g = k} {x = x} change p w) f r e h (suc j) =
+    let s : Stage (r .table) (r .ledger) σ k x = record { table-is = e; ledger-is = h; good = λ _. f } in
     let o = stage-step s ∙ ap writtenBoth p in
-    stage-at w (keep q) (next (asks x) r) (ap (λ o. o .table) o) (ap (λ o. o .ledger) o) j
+    stage-at w (left-form σ k x f p) (next (asks x) r) (ap (λ o. o .table) o) (ap (λ o. o .ledger) o) j

@@ -19,7 +19,7 @@ use Rattle.rules.specs.Shared.{newestPlace}
 use Rattle.rules.specs.Steps.{After, beside, intervalBegins, chainFull}
 use Rattle.rules.specs.Step.{looksAtForm, writtenBoth, lent}
 use Rattle.rules.specs.declared.Command.{Command}
-use Rattle.listing.specs.Quiet.{steps, goes}
+use Rattle.listing.specs.Run.{steps, goes}
 use Rattle.laws.specs.Facts.{Form, form, released-lt, house-fits}
 use Rattle.laws.specs.Allowed.{room-left}
 use Rattle.laws.specs.Chain.{chain-form}

@@ -10,18 +10,19 @@ use Rattle.base.specs.Choice.{_≤?_, _<?_, and-left, and-right}
 use Rattle.base.specs.Lists.{tab}
 use Rattle.table.specs.Field.{OfMessage, OfPlace, Gap, SentCount, LiveCount, StableCount, MessageState, Known, End, messageHead}
 use Rattle.table.specs.Layout.{controllers, tableWords}
+use Rattle.table.specs.Change.{put, putPart}
 use Rattle.rules.specs.Limits.{house}
 use Rattle.rules.specs.Vector.{Vector, pair, noPair, flat}
 use Rattle.rules.specs.Form.{stateHeld, stateReleased, stateDelivered}
 use Rattle.rules.specs.Ledger.{ledgerWords, blankLedger}
 use Rattle.rules.specs.Report.{report}
-use Rattle.rules.specs.Shared.{placeRecord}
-use Rattle.rules.specs.Steps.{openHouse, messageRecord}
+use Rattle.rules.specs.Shared.{placeRecord, removed, capped}
+use Rattle.rules.specs.Steps.{openHouse, messageRecord, rolledBack}
 use Rattle.rules.specs.Step.{Call, asks, stepCall}
 use Rattle.rules.specs.declared.Answer.the-variants.{Done, Sent, Released, Delivered, Crashed, Rolled}
 use Rattle.rules.specs.declared.Command.the-variants.{Send, Release, Deliver, Log, Crash, Hear, SetGap}
-use Rattle.listing.specs.Quiet as Q
-use Rattle.listing.specs.Quiet.{steps, quiet-put, quiet-part, quiet-capped, quiet-removed, quiet-rolled, blank-ok, goes, further}
+use Rattle.listing.specs.Run as Q
+use Rattle.listing.specs.Run.{steps, blank-ok, goes}
 use Rattle.history.specs.History.{History, sameInterval, changedAt, changedAtInterval, newest, member, those, oldest, sentFrom, joined, leaving, stabilized, hearing, losing, gapSet, flagging, opening, logging, checkpointing, latestOn, forcedAt, capping, beginning, delivering, restarting, crashing as historyCrashing, rollingBack, answers, valueAt, fedStep, fed}
 use Rattle.history.specs.Demand.{Run, stepIn, next, runs, justOpened, FromOpening}
 use Rattle.history.specs.Ceiling.{largestGap, NeverOff}
@@ -59,13 +60,13 @@ crashing-run : Q.Run (openHouse 3 1) (blankLedger house) (asked crashing) (answe
 unfolding steps blankLedger
 crashing-run =
     let none : Vector = tab controllers (λ (_ : ℕ). noPair) in
-    Q.next (λ q. quiet-put Gap 2 refl q) refl refl  -- Q is 2
-    (Q.next (λ q. quiet-put SentCount 1 refl (quiet-part (OfMessage 0 0) 0 (messageRecord stateHeld 0 1 0 1 7 none) (λ _. refl) q)) refl refl  -- S 0 1 7
-    (goes (λ q. quiet-put (MessageState 0) stateReleased refl (quiet-part (OfMessage 0 0) messageHead (flat none) (λ _. refl) q)) refl blank-ok refl  -- R 1
-    (Q.next (λ q. quiet-put (MessageState 0) stateDelivered refl (quiet-put (LiveCount 1) 2 refl (quiet-part (OfPlace 1 1 0) 0 (placeRecord 0 2 1 0 (set none 1 (pair 0 2))) (λ _. refl) q))) refl refl  -- D 1
-    (Q.next (λ q. quiet-put (Known 1 1 0) 2 refl (quiet-put (StableCount 1) 2 refl q)) refl refl  -- L 1 1
-    (Q.next (λ q. quiet-put Gap 1 refl q) refl refl  -- Q is 1
-    (Q.next (λ q. quiet-removed 1 2 refl refl refl refl (further 1 refl _ _) (quiet-put (End 1 1 0) 2 refl q)) refl refl  -- X 1
+    Q.next (λ σ. put σ Gap 2) refl  -- Q is 2
+    (Q.next (λ σ. put (putPart σ (OfMessage 0 0) 0 (messageRecord stateHeld 0 1 0 1 7 none)) SentCount 1) refl  -- S 0 1 7
+    (goes (λ σ. put (putPart σ (OfMessage 0 0) messageHead (flat none)) (MessageState 0) stateReleased) blank-ok refl  -- R 1
+    (Q.next (λ σ. put (put (putPart σ (OfPlace 1 1 0) 0 (placeRecord 0 2 1 0 (set none 1 (pair 0 2)))) (LiveCount 1) 2) (MessageState 0) stateDelivered) refl  -- D 1
+    (Q.next (λ σ. put (put σ (StableCount 1) 2) (Known 1 1 0) 2) refl  -- L 1 1
+    (Q.next (λ σ. put σ Gap 1) refl  -- Q is 1
+    (Q.next (λ σ. removed (put σ (End 1 1 0) 2) 1 2) refl  -- X 1
     Q.end))))))
 
 rolling-run : Q.Run (openHouse 3 1) (blankLedger house) (asked rolling) (answered rolling)
@@ -73,20 +74,19 @@ unfolding steps blankLedger
 rolling-run =
     let none : Vector = tab controllers (λ (_ : ℕ). noPair) in
     let one : Vector = set none 1 (pair 0 2) in
-    Q.next (λ q. quiet-put Gap 2 refl q) refl refl  -- Q is 2
-    (Q.next (λ q. quiet-put SentCount 1 refl (quiet-part (OfMessage 0 0) 0 (messageRecord stateHeld 0 2 0 1 7 none) (λ _. refl) q)) refl refl  -- S 0 2 7
-    (goes (λ q. quiet-put (MessageState 0) stateReleased refl (quiet-part (OfMessage 0 0) messageHead (flat none) (λ _. refl) q)) refl blank-ok refl  -- R 1
-    (Q.next (λ q. quiet-put (MessageState 0) stateDelivered refl (quiet-put (LiveCount 2) 2 refl (quiet-part (OfPlace 2 1 0) 0 (placeRecord 0 2 1 0 (set none 2 (pair 0 2))) (λ _. refl) q))) refl refl  -- D 1
-    (Q.next (λ q. quiet-put SentCount 2 refl (quiet-part (OfMessage 1 0) 0 (messageRecord stateHeld 0 1 0 1 7 none) (λ _. refl) q)) refl refl  -- S 0 1 7
-    (goes (λ q. quiet-put (MessageState 1) stateReleased refl (quiet-part (OfMessage 1 0) messageHead (flat none) (λ _. refl) q)) refl blank-ok refl  -- R 2
-    (Q.next (λ q. quiet-put (MessageState 1) stateDelivered refl (quiet-put (LiveCount 1) 2 refl (quiet-part (OfPlace 1 1 0) 0 (placeRecord 0 2 2 0 one) (λ _. refl) q))) refl refl  -- D 2
-    (Q.next (λ q. quiet-put SentCount 3 refl (quiet-part (OfMessage 2 0) 0 (messageRecord stateHeld 1 2 0 2 9 one) (λ _. refl) q)) refl refl  -- S 1 2 9
-    (goes (λ q. quiet-put (MessageState 2) stateReleased refl (quiet-part (OfMessage 2 0) messageHead (flat one) (λ _. refl) q)) refl blank-ok refl  -- R 3
-    (Q.next (λ q. quiet-capped 2 refl refl refl (quiet-put (MessageState 2) stateDelivered refl (quiet-put (LiveCount 2) 3 refl
-    (quiet-part (OfPlace 2 2 0) 0 (placeRecord 0 3 3 0 (set one 2 (pair 0 3))) (λ _. refl) q)))) refl refl  -- D 3
-    (Q.next (λ q. quiet-removed 1 1 refl refl refl refl (further 3 refl _ _) (quiet-put (End 1 1 0) 1 refl q)) refl refl  -- X 1
-    (Q.next (λ q. quiet-put Gap 1 refl q) refl refl  -- Q is 1
-    (Q.next (λ q. quiet-rolled 2 2 refl refl refl refl refl (further 3 refl _ _) (quiet-put (Known 2 1 0) 1 refl (quiet-put (End 2 1 0) 1 refl q))) refl refl  -- H 2 1 0
+    Q.next (λ σ. put σ Gap 2) refl  -- Q is 2
+    (Q.next (λ σ. put (putPart σ (OfMessage 0 0) 0 (messageRecord stateHeld 0 2 0 1 7 none)) SentCount 1) refl  -- S 0 2 7
+    (goes (λ σ. put (putPart σ (OfMessage 0 0) messageHead (flat none)) (MessageState 0) stateReleased) blank-ok refl  -- R 1
+    (Q.next (λ σ. put (put (putPart σ (OfPlace 2 1 0) 0 (placeRecord 0 2 1 0 (set none 2 (pair 0 2)))) (LiveCount 2) 2) (MessageState 0) stateDelivered) refl  -- D 1
+    (Q.next (λ σ. put (putPart σ (OfMessage 1 0) 0 (messageRecord stateHeld 0 1 0 1 7 none)) SentCount 2) refl  -- S 0 1 7
+    (goes (λ σ. put (putPart σ (OfMessage 1 0) messageHead (flat none)) (MessageState 1) stateReleased) blank-ok refl  -- R 2
+    (Q.next (λ σ. put (put (putPart σ (OfPlace 1 1 0) 0 (placeRecord 0 2 2 0 one)) (LiveCount 1) 2) (MessageState 1) stateDelivered) refl  -- D 2
+    (Q.next (λ σ. put (putPart σ (OfMessage 2 0) 0 (messageRecord stateHeld 1 2 0 2 9 one)) SentCount 3) refl  -- S 1 2 9
+    (goes (λ σ. put (putPart σ (OfMessage 2 0) messageHead (flat one)) (MessageState 2) stateReleased) blank-ok refl  -- R 3
+    (Q.next (λ σ. capped (put (put (putPart σ (OfPlace 2 2 0) 0 (placeRecord 0 3 3 0 (set one 2 (pair 0 3)))) (LiveCount 2) 3) (MessageState 2) stateDelivered) 2) refl  -- D 3
+    (Q.next (λ σ. removed (put σ (End 1 1 0) 1) 1 1) refl  -- X 1
+    (Q.next (λ σ. put σ Gap 1) refl  -- Q is 1
+    (Q.next (λ σ. rolledBack (put (put σ (End 2 1 0) 1) (Known 2 1 0) 1) 2 2) refl  -- H 2 1 0
     Q.end))))))))))))
 
 -- WHAT THE HISTORY SAYS OF Q ALONG LINES

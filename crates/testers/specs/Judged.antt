@@ -21,7 +21,7 @@ use Rattle.history.specs.History.{interval, History, sameInterval, changedAt, c
 use Rattle.history.specs.Citations.{Citation, noCitations, sentWith, letOutTo, citedStep, cited}
 use Rattle.history.specs.Demand.{Run, stepIn, justOpened}
 use Rattle.history.specs.Examples.{all, allCited}
-use Rattle.listing.specs.Quiet.{steps, quiet-opened, goes}
+use Rattle.listing.specs.Run.{steps, opened-form, goes}
 use Rattle.testers.specs.Sample.{sample, asked, calls, sample-run, opened-three, sample-answers}
 use Rattle.testers.specs.Along.{firstSteps, lineAt, answer-at, history-at, citations-after, stateAt, StageAt, stage-step, stage-at}
 
@@ -88,7 +88,7 @@ module _ (t g : List ℕ) (long : length t ≡ tableWords) (wide : length g ≡ 
   -- the table, the state and the ledger that it finds
   pub sample-stage : (j : ℕ) → StageAt (justOpened t g 3 1) sample-run j
   unfolding justOpened
-  sample-stage = let o = opened-three t g long wide in stage-at sample-run (quiet-opened 1) (justOpened t g 3 1) (o .table-is) (o .ledger-is)
+  sample-stage = let o = opened-three t g long wide in stage-at sample-run (opened-form 1 refl) (justOpened t g 3 1) (o .table-is) (o .ledger-is)
 
   -- the count of messages before and after the first is sent, and what the second brings to its receiver
   pub none-sent : state (sampleAt t g 0 .table) SentCount ≡ 0

@@ -9,18 +9,19 @@ use Rattle.base.specs.Lists.{tab}
 use Rattle.table.specs.Field.{State, OfMessage, OfPlace, SentCount, LiveCount, MessageState, Known, End, desk, messageHead}
 use Rattle.table.specs.Layout.{controllers, tableWords}
 use Rattle.table.specs.Words.{state, words}
+use Rattle.table.specs.Change.{put, putPart}
 use Rattle.rules.specs.Limits.{house}
 use Rattle.rules.specs.Vector.{Vector, pair, noPair, flat}
 use Rattle.rules.specs.Form.{stateHeld, stateReleased, stateDelivered, statePublished}
 use Rattle.rules.specs.Ledger.{ledgerWords, blankLedger}
-use Rattle.rules.specs.Shared.{placeRecord}
-use Rattle.rules.specs.Steps.{openHouse, messageRecord}
+use Rattle.rules.specs.Shared.{placeRecord, removed}
+use Rattle.rules.specs.Steps.{openHouse, messageRecord, rolledBack}
 use Rattle.rules.specs.Step.{looksAtForm, stepOn, lent, step, Call, asks, releaseSet, dispatch, stepCall}
 use Rattle.rules.specs.declared.Answer.{Answer}
 use Rattle.rules.specs.declared.Answer.the-variants.{Done, Sent, Released, Delivered, Crashed, Heard, Rolled}
 use Rattle.rules.specs.declared.Command.{Command}
 use Rattle.rules.specs.declared.Command.the-variants.{Open, Send, Release, Deliver, Crash, Hear}
-use Rattle.listing.specs.Quiet.{steps, answers, quiet-put, quiet-part, quiet-removed, quiet-rolled, quiet-opened, opens, blank-ok, Run, end, next, run-answers, goes, further}
+use Rattle.listing.specs.Run.{steps, answers, opened-form, opens, blank-ok, Run, end, next, run-answers, goes}
 use Rattle.history.specs.Demand.{justOpened, FromOpening}
 use Rattle.history.specs.Examples.{ListingLine, line}
 use Rattle.image.specs.Tables.{Opened, opening-done}
@@ -56,18 +57,18 @@ sample-run =
     let none : Vector = tab controllers (λ (_ : ℕ). noPair) in
     let one : Vector = set none 1 (pair 0 2) in
     let two : Vector = set one 2 (pair 0 2) in
-    next (λ q. quiet-put SentCount 1 refl (quiet-part (OfMessage 0 0) 0 (messageRecord stateHeld 0 1 0 1 7 none) (λ _. refl) q)) refl refl  -- S 0 1 7
-    (goes (λ q. quiet-put (MessageState 0) stateReleased refl (quiet-part (OfMessage 0 0) messageHead (flat none) (λ _. refl) q)) refl blank-ok refl  -- R 1
-    (next (λ q. quiet-put (MessageState 0) stateDelivered refl (quiet-put (LiveCount 1) 2 refl (quiet-part (OfPlace 1 1 0) 0 (placeRecord 0 2 1 0 one) (λ _. refl) q))) refl refl  -- D 1
-    (next (λ q. quiet-put SentCount 2 refl (quiet-part (OfMessage 1 0) 0 (messageRecord stateHeld 1 2 0 2 9 one) (λ _. refl) q)) refl refl  -- S 1 2 9
-    (goes (λ q. quiet-put (MessageState 1) stateReleased refl (quiet-part (OfMessage 1 0) messageHead (flat one) (λ _. refl) q)) refl blank-ok refl  -- R 2
-    (next (λ q. quiet-put (MessageState 1) stateDelivered refl (quiet-put (LiveCount 2) 2 refl (quiet-part (OfPlace 2 1 0) 0 (placeRecord 0 2 2 0 two) (λ _. refl) q))) refl refl  -- D 2
-    (next (λ q. quiet-put SentCount 3 refl (quiet-part (OfMessage 2 0) 0 (messageRecord stateHeld 0 desk 0 1 5 none) (λ _. refl) q)) refl refl  -- S 0 8 5
-    (goes (λ q. quiet-put (MessageState 2) statePublished refl (quiet-part (OfMessage 2 0) messageHead (flat none) (λ _. refl) q)) refl blank-ok refl  -- R 3
-    (next (λ q. quiet-removed 1 1 refl refl refl refl (further 3 refl _ _) (quiet-put (End 1 1 0) 1 refl q)) refl refl  -- X 1
-    (next (λ q. quiet-put (Known 0 1 0) 1 refl (quiet-put (End 0 1 0) 1 refl q)) refl refl  -- H 0 1 0
-    (next (λ q. quiet-rolled 2 1 refl refl refl refl refl (further 3 refl _ _) (quiet-put (Known 2 1 0) 1 refl (quiet-put (End 2 1 0) 1 refl q))) refl refl  -- H 2 1 0
-    (next (λ q. quiet-put (MessageState 0) stateDelivered refl (quiet-put (LiveCount 1) 3 refl (quiet-part (OfPlace 1 2 0) 0 (placeRecord 1 3 1 0 (set none 1 (pair 1 3))) (λ _. refl) q))) refl refl  -- D 1
+    next (λ σ. put (putPart σ (OfMessage 0 0) 0 (messageRecord stateHeld 0 1 0 1 7 none)) SentCount 1) refl  -- S 0 1 7
+    (goes (λ σ. put (putPart σ (OfMessage 0 0) messageHead (flat none)) (MessageState 0) stateReleased) blank-ok refl  -- R 1
+    (next (λ σ. put (put (putPart σ (OfPlace 1 1 0) 0 (placeRecord 0 2 1 0 one)) (LiveCount 1) 2) (MessageState 0) stateDelivered) refl  -- D 1
+    (next (λ σ. put (putPart σ (OfMessage 1 0) 0 (messageRecord stateHeld 1 2 0 2 9 one)) SentCount 2) refl  -- S 1 2 9
+    (goes (λ σ. put (putPart σ (OfMessage 1 0) messageHead (flat one)) (MessageState 1) stateReleased) blank-ok refl  -- R 2
+    (next (λ σ. put (put (putPart σ (OfPlace 2 1 0) 0 (placeRecord 0 2 2 0 two)) (LiveCount 2) 2) (MessageState 1) stateDelivered) refl  -- D 2
+    (next (λ σ. put (putPart σ (OfMessage 2 0) 0 (messageRecord stateHeld 0 desk 0 1 5 none)) SentCount 3) refl  -- S 0 8 5
+    (goes (λ σ. put (putPart σ (OfMessage 2 0) messageHead (flat none)) (MessageState 2) statePublished) blank-ok refl  -- R 3
+    (next (λ σ. removed (put σ (End 1 1 0) 1) 1 1) refl  -- X 1
+    (next (λ σ. put (put σ (End 0 1 0) 1) (Known 0 1 0) 1) refl  -- H 0 1 0
+    (next (λ σ. rolledBack (put (put σ (End 2 1 0) 1) (Known 2 1 0) 1) 2 1) refl  -- H 2 1 0
+    (next (λ σ. put (put (putPart σ (OfPlace 1 2 0) 0 (placeRecord 1 3 1 0 (set none 1 (pair 1 3)))) (LiveCount 1) 3) (MessageState 0) stateDelivered) refl  -- D 1
     end)))))))))))
 
 -- ON TABLES OF WORDS
@@ -124,7 +125,7 @@ module _ (t g : List ℕ) (long : length t ≡ tableWords) (wide : length g ≡ 
     unfolding justOpened
     run-answered run =
         ap₂ (λ u k. answersFrom u k (calls (asked l))) (opened-three .table-is) (opened-three .ledger-is)
-        ∙ answers-words (openHouse 3 1) (blankLedger house) (asked l) ∙ run-answers run (quiet-opened 1)
+        ∙ answers-words (openHouse 3 1) (blankLedger house) (asked l) ∙ run-answers run (opened-form 1 refl)
 
   -- the sample run
   pub sample-from-opening : FromOpening t g 3 1 (calls (asked sample))
