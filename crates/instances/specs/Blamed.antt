@@ -23,7 +23,7 @@ use Rattle.history.specs.History.{interval, sameInterval, changedAt, changedAtI
 use Rattle.history.specs.Demand.{upTo, end}
 use Rattle.history.specs.Blame.{OrphanBy, DroppedFor}
 use Rattle.history.specs.Examples.{ListingLine, line, all}
-use Rattle.listing.specs.Run as Q
+use Rattle.listing.specs.Run as states
 use Rattle.listing.specs.Run.{steps, blank-ok, goes}
 use Rattle.testers.specs.Sample.{sample, sample-run, allLook}
 use Rattle.testers.specs.Along.{stateAt, ledgerAt}
@@ -61,26 +61,26 @@ twice-lost-run =
     let none : Vector = tab controllers (λ (_ : ℕ). noPair) in
     let two : Vector = set (set none 1 (pair 0 2)) 2 (pair 0 2) in
     branch sample-run 6
-    (Q.next (λ σ. put σ (Degree 2) 2) refl  -- K 2 2
-    (Q.next (λ σ. put (putPart σ (OfMessage 2 0) 0 (messageRecord stateHeld 2 0 0 2 5 two)) SentCount 3) refl  -- S 2 0 5
+    (states.next (λ σ. put σ (Degree 2) 2) refl  -- K 2 2
+    (states.next (λ σ. put (putPart σ (OfMessage 2 0) 0 (messageRecord stateHeld 2 0 0 2 5 two)) SentCount 3) refl  -- S 2 0 5
     (goes (λ σ. put (putPart σ (OfMessage 2 0) messageHead (flat two)) (MessageState 2) stateReleased) blank-ok refl  -- R 3
-    (Q.next (λ σ. removed (put σ (End 1 1 0) 1) 1 1) refl  -- X 1
-    (Q.next (λ σ. removed (put σ (End 1 1 1) 2) 1 2) refl  -- X 1
-    (Q.next (λ σ. removed (put σ (End 2 2 0) 1) 2 1) refl  -- X 2
-    (Q.next (λ σ. put (put σ (End 0 1 0) 1) (Known 0 1 0) 1) refl  -- H 0 1 0
-    (Q.next (λ σ. put (put σ (End 0 1 1) 2) (Known 0 1 1) 2) refl  -- H 0 1 1
-    (Q.next (λ σ. put (put σ (End 0 2 0) 1) (Known 0 2 0) 1) refl  -- H 0 2 0
-    (Q.next (λ σ. put σ (MessageState 2) stateDropped) refl  -- D 3
-    Q.end))))))))))
+    (states.next (λ σ. removed (put σ (End 1 1 0) 1) 1 1) refl  -- X 1
+    (states.next (λ σ. removed (put σ (End 1 1 1) 2) 1 2) refl  -- X 1
+    (states.next (λ σ. removed (put σ (End 2 2 0) 1) 2 1) refl  -- X 2
+    (states.next (λ σ. put (put σ (End 0 1 0) 1) (Known 0 1 0) 1) refl  -- H 0 1 0
+    (states.next (λ σ. put (put σ (End 0 1 1) 2) (Known 0 1 1) 2) refl  -- H 0 1 1
+    (states.next (λ σ. put (put σ (End 0 2 0) 1) (Known 0 2 0) 1) refl  -- H 0 2 0
+    (states.next (λ σ. put σ (MessageState 2) stateDropped) refl  -- D 3
+    states.end))))))))))
 
 heard-then-run : Computed heardThen
 unfolding steps stateAt ledgerAt sample-run goes branch stepDegree twice-lost-run
 heard-then-run =
     branch twice-lost-run 10
-    (Q.next (λ σ. put (put σ (End 0 1 0) 1) (Known 0 1 0) 1) refl  -- H 0 1 0
-    (Q.next (λ σ. put σ (MessageState 2) stateDropped) refl  -- D 3
-    (Q.next (λ σ. rolledBack (put (put σ (End 2 1 0) 1) (Known 2 1 0) 1) 2 1) refl  -- H 2 1 0
-    Q.end)))
+    (states.next (λ σ. put (put σ (End 0 1 0) 1) (Known 0 1 0) 1) refl  -- H 0 1 0
+    (states.next (λ σ. put σ (MessageState 2) stateDropped) refl  -- D 3
+    (states.next (λ σ. rolledBack (put (put σ (End 2 1 0) 1) (Known 2 1 0) 1) 2 1) refl  -- H 2 1 0
+    states.end)))
 
 -- what its lines tell: to controller 0 the sending interval is an orphan by the crash of controller 2, too
 twice-told : OrphanBy (historyOf (take 15 twiceLost)) (historyOf (take 15 twiceLost) .receiver 3) (historyOf (take 15 twiceLost) .sending 3) 2 0

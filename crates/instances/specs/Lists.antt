@@ -19,7 +19,7 @@ use Rattle.rules.specs.declared.Answer.{Answer}
 use Rattle.rules.specs.declared.Answer.the-variants.{Done, Sent, Released, Held, Delivered, Dropped, Waits, Crashed, Heard}
 use Rattle.rules.specs.declared.Command.{Command}
 use Rattle.rules.specs.declared.Command.the-variants.{SetDegree, Send, Release, Deliver, Log, Checkpoint, Tell, Crash, Hear}
-use Rattle.listing.specs.Run as Q
+use Rattle.listing.specs.Run as states
 use Rattle.listing.specs.Run.{steps, blank-ok, goes}
 use Rattle.history.specs.Examples.{ListingLine, line}
 use Rattle.testers.specs.Sample.{asked, answered, calls, sample-run}
@@ -121,17 +121,17 @@ callsOf l = calls (asked l)
 
 -- ON STATES
 -- a run that goes another way from its step j on
-unfoldable pub branch : {σ : State} {g : List ℕ} {xs zs : List Command} {ys ws : List Answer} (w : Q.Run σ g xs ys) (j : ℕ) →
-    Q.Run (stateAt w j) (ledgerAt w j) zs ws → Q.Run σ g (take j xs ++ zs) (take j ys ++ ws)
+unfoldable pub branch : {σ : State} {g : List ℕ} {xs zs : List Command} {ys ws : List Answer} (w : states.Run σ g xs ys) (j : ℕ) →
+    states.Run (stateAt w j) (ledgerAt w j) zs ws → states.Run σ g (take j xs ++ zs) (take j ys ++ ws)
 unfolding stateAt ledgerAt
-branch Q.end zero v = v
-branch Q.end (suc j) v = v
-branch (Q.next change e w) zero v = v
-branch (Q.next change e w) (suc j) v = Q.next change e (branch w j v)
+branch states.end zero v = v
+branch states.end (suc j) v = v
+branch (states.next change e w) zero v = v
+branch (states.next change e w) (suc j) v = states.next change e (branch w j v)
 
 -- a list that gets its answers
 abbrev pub Computed : List ListingLine → Type 0
-Computed l = Q.Run (openHouse 3 1) (blankLedger house) (asked l) (answered l)
+Computed l = states.Run (openHouse 3 1) (blankLedger house) (asked l) (answered l)
 
 -- Each line has the words that its step writes; the rest is computed.
 abbrev none : Vector
@@ -145,87 +145,87 @@ unfolding steps stateAt ledgerAt sample-run goes stepCheckpoint told toldRow ste
 woven-run =
     let two : Vector = set (set none 1 (pair 0 2)) 2 (pair 0 2) in
     branch sample-run 6
-    (Q.next (λ σ. put (putPart σ (OfMessage 2 0) 0 (messageRecord stateHeld 2 desk 0 2 5 two)) SentCount 3) refl  -- S 2 8 5
+    (states.next (λ σ. put (putPart σ (OfMessage 2 0) 0 (messageRecord stateHeld 2 desk 0 2 5 two)) SentCount 3) refl  -- S 2 8 5
     (goes (λ σ. σ) blank-ok refl  -- R 3
-    (Q.next (λ σ. put (putPart σ (OfMessage 3 0) 0 (messageRecord stateHeld 2 0 0 2 6 two)) SentCount 4) refl  -- S 2 0 6
+    (states.next (λ σ. put (putPart σ (OfMessage 3 0) 0 (messageRecord stateHeld 2 0 0 2 6 two)) SentCount 4) refl  -- S 2 0 6
     (goes (λ σ. σ) blank-ok refl  -- R 4
-    (Q.next (λ σ. put (put (put σ (StableCount 2) 2) (Known 2 2 0) 2) (Flag 2 1) 1) refl  -- C 2
+    (states.next (λ σ. put (put (put σ (StableCount 2) 2) (Known 2 2 0) 2) (Flag 2 1) 1) refl  -- C 2
     (goes (λ σ. σ) blank-ok refl  -- R 3
-    (Q.next (λ σ. removed (put σ (End 0 0 0) 1) 0 1) refl  -- X 0
-    (Q.next (λ σ. put (put (put σ (StableCount 1) 2) (Known 1 1 0) 2) (Flag 1 1) 1) refl  -- C 1
-    (Q.next (λ σ. putPart σ (Known 2 1 0) 0 (set unknown 0 2)) refl  -- T 1 2
-    (Q.next (λ σ. put (put σ (End 2 0 0) 1) (Known 2 0 0) 1) refl  -- H 2 0 0
+    (states.next (λ σ. removed (put σ (End 0 0 0) 1) 0 1) refl  -- X 0
+    (states.next (λ σ. put (put (put σ (StableCount 1) 2) (Known 1 1 0) 2) (Flag 1 1) 1) refl  -- C 1
+    (states.next (λ σ. putPart σ (Known 2 1 0) 0 (set unknown 0 2)) refl  -- T 1 2
+    (states.next (λ σ. put (put σ (End 2 0 0) 1) (Known 2 0 0) 1) refl  -- H 2 0 0
     (goes (λ σ. put (putPart σ (OfMessage 3 0) messageHead (flat none)) (MessageState 3) stateReleased) blank-ok refl  -- R 4
-    Q.end)))))))))))
+    states.end)))))))))))
 
 pub all-but-one-run : Computed allButOne
 unfolding steps stateAt ledgerAt sample-run goes branch woven-run stepCheckpoint
 all-but-one-run =
     branch woven-run 12
     (goes (λ σ. put (putPart σ (OfMessage 3 0) messageHead (flat (set none 1 (pair 0 2)))) (MessageState 3) stateReleased) blank-ok refl  -- R 4
-    Q.end)
+    states.end)
 
 pub unheard-run : Computed unheard
 unfolding steps stateAt ledgerAt sample-run goes stepCheckpoint told toldRow stepTell
 unheard-run =
     let two : Vector = set (set none 1 (pair 0 2)) 2 (pair 0 2) in
     branch sample-run 6
-    (Q.next (λ σ. put (putPart σ (OfMessage 2 0) 0 (messageRecord stateHeld 2 desk 0 2 5 two)) SentCount 3) refl  -- S 2 8 5
-    (Q.next (λ σ. removed (put σ (End 1 1 0) 1) 1 1) refl  -- X 1
-    (Q.next (λ σ. put (put (put σ (StableCount 2) 2) (Known 2 2 0) 2) (Flag 2 1) 1) refl  -- C 2
-    (Q.next (λ σ. put σ (Flag 1 1) 1) refl  -- C 1
-    (Q.next (λ σ. put σ (Flag 0 0) 1) refl  -- C 0
-    (Q.next (λ σ. putPart σ (Known 2 1 0) 0 (set (set unknown 0 1) 1 2)) refl  -- T 1 2
-    (Q.next (λ σ. putPart σ (Known 2 0 0) 0 (set unknown 0 1)) refl  -- T 0 2
+    (states.next (λ σ. put (putPart σ (OfMessage 2 0) 0 (messageRecord stateHeld 2 desk 0 2 5 two)) SentCount 3) refl  -- S 2 8 5
+    (states.next (λ σ. removed (put σ (End 1 1 0) 1) 1 1) refl  -- X 1
+    (states.next (λ σ. put (put (put σ (StableCount 2) 2) (Known 2 2 0) 2) (Flag 2 1) 1) refl  -- C 2
+    (states.next (λ σ. put σ (Flag 1 1) 1) refl  -- C 1
+    (states.next (λ σ. put σ (Flag 0 0) 1) refl  -- C 0
+    (states.next (λ σ. putPart σ (Known 2 1 0) 0 (set (set unknown 0 1) 1 2)) refl  -- T 1 2
+    (states.next (λ σ. putPart σ (Known 2 0 0) 0 (set unknown 0 1)) refl  -- T 0 2
     (goes (λ σ. σ) blank-ok refl  -- R 3
-    Q.end))))))))
+    states.end))))))))
 
 pub loss-run : Computed loss
 unfolding steps stateAt ledgerAt sample-run goes told toldRow stepTell
 loss-run =
     let one : Vector = set none 1 (pair 0 2) in
     branch sample-run 5
-    (Q.next (λ σ. put (putPart σ (OfMessage 2 0) 0 (messageRecord stateHeld 0 2 0 1 5 none)) SentCount 3) refl  -- S 0 2 5
+    (states.next (λ σ. put (putPart σ (OfMessage 2 0) 0 (messageRecord stateHeld 0 2 0 1 5 none)) SentCount 3) refl  -- S 0 2 5
     (goes (λ σ. put (putPart σ (OfMessage 2 0) messageHead (flat none)) (MessageState 2) stateReleased) blank-ok refl  -- R 3
-    (Q.next (λ σ. put (putPart σ (OfMessage 3 0) 0 (messageRecord stateHeld 1 desk 0 2 4 one)) SentCount 4) refl  -- S 1 8 4
-    (Q.next (λ σ. removed (put σ (End 1 1 0) 1) 1 1) refl  -- X 1
-    (Q.next (λ σ. putPart σ (Known 2 1 0) 0 (set (set unknown 0 1) 1 2)) refl  -- T 1 2
-    (Q.next (λ σ. put (put σ (End 2 1 0) 1) (Known 2 1 0) 1) refl  -- H 2 1 0
-    (Q.next (λ σ. put (put (putPart σ (OfPlace 2 1 0) 0 (placeRecord 0 2 3 0 (set none 2 (pair 0 2)))) (LiveCount 2) 2) (MessageState 2) stateDelivered) refl  -- D 3
-    (Q.next (λ σ. put σ (MessageState 1) stateDropped) refl  -- D 2
-    Q.end))))))))
+    (states.next (λ σ. put (putPart σ (OfMessage 3 0) 0 (messageRecord stateHeld 1 desk 0 2 4 one)) SentCount 4) refl  -- S 1 8 4
+    (states.next (λ σ. removed (put σ (End 1 1 0) 1) 1 1) refl  -- X 1
+    (states.next (λ σ. putPart σ (Known 2 1 0) 0 (set (set unknown 0 1) 1 2)) refl  -- T 1 2
+    (states.next (λ σ. put (put σ (End 2 1 0) 1) (Known 2 1 0) 1) refl  -- H 2 1 0
+    (states.next (λ σ. put (put (putPart σ (OfPlace 2 1 0) 0 (placeRecord 0 2 3 0 (set none 2 (pair 0 2)))) (LiveCount 2) 2) (MessageState 2) stateDelivered) refl  -- D 3
+    (states.next (λ σ. put σ (MessageState 1) stateDropped) refl  -- D 2
+    states.end))))))))
 
 unfoldable pub waiting-run : Computed waiting
 unfolding steps stateAt ledgerAt sample-run goes stepCheckpoint told toldRow stepTell
 waiting-run =
     let four : Vector = set none 1 (pair 1 4) in
     branch sample-run 5
-    (Q.next (λ σ. put (put σ (StableCount 1) 2) (Known 1 1 0) 2) refl  -- L 1 1
-    (Q.next (λ σ. removed (put σ (End 1 1 0) 2) 1 2) refl  -- X 1
-    (Q.next (λ σ. put (putPart σ (OfMessage 2 0) 0 (messageRecord stateHeld 0 1 0 1 8 none)) SentCount 3) refl  -- S 0 1 8
+    (states.next (λ σ. put (put σ (StableCount 1) 2) (Known 1 1 0) 2) refl  -- L 1 1
+    (states.next (λ σ. removed (put σ (End 1 1 0) 2) 1 2) refl  -- X 1
+    (states.next (λ σ. put (putPart σ (OfMessage 2 0) 0 (messageRecord stateHeld 0 1 0 1 8 none)) SentCount 3) refl  -- S 0 1 8
     (goes (λ σ. put (putPart σ (OfMessage 2 0) messageHead (flat none)) (MessageState 2) stateReleased) blank-ok refl  -- R 3
-    (Q.next (λ σ. put (put (putPart σ (OfPlace 1 3 0) 0 (placeRecord 1 4 3 0 four)) (LiveCount 1) 4) (MessageState 2) stateDelivered) refl  -- D 3
-    (Q.next (λ σ. put (putPart σ (OfMessage 3 0) 0 (messageRecord stateHeld 1 2 1 4 10 four)) SentCount 4) refl  -- S 1 2 10
+    (states.next (λ σ. put (put (putPart σ (OfPlace 1 3 0) 0 (placeRecord 1 4 3 0 four)) (LiveCount 1) 4) (MessageState 2) stateDelivered) refl  -- D 3
+    (states.next (λ σ. put (putPart σ (OfMessage 3 0) 0 (messageRecord stateHeld 1 2 1 4 10 four)) SentCount 4) refl  -- S 1 2 10
     (goes (λ σ. put (putPart σ (OfMessage 3 0) messageHead (flat four)) (MessageState 3) stateReleased) blank-ok refl  -- R 4
-    (Q.next (λ σ. put (put (putPart σ (OfPlace 2 1 0) 0 (placeRecord 0 2 4 0 (set four 2 (pair 0 2)))) (LiveCount 2) 2) (MessageState 3) stateDelivered) refl  -- D 4
-    (Q.next (λ σ. σ) refl  -- D 2
-    (Q.next (λ σ. put (put (put σ (StableCount 1) 4) (Known 1 1 1) 4) (Flag 1 3) 1) refl  -- C 1
-    (Q.next (λ σ. putPart σ (Known 2 1 0) 0 (set (set unknown 0 2) 1 4)) refl  -- T 1 2
-    (Q.next (λ σ. put (put σ (End 2 1 0) 2) (Known 2 1 0) 2) refl  -- H 2 1 0
-    (Q.next (λ σ. put (put (putPart σ (OfPlace 2 2 0) 0 (placeRecord 0 3 2 0 (set none 2 (pair 0 3)))) (LiveCount 2) 3) (MessageState 1) stateDelivered) refl  -- D 2
-    Q.end)))))))))))))
+    (states.next (λ σ. put (put (putPart σ (OfPlace 2 1 0) 0 (placeRecord 0 2 4 0 (set four 2 (pair 0 2)))) (LiveCount 2) 2) (MessageState 3) stateDelivered) refl  -- D 4
+    (states.next (λ σ. σ) refl  -- D 2
+    (states.next (λ σ. put (put (put σ (StableCount 1) 4) (Known 1 1 1) 4) (Flag 1 3) 1) refl  -- C 1
+    (states.next (λ σ. putPart σ (Known 2 1 0) 0 (set (set unknown 0 2) 1 4)) refl  -- T 1 2
+    (states.next (λ σ. put (put σ (End 2 1 0) 2) (Known 2 1 0) 2) refl  -- H 2 1 0
+    (states.next (λ σ. put (put (putPart σ (OfPlace 2 2 0) 0 (placeRecord 0 3 2 0 (set none 2 (pair 0 3)))) (LiveCount 2) 3) (MessageState 1) stateDelivered) refl  -- D 2
+    states.end)))))))))))))
 
 pub delivered-sooner-run : Computed deliveredSooner
 unfolding steps stateAt ledgerAt sample-run goes branch waiting-run stepCheckpoint told toldRow stepTell
 delivered-sooner-run =
     branch waiting-run 16
-    (Q.next (λ σ. put (put (putPart σ (OfPlace 2 2 0) 0 (placeRecord 0 3 2 0 (set none 2 (pair 0 3)))) (LiveCount 2) 3) (MessageState 1) stateDelivered) refl  -- D 2
-    Q.end)
+    (states.next (λ σ. put (put (putPart σ (OfPlace 2 2 0) 0 (placeRecord 0 3 2 0 (set none 2 (pair 0 3)))) (LiveCount 2) 3) (MessageState 1) stateDelivered) refl  -- D 2
+    states.end)
 
 pub unrevoked-run : Computed unrevoked
 unfolding steps goes stepDegree
 unrevoked-run =
-    Q.next (λ σ. put σ (Degree 0) 0) refl  -- K 0 0
-    (Q.next (λ σ. put (putPart σ (OfMessage 0 0) 0 (messageRecord stateHeld 0 1 0 1 7 none)) SentCount 1) refl  -- S 0 1 7
+    states.next (λ σ. put σ (Degree 0) 0) refl  -- K 0 0
+    (states.next (λ σ. put (putPart σ (OfMessage 0 0) 0 (messageRecord stateHeld 0 1 0 1 7 none)) SentCount 1) refl  -- S 0 1 7
     (goes (λ σ. put (putPart σ (OfMessage 0 0) messageHead (flat none)) (MessageState 0) stateReleased) blank-ok refl  -- R 1
-    Q.end))
+    states.end))

@@ -30,7 +30,7 @@ use Rattle.history.specs.Citations.{Citation, noCitations, sentWith, letOutTo, 
 use Rattle.history.specs.Demand.{Run, callIn, next, runs, justOpened, named, LetsGo, together, FromOpening, upTo, end}
 use Rattle.history.specs.Examples.{ListingLine, line, all, allCited}
 use Rattle.laws.specs.Ledger.{appended-sound}
-use Rattle.listing.specs.Run as Q
+use Rattle.listing.specs.Run as states
 use Rattle.listing.specs.Run.{steps, blank-ok, goes, opened-form}
 use Rattle.testers.specs.Sample.{sample, asked, calls, sample-run, allLook, opened-three, from-opening}
 use Rattle.testers.specs.Along.{citations-after, Stage, stateAt, ledgerAt, commandAt, stage-at}
@@ -69,13 +69,13 @@ unfolding steps stateAt ledgerAt sample-run goes branch stepDegree
 reel-run =
     let two : Vector = set (set none 1 (pair 0 2)) 2 (pair 0 2) in
     branch sample-run 6
-    (Q.next (λ σ. put σ (Degree 2) 2) refl  -- K 2 2
-    (Q.next (λ σ. put (putPart σ (OfMessage 2 0) 0 (messageRecord stateHeld 2 0 0 2 5 two)) SentCount 3) refl  -- S 2 0 5
-    (Q.next (λ σ. put (putPart σ (OfMessage 3 0) 0 (messageRecord stateHeld 2 1 0 2 6 two)) SentCount 4) refl  -- S 2 1 6
+    (states.next (λ σ. put σ (Degree 2) 2) refl  -- K 2 2
+    (states.next (λ σ. put (putPart σ (OfMessage 2 0) 0 (messageRecord stateHeld 2 0 0 2 5 two)) SentCount 3) refl  -- S 2 0 5
+    (states.next (λ σ. put (putPart σ (OfMessage 3 0) 0 (messageRecord stateHeld 2 1 0 2 6 two)) SentCount 4) refl  -- S 2 1 6
     (goes (λ σ. put (putPart σ (OfMessage 2 0) messageHead (flat two)) (MessageState 2) stateReleased) blank-ok refl  -- R 3
     (goes (λ σ. put (putPart σ (OfMessage 3 0) messageHead (flat two)) (MessageState 3) stateReleased) blank-ok refl  -- R 4
-    (Q.next (λ σ. removed (put σ (End 1 1 0) 1) 1 1) refl  -- X 1
-    Q.end))))))
+    (states.next (λ σ. removed (put σ (End 1 1 0) 1) 1 1) refl  -- X 1
+    states.end))))))
 
 blank-count : countOf (blankLedger house) ≡ 0
 unfolding blankLedger
@@ -85,13 +85,13 @@ unfoldable readings-run : Computed readings
 unfolding steps goes blankLedger appended splice
 readings-run =
     let cited-once = appended-sound house (blankLedger house) 2 4 blank-ok (omega (arith, blank-count)) in
-    (Q.next (λ σ. put (putPart σ (OfMessage 0 0) 0 (messageRecord stateHeld 0 desk 0 1 5 none)) SentCount 1) refl  -- S 0 8 5
-    (Q.next (λ σ. put (putPart σ (OfMessage 1 0) 0 (messageRecord stateHeld 0 desk 0 1 4 none)) SentCount 2) refl  -- S 0 8 4
-    (Q.next (λ σ. put (putPart σ (OfMessage 2 0) 0 (messageRecord stateHeld 0 1 0 1 6 none)) SentCount 3) refl  -- S 0 1 6
+    (states.next (λ σ. put (putPart σ (OfMessage 0 0) 0 (messageRecord stateHeld 0 desk 0 1 5 none)) SentCount 1) refl  -- S 0 8 5
+    (states.next (λ σ. put (putPart σ (OfMessage 1 0) 0 (messageRecord stateHeld 0 desk 0 1 4 none)) SentCount 2) refl  -- S 0 8 4
+    (states.next (λ σ. put (putPart σ (OfMessage 2 0) 0 (messageRecord stateHeld 0 1 0 1 6 none)) SentCount 3) refl  -- S 0 1 6
     (goes (λ σ. put (putPart σ (OfMessage 1 0) messageHead (flat none)) (MessageState 1) statePublished) blank-ok refl  -- R 2
     (goes (λ σ. put (putPart σ (OfMessage 2 0) messageHead (flat none)) (MessageState 2) stateReleased) cited-once refl  -- R 3
     (goes (λ σ. put (putPart σ (OfMessage 0 0) messageHead (flat none)) (MessageState 0) statePublished) cited-once refl  -- R 1
-    Q.end))))))
+    states.end))))))
 
 -- THE SET
 -- a set beside a ledger in form whose other tests pass, each by computing, is released with its union

@@ -4,15 +4,16 @@ use mathlib.Core.Path.{_≡_, refl, ap, _∙_, subst}
 use mathlib.Core.Bool.{true, false, and-false}
 use mathlib.Core.List.{List, [], _∷_}
 use Prim.Native.Nat.{ℕ, zero, suc}
+use native.Mathlib.Omega.{arith}
 use lib.Count.{onesIn, ones}
-use lib.ListN.{length, length-replicate}
-use borrow.Author.Tests.{eq-eqb}
+use lib.ListN.{length}
+use borrow.Author.Tests.{eq-eqb, ltb-false}
 use Rattle.base.specs.Choice.{_<?_}
 use Rattle.base.specs.Ranges.{anyb, first}
 use Rattle.base.specs.Lists.{tab}
 use Rattle.base.specs.Cases.{firstOf}
 use Rattle.table.specs.Field.{State, same}
-use Rattle.table.specs.Change.{blank, put, putPart, clearPlaces, putStates}
+use Rattle.table.specs.Change.{put, putPart, clearPlaces, putStates}
 use Rattle.table.specs.Numbering.{numberOf, used, lastGiven, recordOf, messageOf, posted}
 use Rattle.rules.specs.Limits.{house}
 use Rattle.rules.specs.Vector.{placeVector, messageVector, flat, knownStable, filterPair, filtered, condemnedPair, condemned, condemning, maskTo, mask, conflictPair, conflict, mergePair, merged}
@@ -27,7 +28,8 @@ use Rattle.rules.specs.declared.Command.{Command}
 use Rattle.rules.specs.declared.Command.the-variants.{Open, Release}
 use Rattle.laws.specs.Facts.{house-fits}
 use Rattle.laws.specs.Ledger.{blank-sound}
-use Rattle.keeping.specs.Steps.{performed, form-kept, form-opened}
+use Rattle.keeping.specs.Opening.{form-open}
+use Rattle.keeping.specs.Steps.{performed, form-kept}
 
 -- the answers to a list of steps, each on the state and the ledger that the last one left
 unfoldable pub answers : State → List ℕ → List Command → List Answer
@@ -41,10 +43,7 @@ opens σ g k long e = rw (eq-eqb (length g) (ledgerWords house) long, e)
 
 -- a house just opened is in form, and a step on a state in form leaves one
 pub opened-form : (k : ℕ) → (3 <? k) ≡ false → inForm house (openHouse 3 k) ≡ true
-unfolding blankLedger
-opened-form k e =
-    let o = opens blank (blankLedger house) k (length-replicate (ledgerWords house) zero) e in
-    subst (λ o. inForm house (o .left) ≡ true) o (form-opened house house-fits blank (blankLedger house) 3 k (ap (λ o. o .answer) o))
+opened-form k e = form-open house house-fits 3 k (record { size-pos = omega arith; size-le = omega arith; degree-le = ltb-false 3 k e })
 
 pub left-form : (σ : State) (g : List ℕ) (x : Command) {τ : State} {h : List ℕ} {y : Answer} → inForm house σ ≡ true → perform house σ g x ≡ afterBoth y τ h → inForm house τ ≡ true
 left-form σ g x f e = subst (λ o. inForm house (o .left) ≡ true) (performed house σ g f x ∙ e) (form-kept house house-fits σ g x f)

@@ -15,7 +15,7 @@ use Rattle.rules.specs.declared.Answer.{Answer}
 use Rattle.rules.specs.declared.Answer.the-variants.{Done}
 use Rattle.rules.specs.declared.Command.{Command}
 use Rattle.rules.specs.declared.Command.the-variants.{Open}
-use Rattle.listing.specs.Run as Q
+use Rattle.listing.specs.Run as states
 use Rattle.listing.specs.Run.{left-form}
 use Rattle.history.specs.History.{fed}
 use Rattle.history.specs.Citations.{cited}
@@ -66,15 +66,15 @@ citations-after r (x ∷ l) h =
 
 -- TABLES AND LEDGERS
 -- the state that step j of a run on states finds, and the ledger; those at its end for a step further on
-unfoldable pub stateAt : {σ : State} {g : List ℕ} {xs : List Command} {ys : List Answer} → Q.Run σ g xs ys → ℕ → State
-stateAt (Q.end {σ}) j = σ
-stateAt (Q.next {σ} change e w) zero = σ
-stateAt (Q.next change e w) (suc j) = stateAt w j
+unfoldable pub stateAt : {σ : State} {g : List ℕ} {xs : List Command} {ys : List Answer} → states.Run σ g xs ys → ℕ → State
+stateAt (states.end {σ}) j = σ
+stateAt (states.next {σ} change e w) zero = σ
+stateAt (states.next change e w) (suc j) = stateAt w j
 
-unfoldable pub ledgerAt : {σ : State} {g : List ℕ} {xs : List Command} {ys : List Answer} → Q.Run σ g xs ys → ℕ → List ℕ
-ledgerAt (Q.end {g = g}) j = g
-ledgerAt (Q.next {g = g} change e w) zero = g
-ledgerAt (Q.next change e w) (suc j) = ledgerAt w j
+unfoldable pub ledgerAt : {σ : State} {g : List ℕ} {xs : List Command} {ys : List Answer} → states.Run σ g xs ys → ℕ → List ℕ
+ledgerAt (states.end {g = g}) j = g
+ledgerAt (states.next {g = g} change e w) zero = g
+ledgerAt (states.next change e w) (suc j) = ledgerAt w j
 
 -- step x finds the table t, that of the state σ, in form if it looks, and the ledger g, which is k
 pub record Stage (t g : List ℕ) (σ : State) (k : List ℕ) (x : Command) : Type 0 where
@@ -96,19 +96,19 @@ abbrev pub commandAt : List Command → ℕ → Command
 commandAt xs j = getD xs j (Open 0 0)
 
 -- step j of the run r, which is w on states
-abbrev pub StageAt : Run → {σ : State} {g : List ℕ} {xs : List Command} {ys : List Answer} → Q.Run σ g xs ys → ℕ → Type 0
+abbrev pub StageAt : Run → {σ : State} {g : List ℕ} {xs : List Command} {ys : List Answer} → states.Run σ g xs ys → ℕ → Type 0
 StageAt r {xs = xs} w j = let s = runs r (calls (take j xs)) in Stage (s .table) (s .ledger) (stateAt w j) (ledgerAt w j) (commandAt xs j)
 
 opening-stage : {t g : List ℕ} {σ : State} {k : List ℕ} (n degree : ℕ) → t ≡ words σ → g ≡ k → Stage t g σ k (Open n degree)
 opening-stage n degree e h = record { table-is = e; ledger-is = h; good = λ z. absurd (true≢false (sym z)) }
 
-pub stage-at : {σ : State} {g : List ℕ} {xs : List Command} {ys : List Answer} (w : Q.Run σ g xs ys) → inForm house σ ≡ true → (r : Run) → r .table ≡ words σ → r .ledger ≡ g →
+pub stage-at : {σ : State} {g : List ℕ} {xs : List Command} {ys : List Answer} (w : states.Run σ g xs ys) → inForm house σ ≡ true → (r : Run) → r .table ≡ words σ → r .ledger ≡ g →
     (j : ℕ) → StageAt r w j
 unfolding runs stateAt ledgerAt next stepCall
-stage-at Q.end f r e h zero = opening-stage 0 0 e h
-stage-at Q.end f r e h (suc j) = opening-stage 0 0 e h
-stage-at (Q.next change p w) f r e h zero = record { table-is = e; ledger-is = h; good = λ _. f }
-stage-at (Q.next {σ} {g = k} {x = x} change p w) f r e h (suc j) =
+stage-at states.end f r e h zero = opening-stage 0 0 e h
+stage-at states.end f r e h (suc j) = opening-stage 0 0 e h
+stage-at (states.next change p w) f r e h zero = record { table-is = e; ledger-is = h; good = λ _. f }
+stage-at (states.next {σ} {g = k} {x = x} change p w) f r e h (suc j) =
     let s : Stage (r .table) (r .ledger) σ k x = record { table-is = e; ledger-is = h; good = λ _. f } in
     let o = stage-step s ∙ ap writtenBoth p in
     stage-at w (left-form σ k x f p) (next (asks x) r) (ap (λ o. o .table) o) (ap (λ o. o .ledger) o) j

@@ -21,7 +21,7 @@ use Rattle.rules.specs.Steps.{openHouse, messageRecord, rolledBack}
 use Rattle.rules.specs.Step.{Call, asks, stepCall}
 use Rattle.rules.specs.declared.Answer.the-variants.{Done, Sent, Released, Delivered, Crashed, Rolled}
 use Rattle.rules.specs.declared.Command.the-variants.{Send, Release, Deliver, Log, Crash, Hear, SetGap}
-use Rattle.listing.specs.Run as Q
+use Rattle.listing.specs.Run as states
 use Rattle.listing.specs.Run.{steps, blank-ok, goes}
 use Rattle.history.specs.History.{History, sameInterval, changedAt, changedAtInterval, newest, member, those, oldest, sentFrom, joined, leaving, stabilized, hearing, losing, gapSet, flagging, opening, logging, checkpointing, latestOn, forcedAt, capping, beginning, delivering, restarting, crashing as historyCrashing, rollingBack, answers, valueAt, fedStep, fed}
 use Rattle.history.specs.Demand.{Run, stepIn, next, runs, justOpened, FromOpening}
@@ -56,38 +56,38 @@ rolling =
     ∷ []
 
 -- On states: each line has the words that its step writes; the rest is computed.
-crashing-run : Q.Run (openHouse 3 1) (blankLedger house) (asked crashing) (answered crashing)
+crashing-run : states.Run (openHouse 3 1) (blankLedger house) (asked crashing) (answered crashing)
 unfolding steps blankLedger
 crashing-run =
     let none : Vector = tab controllers (λ (_ : ℕ). noPair) in
-    Q.next (λ σ. put σ Gap 2) refl  -- Q is 2
-    (Q.next (λ σ. put (putPart σ (OfMessage 0 0) 0 (messageRecord stateHeld 0 1 0 1 7 none)) SentCount 1) refl  -- S 0 1 7
+    states.next (λ σ. put σ Gap 2) refl  -- Q is 2
+    (states.next (λ σ. put (putPart σ (OfMessage 0 0) 0 (messageRecord stateHeld 0 1 0 1 7 none)) SentCount 1) refl  -- S 0 1 7
     (goes (λ σ. put (putPart σ (OfMessage 0 0) messageHead (flat none)) (MessageState 0) stateReleased) blank-ok refl  -- R 1
-    (Q.next (λ σ. put (put (putPart σ (OfPlace 1 1 0) 0 (placeRecord 0 2 1 0 (set none 1 (pair 0 2)))) (LiveCount 1) 2) (MessageState 0) stateDelivered) refl  -- D 1
-    (Q.next (λ σ. put (put σ (StableCount 1) 2) (Known 1 1 0) 2) refl  -- L 1 1
-    (Q.next (λ σ. put σ Gap 1) refl  -- Q is 1
-    (Q.next (λ σ. removed (put σ (End 1 1 0) 2) 1 2) refl  -- X 1
-    Q.end))))))
+    (states.next (λ σ. put (put (putPart σ (OfPlace 1 1 0) 0 (placeRecord 0 2 1 0 (set none 1 (pair 0 2)))) (LiveCount 1) 2) (MessageState 0) stateDelivered) refl  -- D 1
+    (states.next (λ σ. put (put σ (StableCount 1) 2) (Known 1 1 0) 2) refl  -- L 1 1
+    (states.next (λ σ. put σ Gap 1) refl  -- Q is 1
+    (states.next (λ σ. removed (put σ (End 1 1 0) 2) 1 2) refl  -- X 1
+    states.end))))))
 
-rolling-run : Q.Run (openHouse 3 1) (blankLedger house) (asked rolling) (answered rolling)
+rolling-run : states.Run (openHouse 3 1) (blankLedger house) (asked rolling) (answered rolling)
 unfolding steps blankLedger
 rolling-run =
     let none : Vector = tab controllers (λ (_ : ℕ). noPair) in
     let one : Vector = set none 1 (pair 0 2) in
-    Q.next (λ σ. put σ Gap 2) refl  -- Q is 2
-    (Q.next (λ σ. put (putPart σ (OfMessage 0 0) 0 (messageRecord stateHeld 0 2 0 1 7 none)) SentCount 1) refl  -- S 0 2 7
+    states.next (λ σ. put σ Gap 2) refl  -- Q is 2
+    (states.next (λ σ. put (putPart σ (OfMessage 0 0) 0 (messageRecord stateHeld 0 2 0 1 7 none)) SentCount 1) refl  -- S 0 2 7
     (goes (λ σ. put (putPart σ (OfMessage 0 0) messageHead (flat none)) (MessageState 0) stateReleased) blank-ok refl  -- R 1
-    (Q.next (λ σ. put (put (putPart σ (OfPlace 2 1 0) 0 (placeRecord 0 2 1 0 (set none 2 (pair 0 2)))) (LiveCount 2) 2) (MessageState 0) stateDelivered) refl  -- D 1
-    (Q.next (λ σ. put (putPart σ (OfMessage 1 0) 0 (messageRecord stateHeld 0 1 0 1 7 none)) SentCount 2) refl  -- S 0 1 7
+    (states.next (λ σ. put (put (putPart σ (OfPlace 2 1 0) 0 (placeRecord 0 2 1 0 (set none 2 (pair 0 2)))) (LiveCount 2) 2) (MessageState 0) stateDelivered) refl  -- D 1
+    (states.next (λ σ. put (putPart σ (OfMessage 1 0) 0 (messageRecord stateHeld 0 1 0 1 7 none)) SentCount 2) refl  -- S 0 1 7
     (goes (λ σ. put (putPart σ (OfMessage 1 0) messageHead (flat none)) (MessageState 1) stateReleased) blank-ok refl  -- R 2
-    (Q.next (λ σ. put (put (putPart σ (OfPlace 1 1 0) 0 (placeRecord 0 2 2 0 one)) (LiveCount 1) 2) (MessageState 1) stateDelivered) refl  -- D 2
-    (Q.next (λ σ. put (putPart σ (OfMessage 2 0) 0 (messageRecord stateHeld 1 2 0 2 9 one)) SentCount 3) refl  -- S 1 2 9
+    (states.next (λ σ. put (put (putPart σ (OfPlace 1 1 0) 0 (placeRecord 0 2 2 0 one)) (LiveCount 1) 2) (MessageState 1) stateDelivered) refl  -- D 2
+    (states.next (λ σ. put (putPart σ (OfMessage 2 0) 0 (messageRecord stateHeld 1 2 0 2 9 one)) SentCount 3) refl  -- S 1 2 9
     (goes (λ σ. put (putPart σ (OfMessage 2 0) messageHead (flat one)) (MessageState 2) stateReleased) blank-ok refl  -- R 3
-    (Q.next (λ σ. capped (put (put (putPart σ (OfPlace 2 2 0) 0 (placeRecord 0 3 3 0 (set one 2 (pair 0 3)))) (LiveCount 2) 3) (MessageState 2) stateDelivered) 2) refl  -- D 3
-    (Q.next (λ σ. removed (put σ (End 1 1 0) 1) 1 1) refl  -- X 1
-    (Q.next (λ σ. put σ Gap 1) refl  -- Q is 1
-    (Q.next (λ σ. rolledBack (put (put σ (End 2 1 0) 1) (Known 2 1 0) 1) 2 2) refl  -- H 2 1 0
-    Q.end))))))))))))
+    (states.next (λ σ. capped (put (put (putPart σ (OfPlace 2 2 0) 0 (placeRecord 0 3 3 0 (set one 2 (pair 0 3)))) (LiveCount 2) 3) (MessageState 2) stateDelivered) 2) refl  -- D 3
+    (states.next (λ σ. removed (put σ (End 1 1 0) 1) 1 1) refl  -- X 1
+    (states.next (λ σ. put σ Gap 1) refl  -- Q is 1
+    (states.next (λ σ. rolledBack (put (put σ (End 2 1 0) 1) (Known 2 1 0) 1) 2 2) refl  -- H 2 1 0
+    states.end))))))))))))
 
 -- WHAT THE HISTORY SAYS OF Q ALONG LINES
 -- after each line it is at least 1
@@ -130,7 +130,7 @@ largest-at r (x ∷ l) a (suc j) =
 
 -- A run of the list l, in which Q is never 0 after a step; before its step j the largest so far is 2, and the newest 1.
 pub record GapRun (l : List ListingLine) (j : ℕ) : Type 0 where
-  run : Q.Run (openHouse 3 1) (blankLedger house) (asked l) (answered l)
+  run : states.Run (openHouse 3 1) (blankLedger house) (asked l) (answered l)
   looks : allLook (calls (asked l)) ≡ true
   on-is : on (opening 3 1) l ≡ true
   within : (j <? length l) ≡ true
