@@ -14,6 +14,7 @@ ghost use Rattle.laws.specs.Answering.{Lent};
 ghost use Rattle.laws.specs.Chain.{Counts};
 use rules::Answer;
 use rules::refusal;
+use table::layout;
 
 // The k oldest live intervals of c are stable.
 pub fn log_to(t: &mut [u32], c: usize, k: u32)
@@ -83,7 +84,7 @@ pub fn cap(t: &mut [u32], c: usize)
 pub fn gap_refusal(q: u32) -> u32
     ensures { λ no. ⌜ no ≡ firstOf (gapRefusals q) ⌝ }
 {
-    if table::LAST_GAP < q {
+    if layout::LAST_GAP < q {
         return refusal::DEGREE;
     }
     0

@@ -13,6 +13,7 @@ ghost use Rattle.laws.specs.Answering.{Lent};
 ghost use Rattle.laws.specs.Chain.{Counts};
 use rules::Answer;
 use rules::refusal;
+use table::layout;
 
 pub fn degree_refusal(t: &[u32], c: u32, k: u32) -> u32
     requires { ⌜ length (now t) ≡ tableWords ⌝ }
@@ -104,7 +105,7 @@ pub fn told_row(t: &[u32], owner: usize, holder: usize) -> [u32; 16]
 {
     let mut row = [0u32; 16];
     let mut i = 0;
-    while i < table::INCARNATIONS {
+    while i < layout::INCARNATIONS {
         let theirs = table::known(t, holder, owner, i);
         let own = table::known(t, owner, owner, i);
         row[i] = larger(theirs, own);
@@ -120,7 +121,7 @@ pub fn store_row(t: &mut [u32], owner: usize, holder: usize)
 {
     let row = told_row(t, owner, holder);
     let from = table::known_row_at(holder, owner);
-    let to = from + table::INCARNATIONS;
+    let to = from + layout::INCARNATIONS;
     table::copy_words(&mut t[from..to], &row);
 }
 

@@ -13,6 +13,7 @@ ghost use Rattle.laws.specs.Chain.{Starts};
 ghost use Rattle.crash.specs.Crashing.{Crashes};
 use rules::Answer;
 use rules::refusal;
+use table::layout;
 
 // The number of the first refusal of X c that applies, or 0.
 pub fn crash_refusal(t: &[u32], c: u32) -> u32
@@ -25,7 +26,7 @@ pub fn crash_refusal(t: &[u32], c: u32) -> u32
     if interval::no_place(t, c as usize, table::stable_count(t, c as usize)) {
         return refusal::PLACES_USED_UP;
     }
-    if table::LAST_INCARNATION <= table::incarnation(t, c as usize) {
+    if layout::LAST_INCARNATION <= table::incarnation(t, c as usize) {
         return refusal::INCARNATIONS_USED_UP;
     }
     0

@@ -15,6 +15,7 @@ ghost use Rattle.laws.specs.Chain.{Counts, Taken};
 use rules::Answer;
 use rules::Prospect;
 use rules::refusal;
+use table::layout;
 
 // The chain of c gets an interval with cause m, in record r, and the merged vector v.
 pub fn add_interval(t: &mut [u32], c: usize, m: u32, r: usize, v: vector::Vector)
@@ -29,7 +30,7 @@ pub fn add_interval(t: &mut [u32], c: usize, m: u32, r: usize, v: vector::Vector
     w[c] = own;
     interval::write_place(t, c, live as usize, i, x, m, 0, w);
     table::set_live_count(t, c, live + 1);
-    table::set_message_state(t, r, table::DELIVERED);
+    table::set_message_state(t, r, layout::DELIVERED);
 }
 
 // This new interval begins, and is checkpointed if the gap asks for it.
@@ -85,7 +86,7 @@ pub fn come_of(t: &mut [u32], m: u32, r: usize, p: Prospect) -> Answer
 {
     match p {
         Prospect::WouldDrop(owner, i) => {
-            table::set_message_state(t, r, table::DROPPED);
+            table::set_message_state(t, r, layout::DROPPED);
             Answer::Dropped(m, owner, i)
         }
         Prospect::WouldWait => Answer::Waits(m),
@@ -109,7 +110,7 @@ pub fn deliver(t: &mut [u32], m: u32) -> Answer
     ensures { λ a. ⌜ out a (now (t .exit)) ≡ written (stepDeliver house (state (now (t .entry))) m) ⌝ }
 {
     let r = table::find_record(t, m);
-    let no = message::message_refusal(t, r, table::RELEASED);
+    let no = message::message_refusal(t, r, layout::RELEASED);
     if no != 0 {
         return Answer::Refused(no);
     }

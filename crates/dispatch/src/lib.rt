@@ -17,6 +17,7 @@ ghost use Rattle.dispatch.specs.Searching.{Next, Best, Serves, Chosen};
 use rules::Answer;
 use rules::Prospect;
 use rules::refusal;
+use table::layout;
 
 // Whom a call would serve, as far as it has looked: the turn of the controller in the round, which is n where there is nobody, the record of
 // its message, and what would come of that.
@@ -58,7 +59,7 @@ fn next_released(t: &[u32], low: usize) -> usize
     let used = table::records_used(t) as usize;
     let mut r = low;
     while r < used {
-        if table::message_state(t, r) == table::RELEASED {
+        if table::message_state(t, r) == layout::RELEASED {
             return r;
         }
         r += 1;
@@ -141,7 +142,7 @@ fn dispatch_formed(t: &mut [u32]) -> Answer
 pub fn dispatch(t: &mut [u32]) -> Answer
     ensures { λ a. ⌜ ((g : List ℕ) → outBoth a (now (t .exit)) g ≡ stepCall (now (t .entry)) g dispatch) ⌝ }
 {
-    if t.len() != table::TABLE_WORDS {
+    if t.len() != layout::TABLE_WORDS {
         return Answer::Refused(refusal::LENGTH);
     }
     if !form::in_form(t) {

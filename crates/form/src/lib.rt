@@ -8,13 +8,14 @@ ghost use Rattle.table.specs.Layout.{controllers, places, messages, tableWords}
 ghost use Rattle.table.specs.Words.{state};
 ghost use Rattle.rules.specs.Limits.{house};
 ghost use Rattle.rules.specs.Form.{headOk, controllerOk, rowOk, placeOk, messageOk, inForm};
+use table::layout;
 
 pub fn controllers_ok(t: &[u32], n: u32) -> bool
     requires { ⌜ length (now t) ≡ tableWords ⌝ }
     ensures { λ x. ⌜ x ≡ allb controllers (controllerOk house n (state (now (t .entry)))) ⌝ }
 {
     let mut c = 0;
-    while c < table::CONTROLLERS {
+    while c < layout::CONTROLLERS {
         if !records::controller_ok(t, n, c) {
             return false;
         }
@@ -29,7 +30,7 @@ pub fn rows_ok(t: &[u32], n: u32, holder: usize) -> bool
     ensures { λ x. ⌜ x ≡ allb controllers (rowOk house n (state (now (t .entry))) holder) ⌝ }
 {
     let mut owner = 0;
-    while owner < table::CONTROLLERS {
+    while owner < layout::CONTROLLERS {
         if !records::row_ok(t, n, holder, owner) {
             return false;
         }
@@ -43,7 +44,7 @@ pub fn all_rows_ok(t: &[u32], n: u32) -> bool
     ensures { λ x. ⌜ x ≡ allb controllers (λ holder. allb controllers (rowOk house n (state (now (t .entry))) holder)) ⌝ }
 {
     let mut holder = 0;
-    while holder < table::CONTROLLERS {
+    while holder < layout::CONTROLLERS {
         if !rows_ok(t, n, holder) {
             return false;
         }
@@ -68,7 +69,7 @@ pub fn places_ok(t: &[u32], n: u32, c: usize) -> bool
     requires { ⌜ (length (now t) ≡ tableWords) × (c < controllers) ⌝ }
     ensures { λ x. ⌜ x ≡ allb places (placeOk house n (state (now (t .entry))) c) ⌝ }
 {
-    let live = at_most(table::live_count(t, c), table::PLACES);
+    let live = at_most(table::live_count(t, c), layout::PLACES);
     let mut p = 0;
     while p < live {
         if !records::place_ok(t, n, c, p) {
@@ -76,7 +77,7 @@ pub fn places_ok(t: &[u32], n: u32, c: usize) -> bool
         }
         p += 1;
     }
-    let free = (table::PLACES - live) * table::PLACE_WORDS;
+    let free = (layout::PLACES - live) * layout::PLACE_WORDS;
     parts::all_zero(t, table::place_at(c, live), free)
 }
 
@@ -85,7 +86,7 @@ pub fn all_places_ok(t: &[u32], n: u32) -> bool
     ensures { λ x. ⌜ x ≡ allb controllers (λ c. allb places (placeOk house n (state (now (t .entry))) c)) ⌝ }
 {
     let mut c = 0;
-    while c < table::CONTROLLERS {
+    while c < layout::CONTROLLERS {
         if !places_ok(t, n, c) {
             return false;
         }
@@ -99,7 +100,7 @@ pub fn messages_ok(t: &[u32], n: u32) -> bool
     requires { ⌜ length (now t) ≡ tableWords ⌝ }
     ensures { λ x. ⌜ x ≡ allb messages (messageOk house n (state (now (t .entry)))) ⌝ }
 {
-    let sent = at_most(table::records_used(t), table::MESSAGES);
+    let sent = at_most(table::records_used(t), layout::MESSAGES);
     let mut r = 0;
     while r < sent {
         if !records::message_ok(t, n, r) {
@@ -107,7 +108,7 @@ pub fn messages_ok(t: &[u32], n: u32) -> bool
         }
         r += 1;
     }
-    let free = (table::MESSAGES - sent) * table::MESSAGE_WORDS;
+    let free = (layout::MESSAGES - sent) * layout::MESSAGE_WORDS;
     parts::all_zero(t, table::message_at(sent), free)
 }
 

@@ -16,6 +16,7 @@ ghost use Rattle.hearing.specs.Rolling.{undoing};
 ghost use Rattle.hearing.specs.Hearing.{Hears};
 use rules::Answer;
 use rules::refusal;
+use table::layout;
 
 // The intervals of the hearer from place k on are undone.
 pub fn roll_back(t: &mut [u32], hearer: usize, k: u32)
@@ -70,7 +71,7 @@ pub fn hear_refusal(t: &[u32], hearer: u32, owner: u32, i: u32) -> u32
     if (n <= hearer) | (n <= owner) {
         return refusal::CONTROLLER;
     }
-    if table::LAST_INCARNATION < i {
+    if layout::LAST_INCARNATION < i {
         return refusal::NO_SUCH_CRASH;
     }
     if table::end(t, owner as usize, owner as usize, i as usize) == 0 {
@@ -93,7 +94,7 @@ pub fn hear_crash(t: &mut [u32], hearer: usize, owner: usize, i: usize) -> Answe
     if table::live_count(t, hearer) as usize <= stop.place {
         return Answer::Heard(hearer as u32);
     }
-    if table::LAST_INCARNATION <= table::incarnation(t, hearer) {
+    if layout::LAST_INCARNATION <= table::incarnation(t, hearer) {
         take_back(t, hearer, owner, i, known);
         return Answer::Refused(refusal::INCARNATIONS_USED_UP);
     }

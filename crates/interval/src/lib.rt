@@ -12,18 +12,19 @@ ghost use Rattle.rules.specs.Shared.{placeRecord, latestFlagged};
 ghost use Rattle.rules.specs.Steps.{noPlace, lowestCondemned};
 ghost use Rattle.laws.specs.Chain.{Chain};
 ghost use Rattle.interval.specs.LentPlaces.{zeroWords};
+use table::layout;
 
 // The 20 words of a place, lent from inside the table, become an interval's record.
 pub fn write_interval(d: &mut [u32], i: u32, x: u32, cause: u32, flag: u32, v: [[u32; 2]; 8])
     requires { ⌜ length (now d) ≡ placeWords ⌝ }
     ensures { λ _. ⌜ now (d .exit) ≡ placeRecord i x cause flag v ⌝ }
 {
-    d[table::PLACE_INCARNATION_WORD] = i;
-    d[table::PLACE_NUMBER_WORD] = x;
-    d[table::CAUSE_WORD] = cause;
-    d[table::FLAG_WORD] = flag;
-    let from = table::PLACE_HEAD;
-    let to = table::PLACE_WORDS;
+    d[layout::PLACE_INCARNATION_WORD] = i;
+    d[layout::PLACE_NUMBER_WORD] = x;
+    d[layout::CAUSE_WORD] = cause;
+    d[layout::FLAG_WORD] = flag;
+    let from = layout::PLACE_HEAD;
+    let to = layout::PLACE_WORDS;
     vector::write_vector(&mut d[from..to], v);
 }
 
@@ -42,7 +43,7 @@ pub fn write_place(
     ensures { λ _. ⌜ now (t .exit) ≡ words (putPart (state (now (t .entry))) (OfPlace c p 0) 0 (placeRecord i x cause flag v)) ⌝ }
 {
     let from = table::place_at(c, p);
-    let to = from + table::PLACE_WORDS;
+    let to = from + layout::PLACE_WORDS;
     write_interval(&mut t[from..to], i, x, cause, flag, v);
 }
 
@@ -74,7 +75,7 @@ pub fn no_place(t: &[u32], c: usize, k: u32) -> bool
     requires { ⌜ (length (now t) ≡ tableWords) × (c < controllers) × (k ≤ places) × (lastLive (state (now t)) c ≤ lastNumber) ⌝ }
     ensures { λ b. ⌜ b ≡ noPlace house (state (now (t .entry))) c k ⌝ }
 {
-    table::PLACES as u32 <= k
+    layout::PLACES as u32 <= k
 }
 
 // The number of the latest checkpoint among the first k places of c, or 0.
@@ -125,7 +126,7 @@ pub fn lowest_condemned(t: &[u32], hearer: usize) -> Stop
             break 'places p;
         }
         let mut owner = 0;
-        while owner < table::CONTROLLERS {
+        while owner < layout::CONTROLLERS {
             let entry = vector::place_pair(t, hearer, p, owner);
             if vector::condemned_pair(t, hearer, owner, entry) {
                 break 'places p;

@@ -12,6 +12,7 @@ ghost use Rattle.machine.specs.Host.{Hosted};
 use rules::Answer;
 use rules::Command;
 use rules::refusal;
+use table::layout;
 
 // Whether a step looks at the form of the table: all but the opening do.
 pub fn looks_at_form(x: Command) -> bool
@@ -57,7 +58,7 @@ pub fn perform(t: &mut [u32], g: &mut [u32], x: Command) -> Answer
 fn host_refusal(t: &[u32], x: Command) -> u32
     ensures { λ no. ⌜ Hosted (now (t .entry)) x no ⌝ }
 {
-    if t.len() != table::TABLE_WORDS {
+    if t.len() != layout::TABLE_WORDS {
         return refusal::LENGTH;
     }
     if !looks_at_form(x) {

@@ -19,6 +19,7 @@ ghost use Rattle.laws.specs.Answering.{Lent};
 ghost use Rattle.laws.specs.Chain.{Chain};
 use rules::Answer;
 use rules::refusal;
+use table::layout;
 
 // The words of a message record, lent from inside the table.
 pub fn write_message(
@@ -34,14 +35,14 @@ pub fn write_message(
     requires { ⌜ length (now d) ≡ messageWords ⌝ }
     ensures { λ _. ⌜ now (d .exit) ≡ messageRecord state sender receiver i x payload v ⌝ }
 {
-    d[table::STATE_WORD] = state;
-    d[table::SENDER_WORD] = sender;
-    d[table::RECEIVER_WORD] = receiver;
-    d[table::SENDING_INCARNATION_WORD] = i;
-    d[table::SENDING_NUMBER_WORD] = x;
-    d[table::PAYLOAD_WORD] = payload;
-    let from = table::MESSAGE_HEAD;
-    let to = table::MESSAGE_WORDS;
+    d[layout::STATE_WORD] = state;
+    d[layout::SENDER_WORD] = sender;
+    d[layout::RECEIVER_WORD] = receiver;
+    d[layout::SENDING_INCARNATION_WORD] = i;
+    d[layout::SENDING_NUMBER_WORD] = x;
+    d[layout::PAYLOAD_WORD] = payload;
+    let from = layout::MESSAGE_HEAD;
+    let to = layout::MESSAGE_WORDS;
     vector::write_vector(&mut d[from..to], v);
 }
 
@@ -60,10 +61,10 @@ pub fn write_held(
     ensures { λ _. ⌜ now (t .exit) ≡ words (putPart (state (now (t .entry))) (OfMessage r 0) 0 (messageRecord stateHeld sender receiver i x payload v)) ⌝ }
 {
     let from = table::message_at(r);
-    let to = from + table::MESSAGE_WORDS;
+    let to = from + layout::MESSAGE_WORDS;
     write_message(
         &mut t[from..to],
-        table::HELD,
+        layout::HELD,
         sender,
         receiver,
         i,
@@ -78,7 +79,7 @@ pub fn records_full(t: &[u32]) -> bool
     requires { ⌜ length (now t) ≡ tableWords ⌝ }
     ensures { λ b. ⌜ b ≡ recordsFull house (state (now (t .entry))) ⌝ }
 {
-    table::MESSAGES as u32 <= table::records_used(t)
+    layout::MESSAGES as u32 <= table::records_used(t)
 }
 
 pub fn send_refusal(t: &[u32], sender: u32, receiver: u32) -> u32
@@ -86,7 +87,7 @@ pub fn send_refusal(t: &[u32], sender: u32, receiver: u32) -> u32
     ensures { λ no. ⌜ no ≡ firstOf (sendRefusals house (state (now (t .entry))) sender receiver) ⌝ }
 {
     let n = table::size(t);
-    if (n <= sender) | ((n <= receiver) & (receiver != table::DESK)) {
+    if (n <= sender) | ((n <= receiver) & (receiver != layout::DESK)) {
         return refusal::CONTROLLER;
     }
     if sender == receiver {

@@ -12,6 +12,7 @@ ghost use Rattle.laws.specs.Allowed.{OpenAllowed};
 ghost use Rattle.opening.specs.Opened.{beginsAt};
 use rules::Answer;
 use rules::refusal;
+use table::layout;
 use vector::Vector;
 
 pub fn open_refusal(g: &[u32], n: u32, k: u32) -> u32
@@ -20,7 +21,7 @@ pub fn open_refusal(g: &[u32], n: u32, k: u32) -> u32
     if g.len() != ledger::LEDGER_WORDS {
         return refusal::LEDGER;
     }
-    if (n == 0) | ((table::CONTROLLERS as u32) < n) | (n < k) {
+    if (n == 0) | ((layout::CONTROLLERS as u32) < n) | (n < k) {
         return refusal::DEGREE;
     }
     0
@@ -31,10 +32,10 @@ pub fn write_controller(d: &mut [u32], k: u32)
     requires { ⌜ length (now d) ≡ controllerWords ⌝ }
     ensures { λ _. ⌜ now (d .exit) ≡ firstController k ⌝ }
 {
-    d[table::DEGREE_WORD] = k;
-    d[table::INCARNATION_WORD] = 0;
-    d[table::LIVE_COUNT_WORD] = 1;
-    d[table::STABLE_COUNT_WORD] = 1;
+    d[layout::DEGREE_WORD] = k;
+    d[layout::INCARNATION_WORD] = 0;
+    d[layout::LIVE_COUNT_WORD] = 1;
+    d[layout::STABLE_COUNT_WORD] = 1;
 }
 
 // The vector of c's first interval: its own pair (0,1) alone.
@@ -42,7 +43,7 @@ pub fn first_vector(c: usize) -> Vector
     requires { ⌜ c < controllers ⌝ }
     ensures { λ v. ⌜ v ≡ firstVector c ⌝ }
 {
-    let mut v = [[0u32; 2]; table::CONTROLLERS];
+    let mut v = [[0u32; 2]; layout::CONTROLLERS];
     let own = [0, 1];
     v[c] = own;
     v
@@ -54,7 +55,7 @@ pub fn open_controller(t: &mut [u32], c: usize, k: u32)
     ensures { λ _. ⌜ now (t .exit) ≡ words (beginsAt (state (now (t .entry))) c k) ⌝ }
 {
     let from = table::controller_at(c);
-    let to = from + table::CONTROLLER_WORDS;
+    let to = from + layout::CONTROLLER_WORDS;
     write_controller(&mut t[from..to], k);
     table::set_known(t, c, c, 0, 1);
     let v = first_vector(c);

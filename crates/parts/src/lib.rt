@@ -10,6 +10,7 @@ ghost use Rattle.rules.specs.Vector.{pair};
 ghost use Rattle.rules.specs.Form.{pairOk, vectorOk, highest, stateOk};
 ghost use Rattle.vector.specs.At.{vectorAt};
 ghost use Rattle.parts.specs.Zeros.{block, zerosFrom};
+use table::layout;
 
 // The words of a block: a long run ends at the first block that isn't 0.
 pub const BLOCK: usize = 64;
@@ -67,8 +68,8 @@ pub fn pair_ok(n: u32, owner: usize, i: u32, x: u32) -> bool
     ensures { λ y. ⌜ y ≡ pairOk house n owner (pair i x) ⌝ }
 {
     let there = owner < n as usize;
-    (x <= bound(there, table::LAST_NUMBER))
-        & (i <= bound(there, table::LAST_INCARNATION))
+    (x <= bound(there, layout::LAST_NUMBER))
+        & (i <= bound(there, layout::LAST_INCARNATION))
         & ((0 < x) | (i == 0))
 }
 
@@ -79,7 +80,7 @@ pub fn vector_ok(t: &[u32], n: u32, at: usize) -> bool
 {
     let mut ok = true;
     let mut owner = 0;
-    while owner < table::CONTROLLERS {
+    while owner < layout::CONTROLLERS {
         ok = ok & pair_ok(n, owner, t[at + 2 * owner], t[at + 2 * owner + 1]);
         owner += 1;
     }
@@ -92,7 +93,7 @@ pub fn highest_known(n: u32, holder: usize, owner: usize) -> u32
 {
     bound(
         (holder < n as usize) & (owner < n as usize),
-        table::LAST_NUMBER,
+        layout::LAST_NUMBER,
     )
 }
 
@@ -100,8 +101,8 @@ pub fn highest_known(n: u32, holder: usize, owner: usize) -> u32
 pub fn state_ok(desk: bool, state: u32) -> bool
     ensures { λ x. ⌜ x ≡ stateOk desk state ⌝ }
 {
-    let sent_out = (state == table::HELD)
-        | ((state == table::DROPPED) | (state == table::PUBLISHED));
-    let sent_within = (table::HELD <= state) & (state <= table::DROPPED);
+    let sent_out = (state == layout::HELD)
+        | ((state == layout::DROPPED) | (state == layout::PUBLISHED));
+    let sent_within = (layout::HELD <= state) & (state <= layout::DROPPED);
     (desk & sent_out) | (!desk & sent_within)
 }

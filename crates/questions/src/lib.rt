@@ -1,6 +1,7 @@
 // What can be asked of a lent table: whether it is in form, and whether a controller stands at a checkpoint.
 ghost use mathlib.Core.Path.{_≡_};
 ghost use Rattle.questions.specs.Numbers.{formNumber, checkpointNumber};
+use table::layout;
 
 // What the question for the form returns.
 const FORMED: u32 = 1;
@@ -16,7 +17,7 @@ const NO_CHECKPOINT: u32 = 0;
 pub fn form_number(t: &[u32]) -> u32
     ensures { λ r. ⌜ r ≡ formNumber (now (t .entry)) ⌝ }
 {
-    if t.len() != table::TABLE_WORDS {
+    if t.len() != layout::TABLE_WORDS {
         return UNFORMED;
     }
     if !records::head_ok(t) {

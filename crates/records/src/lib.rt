@@ -7,6 +7,7 @@ ghost use Rattle.table.specs.Layout.{controllers, places, messages, tableWords}
 ghost use Rattle.table.specs.Words.{state};
 ghost use Rattle.rules.specs.Limits.{house};
 ghost use Rattle.rules.specs.Form.{headOk, controllerOk, rowOk, placeOk, messageOk};
+use table::layout;
 
 // The head: the number of controllers, the records in use, the gap, the controller last served, and zeros for the rest.
 pub fn head_ok(t: &[u32]) -> bool
@@ -14,14 +15,14 @@ pub fn head_ok(t: &[u32]) -> bool
     ensures { λ x. ⌜ x ≡ headOk house (state (now (t .entry))) ⌝ }
 {
     let n = table::size(t);
-    let rest = table::HEAD_WORDS - table::SPARE_AGAIN;
+    let rest = layout::HEAD_WORDS - layout::SPARE_AGAIN;
     (1 <= n)
-        & (n <= table::CONTROLLERS as u32)
-        & (table::records_used(t) <= table::MESSAGES as u32)
-        & parts::all_zero(t, table::SPARE, table::GAP - table::SPARE)
-        & (table::gap(t) <= table::LAST_GAP)
-        & (table::served(t) <= table::LAST_SERVED)
-        & parts::all_zero(t, table::SPARE_AGAIN, rest)
+        & (n <= layout::CONTROLLERS as u32)
+        & (table::records_used(t) <= layout::MESSAGES as u32)
+        & parts::all_zero(t, layout::SPARE, layout::GAP - layout::SPARE)
+        & (table::gap(t) <= layout::LAST_GAP)
+        & (table::served(t) <= layout::LAST_SERVED)
+        & parts::all_zero(t, layout::SPARE_AGAIN, rest)
 }
 
 pub fn controller_ok(t: &[u32], n: u32, c: usize) -> bool
@@ -32,13 +33,13 @@ pub fn controller_ok(t: &[u32], n: u32, c: usize) -> bool
         let live = table::live_count(t, c);
         let stable = table::stable_count(t, c);
         (table::degree(t, c) <= n)
-            & (table::incarnation(t, c) <= table::LAST_INCARNATION)
+            & (table::incarnation(t, c) <= layout::LAST_INCARNATION)
             & (1 <= live)
-            & (live <= table::PLACES as u32)
+            & (live <= layout::PLACES as u32)
             & (1 <= stable)
             & (stable <= live)
     } else {
-        parts::all_zero(t, table::controller_at(c), table::CONTROLLER_WORDS)
+        parts::all_zero(t, table::controller_at(c), layout::CONTROLLER_WORDS)
     }
 }
 
@@ -50,7 +51,7 @@ pub fn row_ok(t: &[u32], n: u32, holder: usize, owner: usize) -> bool
     let most = parts::highest_known(n, holder, owner);
     let mut ok = true;
     let mut i = 0;
-    while i < table::INCARNATIONS {
+    while i < layout::INCARNATIONS {
         let known = table::known(t, holder, owner, i);
         let end = table::end(t, holder, owner, i);
         ok = ok & ((known <= most) & (end <= most));
@@ -66,14 +67,14 @@ pub fn place_ok(t: &[u32], n: u32, c: usize, p: usize) -> bool
     let q = p as u32;
     if q < table::live_count(t, c) {
         let flag = table::flag(t, c, p);
-        (table::place_incarnation(t, c, p) <= table::LAST_INCARNATION)
+        (table::place_incarnation(t, c, p) <= layout::LAST_INCARNATION)
             & table::is_number_of(t, c, q + 1, table::place_number(t, c, p))
             & (table::cause(t, c, p) <= table::last_given(t))
             & (flag <= 1)
             & ((0 < q) | (flag == 1))
             & parts::vector_ok(t, n, table::place_vector_at(c, p))
     } else {
-        parts::all_zero(t, table::place_at(c, p), table::PLACE_WORDS)
+        parts::all_zero(t, table::place_at(c, p), layout::PLACE_WORDS)
     }
 }
 
@@ -83,16 +84,16 @@ pub fn message_ok(t: &[u32], n: u32, r: usize) -> bool
 {
     if (r as u32) < table::records_used(t) {
         let receiver = table::receiver(t, r);
-        let for_desk = receiver == table::DESK;
+        let for_desk = receiver == layout::DESK;
         let number = table::sending_number(t, r);
         parts::state_ok(for_desk, table::message_state(t, r))
             & (table::sender(t, r) < n)
             & ((receiver < n) | for_desk)
-            & (table::sending_incarnation(t, r) <= table::LAST_INCARNATION)
+            & (table::sending_incarnation(t, r) <= layout::LAST_INCARNATION)
             & (1 <= number)
-            & (number <= table::LAST_NUMBER)
+            & (number <= layout::LAST_NUMBER)
             & parts::vector_ok(t, n, table::message_vector_at(r))
     } else {
-        parts::all_zero(t, table::message_at(r), table::MESSAGE_WORDS)
+        parts::all_zero(t, table::message_at(r), layout::MESSAGE_WORDS)
     }
 }

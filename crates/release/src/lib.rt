@@ -21,6 +21,7 @@ ghost use Rattle.laws.specs.Chain.{Releasable};
 ghost use Rattle.release.specs.Releases.{Outgoing};
 use rules::Answer;
 use rules::refusal;
+use table::layout;
 
 // The vector of the message in record r, filtered for its sender.
 pub fn own_vector(t: &[u32], r: usize) -> vector::Vector
@@ -38,7 +39,7 @@ pub fn store_vector(t: &mut [u32], r: usize, v: vector::Vector)
     ensures { λ _. ⌜ now (t .exit) ≡ words (putPart (state (now (t .entry))) (OfMessage r 0) messageHead (flat v)) ⌝ }
 {
     let from = table::message_vector_at(r);
-    let to = from + table::VECTOR_WORDS;
+    let to = from + layout::VECTOR_WORDS;
     vector::write_vector(&mut t[from..to], v);
 }
 
@@ -57,7 +58,7 @@ pub fn publish(t: &mut [u32], g: &mut [u32], m: u32, r: usize, v: vector::Vector
     ensures { λ _. ⌜ (now (t .exit) ≡ words (letOut (state (now (t .entry))) r v statePublished)) × (now (g .exit) ≡ appended (now (g .entry)) (entryOf (state (now (t .entry))) m r)) ⌝ }
 {
     let payload = table::payload(t, r);
-    let_out(t, r, v, table::PUBLISHED);
+    let_out(t, r, v, layout::PUBLISHED);
     ledger::append(g, m, payload);
 }
 
@@ -66,11 +67,11 @@ pub fn go_out(t: &mut [u32], g: &mut [u32], m: u32, r: usize, v: vector::Vector)
     requires { ⌜ Outgoing (now t) (now g) r v ⌝ }
     ensures { λ _. ⌜ (now (t .exit) ≡ words (gone (state (now (t .entry))) r)) × (now (g .exit) ≡ ledgerOut (state (now (t .entry))) (now (g .entry)) m r) ⌝ }
 {
-    if table::receiver(t, r) == table::DESK {
+    if table::receiver(t, r) == layout::DESK {
         publish(t, g, m, r, v);
         return;
     }
-    let_out(t, r, v, table::RELEASED);
+    let_out(t, r, v, layout::RELEASED);
 }
 
 // Whether the message in record r may go out with this mask.
@@ -80,7 +81,7 @@ pub fn may_go(t: &[u32], r: usize, mask: u32) -> bool
 {
     let sender = table::sender(t, r);
     let receiver = table::receiver(t, r);
-    if receiver == table::DESK {
+    if receiver == layout::DESK {
         return mask == 0;
     }
     vector::within_degree(mask, table::degree(t, sender as usize))
@@ -91,7 +92,7 @@ pub fn no_room(t: &[u32], g: &[u32], r: usize) -> bool
     requires { ⌜ (length (now t) ≡ tableWords) × (r < messages) × (length (now g) ≡ ledgerWords house) ⌝ }
     ensures { λ x. ⌜ x ≡ (forDesk (state (now (t .entry))) r && (lastEntry ≤? countOf (now (g .entry)))) ⌝ }
 {
-    (table::receiver(t, r) == table::DESK) & (ledger::ENTRIES as u32 <= ledger::count(g))
+    (table::receiver(t, r) == layout::DESK) & (ledger::ENTRIES as u32 <= ledger::count(g))
 }
 
 // R on message m in record r, which its refusals let pass.
@@ -119,7 +120,7 @@ pub fn release_refusal(t: &[u32], g: &[u32], r: usize) -> u32
     if !ledger::is_sound(g) {
         return refusal::LEDGER;
     }
-    message::message_refusal(t, r, table::HELD)
+    message::message_refusal(t, r, layout::HELD)
 }
 
 // R m, on a table in form.

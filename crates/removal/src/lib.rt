@@ -11,6 +11,7 @@ ghost use Rattle.rules.specs.Limits.{lastNumber};
 ghost use Rattle.rules.specs.Shared.{offeredAgain, causing, causesIn, causes, orphaned, heldOrDropped, dropHeld};
 ghost use Rattle.laws.specs.Chain.{Chain};
 ghost use Rattle.removal.specs.Dropping.{Sent};
+use table::layout;
 
 // The state of the cause in record r of an interval that c lost or undid: it is offered again, unless it is condemned to c.
 pub fn fate_of(t: &[u32], c: usize, r: usize) -> u32
@@ -19,9 +20,9 @@ pub fn fate_of(t: &[u32], c: usize, r: usize) -> u32
 {
     let v = vector::message_vector(t, r);
     if vector::condemned_vector(t, c, v) {
-        table::DROPPED
+        layout::DROPPED
     } else {
-        table::RELEASED
+        layout::RELEASED
     }
 }
 
@@ -33,7 +34,7 @@ pub fn causing(t: &[u32], r: usize) -> bool
     if table::records_used(t) as usize <= r {
         return false;
     }
-    table::receiver(t, r) != table::DESK
+    table::receiver(t, r) != layout::DESK
 }
 
 // The cause of the interval in place p of c, if it has a record and is not for the desk, gets its state.
@@ -67,7 +68,7 @@ pub fn orphaned(t: &[u32], c: usize, x: u32, r: usize) -> bool
     requires { ⌜ (length (now t) ≡ tableWords) × (r < messages) ⌝ }
     ensures { λ b. ⌜ b ≡ orphaned (state (now (t .entry))) c x r ⌝ }
 {
-    (table::message_state(t, r) == table::HELD)
+    (table::message_state(t, r) == layout::HELD)
         & ((table::sender(t, r) as usize == c) & (x < table::sending_number(t, r)))
 }
 
@@ -77,7 +78,7 @@ pub fn drop_one(t: &mut [u32], c: usize, x: u32, r: usize)
     ensures { λ _. ⌜ now (t .exit) ≡ words (put (state (now (t .entry))) (MessageState r) (heldOrDropped (state (now (t .entry))) c x r)) ⌝ }
 {
     if orphaned(t, c, x, r) {
-        table::set_message_state(t, r, table::DROPPED);
+        table::set_message_state(t, r, layout::DROPPED);
     }
 }
 

@@ -15,6 +15,7 @@ use lines::Parsed;
 use rules::Answer;
 use rules::Command;
 use rules::refusal;
+use table::layout;
 
 // A step of the list: its letter and its numbers a, b, c, d, of which no step has the last yet.
 const STEP_WORDS: usize = 5;
@@ -90,7 +91,7 @@ fn letters_known(steps: &[u32], n: usize) -> bool
 fn form_of(t: &[u32]) -> bool
     ensures { λ r. ⌜ r ≡ formOf (now (t .entry)) ⌝ }
 {
-    if t.len() != table::TABLE_WORDS {
+    if t.len() != layout::TABLE_WORDS {
         return false;
     }
     form::in_form(t)
@@ -102,7 +103,7 @@ fn step_known(t: &mut [u32], g: &mut [u32], formed: bool, x: Command) -> Carried
     ensures { λ r. ⌜ outBoth (r .answer) (now (t .exit)) (now (g .exit)) ≡ step (now (t .entry)) (now (g .entry)) x ⌝ }
     ensures { λ r. ⌜ r .formed ≡ formOf (now (t .exit)) ⌝ }
 {
-    if t.len() != table::TABLE_WORDS {
+    if t.len() != layout::TABLE_WORDS {
         return Carried {
             answer: Answer::Refused(refusal::LENGTH),
             formed: false,

@@ -18,6 +18,7 @@ ghost use Rattle.sets.specs.Ready.{Ready, Listed, Passed};
 ghost use Rattle.sets.specs.Going.{Asks};
 use rules::Answer;
 use rules::refusal;
+use table::layout;
 
 // The most messages of a set.
 const SET_MOST: usize = 16;
@@ -76,7 +77,7 @@ fn not_held(t: &[u32], m: u32) -> bool
     ensures { λ r. ⌜ r ≡ notHeld (state (now (t .entry))) m ⌝ }
 {
     let r = table::find_record(t, m);
-    table::message_state(t, r) != table::HELD
+    table::message_state(t, r) != layout::HELD
 }
 
 fn some_not_held(t: &[u32], list: &[u32]) -> bool
@@ -155,7 +156,7 @@ fn union_of(t: &[u32], list: &[u32]) -> u32
     requires { ⌜ Listed (now t) (now list) ⌝ }
     ensures { λ k. ⌜ k ≡ union (state (now (t .entry))) (now (list .entry)) ⌝ }
 {
-    let mut v = [[0u32; 2]; table::CONTROLLERS];
+    let mut v = [[0u32; 2]; layout::CONTROLLERS];
     let mut i = 0;
     while i < list.len() {
         let w = own_of(t, list[i]);
@@ -172,7 +173,7 @@ fn desk_one(t: &[u32], m: u32) -> u32
     ensures { λ n. ⌜ n ≡ cond (forDesk (state (now (t .entry))) (recordOf (state (now (t .entry))) m)) 1 0 ⌝ }
 {
     let r = table::find_record(t, m);
-    if table::receiver(t, r) == table::DESK {
+    if table::receiver(t, r) == layout::DESK {
         return 1;
     }
     0
@@ -259,7 +260,7 @@ fn step_set(t: &mut [u32], g: &mut [u32], list: &[u32]) -> Answer
 pub fn release_set(t: &mut [u32], g: &mut [u32], list: &[u32]) -> Answer
     ensures { λ a. ⌜ outBoth a (now (t .exit)) (now (g .exit)) ≡ stepCall (now (t .entry)) (now (g .entry)) (releaseSet (now (list .entry))) ⌝ }
 {
-    if t.len() != table::TABLE_WORDS {
+    if t.len() != layout::TABLE_WORDS {
         return Answer::Refused(refusal::LENGTH);
     }
     if !form::in_form(t) {

@@ -10,12 +10,13 @@ ghost use Rattle.table.specs.Words.{state};
 ghost use Rattle.rules.specs.Vector.{incarnation, pairOf, placeVector, messageVector, flat, filterPair, filtered, condemnedPair, condemned, condemning, mask, conflictPair, conflict, mergePair, merged};
 ghost use Rattle.laws.specs.Facts.{Near};
 ghost use Rattle.vector.specs.At.{pairAt, vectorAt};
+use table::layout;
 
 // Incarnation and number.
 pub type Pair = [u32; 2];
 
 // The pair of each owner.
-pub type Vector = [Pair; table::CONTROLLERS];
+pub type Vector = [Pair; layout::CONTROLLERS];
 
 // The pair of `owner` in the vector whose words begin at word `at`.
 pub fn pair_at(t: &[u32], at: usize, owner: usize) -> Pair
@@ -30,9 +31,9 @@ pub fn vector_at(t: &[u32], at: usize) -> Vector
     requires { ⌜ at + vectorWords ≤ length (now t) ⌝ }
     ensures { λ v. ⌜ v ≡ vectorAt (now (t .entry)) at ⌝ }
 {
-    let mut v = [[0u32; 2]; table::CONTROLLERS];
+    let mut v = [[0u32; 2]; layout::CONTROLLERS];
     let mut owner = 0;
-    while owner < table::CONTROLLERS {
+    while owner < layout::CONTROLLERS {
         let p = pair_at(t, at, owner);
         v[owner] = p;
         owner += 1;
@@ -78,9 +79,9 @@ pub fn filter_vector(t: &[u32], holder: usize, v: Vector) -> Vector
     requires { ⌜ (length (now t) ≡ tableWords) × (holder < controllers) × Near v ⌝ }
     ensures { λ w. ⌜ w ≡ filtered (state (now (t .entry))) holder v ⌝ }
 {
-    let mut w = [[0u32; 2]; table::CONTROLLERS];
+    let mut w = [[0u32; 2]; layout::CONTROLLERS];
     let mut owner = 0;
-    while owner < table::CONTROLLERS {
+    while owner < layout::CONTROLLERS {
         let p = filter_pair(t, holder, owner, v[owner]);
         w[owner] = p;
         owner += 1;
@@ -103,7 +104,7 @@ pub fn condemned_vector(t: &[u32], holder: usize, v: Vector) -> bool
 {
     let mut some = false;
     let mut owner = 0;
-    while owner < table::CONTROLLERS {
+    while owner < layout::CONTROLLERS {
         some = some | condemned_pair(t, holder, owner, v[owner]);
         owner += 1;
     }
@@ -116,7 +117,7 @@ pub fn condemning(t: &[u32], holder: usize, v: Vector) -> usize
     ensures { λ owner. ⌜ owner ≡ condemning (state (now (t .entry))) holder v ⌝ }
 {
     let mut owner = 0;
-    while owner < table::CONTROLLERS {
+    while owner < layout::CONTROLLERS {
         if condemned_pair(t, holder, owner, v[owner]) {
             return owner;
         }
@@ -150,7 +151,7 @@ pub fn place_conflict(t: &[u32], c: usize, p: usize, w: Vector) -> bool
     ensures { λ x. ⌜ x ≡ conflict c (filtered (state (now (t .entry))) c (placeVector (state (now (t .entry))) c p)) w ⌝ }
 {
     let mut owner = 0;
-    while owner < table::CONTROLLERS {
+    while owner < layout::CONTROLLERS {
         if place_pair_conflict(t, c, p, owner, w[owner]) {
             return true;
         }
@@ -169,9 +170,9 @@ pub fn merge_pair(p: Pair, q: Pair) -> Pair
 pub fn merge_vector(v: Vector, w: Vector) -> Vector
     ensures { λ x. ⌜ x ≡ merged v w ⌝ }
 {
-    let mut both = [[0u32; 2]; table::CONTROLLERS];
+    let mut both = [[0u32; 2]; layout::CONTROLLERS];
     let mut owner = 0;
-    while owner < table::CONTROLLERS {
+    while owner < layout::CONTROLLERS {
         let p = merge_pair(v[owner], w[owner]);
         both[owner] = p;
         owner += 1;
@@ -186,7 +187,7 @@ pub fn mask_of(v: Vector) -> u32
     let mut mask = 0;
     let mut bit = 1;
     let mut owner = 0;
-    while owner < table::CONTROLLERS {
+    while owner < layout::CONTROLLERS {
         if v[owner][1] != 0 {
             mask += bit;
         }
@@ -209,7 +210,7 @@ pub fn write_vector(d: &mut [u32], v: Vector)
     ensures { λ _. ⌜ now (d .exit) ≡ flat v ⌝ }
 {
     let mut i = 0;
-    while i < table::VECTOR_WORDS {
+    while i < layout::VECTOR_WORDS {
         d[i] = v[i / 2][i % 2];
         i += 1;
     }
