@@ -1,4 +1,6 @@
 // Logging and checkpoints: how much is replayed from the latest one, and the ceiling on it, the gap that can be set.
+#![tactic(auto)]
+
 ghost use Rattle.std.specs.Prelude.{◌≡◌, ◌≤◌, ◌<◌, length};
 ghost use Rattle.base.specs.Cases.{first_of};
 ghost use Rattle.table.specs.Layout.{controllers, places, table_words};

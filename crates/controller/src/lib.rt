@@ -1,4 +1,6 @@
 // The steps on one controller's own words: its degree, logging, checkpoints, and what it tells of its progress.
+#![tactic(auto)]
+
 ghost use Rattle.std.specs.Prelude.{◌≡◌, ◌+◌, ◌-◌, ◌≤◌, ◌<◌, max, length};
 ghost use Rattle.base.specs.Cases.{first_of};
 ghost use Rattle.table.specs.Field.{LiveCount, StableCount};

@@ -1,4 +1,6 @@
 // The step that brings a released message to its receiver: deliver.
+#![tactic(auto)]
+
 ghost use Rattle.std.specs.Prelude.{◌≡◌, ◌<◌, length};
 ghost use Rattle.table.specs.Field.{LiveCount};
 ghost use Rattle.table.specs.Layout.{controllers, messages, table_words};

@@ -1,1 +1,2 @@
 // Demand 3, proved for every list of steps (specs/).
+#![tactic(auto)]

@@ -1,4 +1,6 @@
 // The dispatcher: a call serves the first controller of the round that has a message for it which would be delivered or dropped.
+#![tactic(auto)]
+
 ghost use Rattle.std.specs.Prelude.{◌≡◌, List, ℕ, ◌+◌, ◌≤◌, ◌<◌, length};
 ghost use Rattle.table.specs.Layout.{controllers, table_words};
 ghost use Rattle.table.specs.Words.{state};

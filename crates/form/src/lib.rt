@@ -1,4 +1,6 @@
 // The check that a table is in form: every word in its range, record by record (crate `records`). It ends at the first record that isn't.
+#![tactic(auto)]
+
 ghost use Rattle.std.specs.Prelude.{◌≡◌, true, ◌<◌, min, length};
 ghost use Rattle.base.specs.Ranges.{allb};
 ghost use Rattle.table.specs.Layout.{controllers, places, messages, table_words};

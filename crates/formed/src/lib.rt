@@ -1,4 +1,6 @@
 // Steps on a table of which it is known whether it is in form, so that its words needn't be looked at.
+#![tactic(auto)]
+
 ghost use Rattle.std.specs.Prelude.{◌≡◌};
 ghost use Rattle.rules.specs.Step.{out_both, step};
 ghost use Rattle.laws.specs.Answering.{Lent};

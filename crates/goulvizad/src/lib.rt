@@ -1,5 +1,7 @@
 // The C interface: one step, a list of steps, the step that sets the gap, the release of a set, the dispatcher, and two questions, on buffers
 // that the caller lends. include/goulvizad.h documents it.
+#![tactic(auto)]
+
 ghost use Rattle.std.specs.Prelude.{◌≡◌, List, ℕ, length};
 ghost use Rattle.goulvizad.specs.Call.{gap_call, set_call, dispatch_call};
 ghost use Rattle.lines.specs.declared.Parsed.TheVariants.{Asks};

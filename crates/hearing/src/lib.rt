@@ -1,4 +1,6 @@
 // The step H: hearing of a crash, which may roll the hearer back.
+#![tactic(auto)]
+
 ghost use Rattle.std.specs.Prelude.{◌≡◌, ◌<◌, length};
 ghost use Rattle.base.specs.Cases.{first_of};
 ghost use Rattle.table.specs.Field.{Known, End};

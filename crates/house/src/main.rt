@@ -1,5 +1,7 @@
 // The program: it reads bytes, hands them to `session`, and writes out what is owed before it reads again. What is owed, for
 // any bytes, is proved there; that this loop hands over all that it reads, and writes all that is owed, can only be read here.
+#![tactic(auto)]
+
 ghost use Rattle.std.specs.Prelude.{◌≤◌, length};
 
 use printing::ANSWER_ROOM;

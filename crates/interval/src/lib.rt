@@ -1,4 +1,6 @@
 // The places of a controller's chain: writing an interval record, freeing places, the latest checkpoint, and the walk of H.
+#![tactic(auto)]
+
 ghost use Rattle.std.specs.Prelude.{◌≡◌, ◌+◌, ◌≤◌, ◌<◌, length};
 ghost use Rattle.table.specs.Field.{OfPlace};
 ghost use Rattle.table.specs.Change.{put_part, clear_places};

@@ -1,1 +1,2 @@
 // The form is kept: laws alone (specs/).
+#![tactic(auto)]

@@ -1,5 +1,7 @@
 // The ledger, the second buffer that is lent: a count, then the entries of the published messages in the order of publishing. The only
 // positions in it in the code; the definitions have the same numbers in rules/specs/Ledger.antt, and the contracts tie the two.
+#![tactic(auto)]
+
 ghost use Rattle.std.specs.Prelude.{◌≡◌, [], ◌∷◌, ◌≤◌, ◌<◌, length};
 ghost use Rattle.rules.specs.Limits.{house, last_entry};
 ghost use Rattle.rules.specs.Ledger.{entry_words, entry_at, ledger_words, count_of, ledger_ok, appended};

@@ -1,4 +1,6 @@
 // Lines of text: what they are made of, as specs/Lines.antt has it. `parsing` reads them and `printing` writes them.
+#![tactic(auto)]
+
 use rules::Command;
 
 // What a line asks.

@@ -1,4 +1,6 @@
 // Message records, what refuses a step on one, and the step that fills one: send.
+#![tactic(auto)]
+
 ghost use Rattle.std.specs.Prelude.{◌≡◌, ◌<◌, length};
 ghost use Rattle.base.specs.Cases.{first_of};
 ghost use Rattle.table.specs.Field.{OfMessage};

@@ -1,4 +1,6 @@
 // The step O: a house is opened in a table, whatever stood in it before, and the ledger is cleared.
+#![tactic(auto)]
+
 ghost use Rattle.std.specs.Prelude.{◌≡◌, ◌<◌, length};
 ghost use Rattle.base.specs.Cases.{first_of};
 ghost use Rattle.table.specs.Layout.{controllers, controller_words, table_words};

@@ -1,4 +1,6 @@
 // What a line asks.
+#![tactic(auto)]
+
 ghost use Rattle.std.specs.Prelude.{◌≡◌};
 ghost use Rattle.lines.specs.Lines.{step_of, numbers_of, with_numbers, parse};
 ghost use Rattle.parsing.specs.Parts.{number_at};

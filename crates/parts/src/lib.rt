@@ -1,5 +1,7 @@
 // Whether parts of a record are in their ranges: a run of zeros, a pair, a vector, a known or end word, a message's state. No branch on a
 // word that is tested, so that several are looked at in one go; a long run branches after each block.
+#![tactic(auto)]
+
 ghost use Rattle.std.specs.Prelude.{◌≡◌, cond, ◌+◌, ◌*◌, ◌≤◌, length};
 ghost use Rattle.table.specs.Layout.{vector_words};
 ghost use Rattle.rules.specs.Limits.{house};

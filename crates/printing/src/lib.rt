@@ -1,4 +1,6 @@
 // The line of an answer.
+#![tactic(auto)]
+
 ghost use Rattle.std.specs.Prelude.{◌≡◌, ◌∷◌, ◌+◌, ◌*◌, ◌≤◌, length};
 ghost use Rattle.lines.specs.Lines.{space, decimal, line_of, answer_line, bad_line};
 ghost use Rattle.printing.specs.Parts.{number_room, answer_room, Written, Short};

@@ -1,4 +1,6 @@
 // What can be asked of a lent table: whether it is in form, and whether a controller stands at a checkpoint.
+#![tactic(auto)]
+
 ghost use Rattle.std.specs.Prelude.{◌≡◌};
 ghost use Rattle.questions.specs.Numbers.{form_number, checkpoint_number};
 

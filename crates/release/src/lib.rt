@@ -1,5 +1,7 @@
 // The step that lets a held message out, if few enough controllers can revoke it: release. One for the desk is published: it goes out
 // only if no controller can, and gets an entry in the ledger.
+#![tactic(auto)]
+
 ghost use Rattle.std.specs.Prelude.{◌≡◌, ◌&&◌, ◌<◌, length};
 ghost use Rattle.base.specs.Cases.{first_of};
 ghost use Rattle.base.specs.Choice.{◌≤?◌};

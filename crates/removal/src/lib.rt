@@ -1,4 +1,6 @@
 // What removing intervals does to messages: their causes get a state, and held messages that they sent are dropped.
+#![tactic(auto)]
+
 ghost use Rattle.std.specs.Prelude.{◌≡◌, ◌-◌, ◌≤◌, ◌<◌, length};
 ghost use Rattle.table.specs.Field.{LiveCount, MessageState};
 ghost use Rattle.table.specs.Change.{put};

@@ -1,4 +1,6 @@
 // The number and the values of an answer, as the C interface gives them.
+#![tactic(auto)]
+
 ghost use Rattle.std.specs.Prelude.{◌≡◌, length};
 ghost use Rattle.rules.specs.Report.{report};
 ghost use Rattle.reporting.specs.Values.{value_room, value_words};

@@ -1,4 +1,6 @@
 // What a crash and a rollback share: starting anew, and removing intervals.
+#![tactic(auto)]
+
 ghost use Rattle.std.specs.Prelude.{◌≡◌, ◌<◌, length};
 ghost use Rattle.table.specs.Layout.{controllers, incarnations, table_words};
 ghost use Rattle.table.specs.Words.{state, words};

@@ -1,4 +1,6 @@
 // What is asked of a house and what it answers. The rules themselves are definitions, in specs/.
+#![tactic(auto)]
+
 pub mod refusal;
 
 // A step, by its letter in document 01; W4 names none for its own.

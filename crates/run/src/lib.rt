@@ -1,5 +1,7 @@
 // Many steps in one call, over the lent words of the steps and of their answers. The form of the table is looked at once, and
 // from then on known.
+#![tactic(auto)]
+
 ghost use Rattle.std.specs.Prelude.{◌≡◌, true, ◌+◌, ◌*◌, ◌≤◌, length, take};
 ghost use Rattle.base.specs.Ranges.{allb};
 ghost use Rattle.rules.specs.Step.{out_both, step};

@@ -1,5 +1,7 @@
 // The program between its reads and its writes: the bytes of its input become steps on the table and the ledger, and lines of
 // answers.
+#![tactic(auto)]
+
 ghost use Rattle.std.specs.Prelude.{◌≡◌, [], ◌+◌, ◌*◌, ◌≤◌, length, take, drop};
 ghost use Rattle.formed.specs.Carry.{FormKnown};
 ghost use Rattle.printing.specs.Parts.{answer_room};

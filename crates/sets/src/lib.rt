@@ -1,4 +1,6 @@
 // The call that releases a set: messages of one sender go out together, or all stay held.
+#![tactic(auto)]
+
 ghost use Rattle.std.specs.Prelude.{◌≡◌, cond, ◌≤◌, ◌<◌, ◌+◌, length};
 ghost use Rattle.base.specs.Cases.{first_of};
 ghost use Rattle.table.specs.Layout.{table_words};

@@ -1,5 +1,7 @@
 // The words of the lent table by name: the only functions that read or write a word by its position. Names of words are those of
 // specs/Field.antt.
+#![tactic(auto)]
+
 ghost use Rattle.std.specs.Prelude.{◌≡◌, ◌≤◌, ◌<◌, ◌^◌, length};
 ghost use Rattle.base.specs.Choice.{◌==◌};
 ghost use Rattle.table.specs.Field.{OfController, OfPlace, OfMessage, Known, End, Size, SentCount, Gap, Served, Discarded, Degree, Incarnation, LiveCount, StableCount, PlaceIncarnation, PlaceNumber, Cause, Flag, MessageState, Sender, Receiver, SendingIncarnation, SendingNumber, Payload, place_head, message_head};

@@ -1,1 +1,2 @@
 // A sample run on tables of words, and the testers' wrong machines (specs/).
+#![tactic(auto)]

@@ -1,5 +1,7 @@
 // Dependency vectors by value, a pair of incarnation and number for each controller: taken from words, filtered, merged,
 // judged, and written back.
+#![tactic(auto)]
+
 ghost use Rattle.std.specs.Prelude.{◌≡◌, ◌+◌, ◌≤◌, ◌<◌, leb, length};
 ghost use Rattle.std.specs.Int.Count.{ones};
 ghost use Rattle.table.specs.Layout.{controllers, incarnations, places, messages, vector_words, table_words};

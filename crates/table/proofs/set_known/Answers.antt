@@ -1,0 +1,7 @@
+-- One word was stored.
+use Rattle.table.specs.Field.{Known}
+use Rattle.table.specs.Words.{stored}
+use Rattle.table.proofs.set_known.Goals as goal
+
+pub returns : goal.returns
+returns c = stored c.args.t.now (Known c.args.holder c.args.owner c.args.i) c.args.x c.requires.0 (c.requires.1, c.requires.2, c.requires.3)

@@ -1,0 +1,8 @@
+-- One word was stored.
+use Rattle.table.specs.Field.{LiveCount}
+use Rattle.table.specs.Words.{stored}
+use Rattle.std.proofs.Common.{arith}
+use Rattle.table.proofs.set_live_count.Goals as goal
+
+pub returns : goal.returns
+returns c = stored c.args.t.now (LiveCount c.args.c) c.args.x c.requires.0 (c.requires.1, omega arith)

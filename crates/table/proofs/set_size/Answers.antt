@@ -1,0 +1,8 @@
+-- One word was stored.
+use Rattle.table.specs.Field.{Size}
+use Rattle.table.specs.Words.{stored}
+use Rattle.std.proofs.Common.{arith}
+use Rattle.table.proofs.set_size.Goals as goal
+
+pub returns : goal.returns
+returns c = stored c.args.t.now Size c.args.x c.requires (omega arith)
