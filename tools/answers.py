@@ -16,6 +16,8 @@ import tempfile
 sys.path.insert(0, os.path.dirname(os.path.realpath(__file__)))
 import respell
 
+with open("/opt/rattle/rattle/std/proofs/Common.antt", encoding="utf-8") as f:
+    COMMONS = {w.strip() for m in re.finditer(r"\{([^}]*)\}", f.read()) for w in m[1].split(",")}
 TRIVIAL = re.compile(r"^\(λ c(?: κs)?\. search rules\)$")
 WORD = r"[^\s(){}\[\],;:.\"«»`|=]+"
 COMMON = "Rattle.std.proofs.Common"
@@ -111,18 +113,27 @@ def turn(path, made, own):
 
         def up(place, k):
             for _ in range(k):
-                place = places[place][1]
-                if place is None:
-                    raise Cannot("a path goes above the start")
+                place = places[place][1] or place
             return place
 
+        above, at = [], base
+        while at:
+            above.append(places[at][2])
+            at = places[at][1]
+
         def step(place, name):
-            if name in ("args", "requires", "ranges", "utf8", "type-inv", "type_inv", "lifetimes", "whole") and places[place][1] is None:
+            if name in ("args", "requires", "ranges", "utf8", "type-inv", "type_inv", "lifetimes", "whole"):
                 return "c." + under(name)
             old, new = places[place][2]
-            if under(name) == old or under(name) == new or under(name) == under(old):
+            name = under(name)
+            if name in (under(old), under(new)):
                 return "c." + new
-            raise Cannot(f"at {place} ({old}) there is no {name}")
+            # the older kit counted other steps before this one: by its name, where that is one
+            for n in (name, re.sub(r"_lem$", "", name), re.sub(r"(?<=\D)(\d+)$", r"-\1", name), re.sub(r"(?<=\D)(\d+)$", r"_\1", name)):
+                found = {new for old, new in above if under(old) == n}
+                if len(found) == 1:
+                    return "c." + found.pop()
+            raise Cannot(f"at {place} ({old}) there is no {name}; above: {[o for o, _ in above]}")
 
         def path(m):
             root, befores, name = m[1], m[2], m[3]
@@ -142,6 +153,9 @@ def turn(path, made, own):
             out = out[: m.start()] + out[m.end() :]
         names = "|".join(map(re.escape, sorted(alias, key=len, reverse=True)))
         out = re.sub(r"(?<![\w.'-])(%s)((?:\.before)*)(\.(?!before\b)%s)?(?![\w'-])" % (names, WORD), path, out)
+        # a test `!x` says now that x is false, and not that `not x` is true
+        out = re.sub(r"not-(?:true|false) _ (c\.if-not-[\w-]+\.(?:true|false))", r"\1", out)
+        out = re.sub(r"(?<!∙ )(c\.if-not-[\w-]+\.(?:true|false))", r"(ap not \1)", out)
         return own_words(out)
 
     inv, ans, used = [], [], set()
@@ -197,9 +211,12 @@ def turn(path, made, own):
             continue
         ans += comment + [f"pub {new} : goal.{new}"] + ([own_words(unfolding.rstrip())] if unfolding else []) + [f"{new} {' '.join(params)} = {rest}" if "\n" not in rest else f"{new} {' '.join(params)} =\n    {rest}", ""]
     left = [d for d in order if d not in used]
-    if left:
+    if any("tie." in defs[d][1] for d in left):
         raise Cannot("helpers " + ", ".join(left))
-    return head, keep_uses, inv, ans
+    helpers = []
+    for d in left:
+        helpers += defs[d][0] + [own_words(defs[d][1]), ""]
+    return head, keep_uses, inv, helpers + ans
 
 
 def rename_bound(text, p):
@@ -207,7 +224,8 @@ def rename_bound(text, p):
 
 
 def file_of(head, uses, goal, body):
-    words = set(re.findall(WORD, "\n".join(body)))
+    text = "\n".join(body)
+    words = set(re.findall(WORD, text))
     out = []
     for u in uses:
         m = re.match(r"use ([\w.+]+)\.\{(.*)\}$", u)
@@ -218,11 +236,14 @@ def file_of(head, uses, goal, body):
 
         def cited(n):
             n = n.split(" as ")[-1]
-            return n in words or ("◌" in n and any(part and part in words for part in n.split("◌"))) or n == "[]" and "[]" in "\n".join(body)
+            return n in words or n == "[]" and "[]" in text or "◌" in n and all(p in text for p in n.split("◌") if p)
 
         names = [n for n in names if cited(n)]
-        if module in ("borrow.Author.Rules", "native.Mathlib.Omega", "mathlib.Core.Path", "mathlib.Core.Bool", "mathlib.Core.List", "Prim.Native.Nat", "lib.ListN", "mathlib.Core.Nat", "borrow.Author.Tests"):
-            module = module if module == "borrow.Author.Tests" else COMMON
+        if not module.startswith("Rattle."):
+            common = [n for n in names if n in COMMONS]
+            names = [n for n in names if n not in COMMONS]
+            if common:
+                out.append(f"use {COMMON}.{{{', '.join(common)}}}")
         if names:
             out.append(f"use {module}.{{{', '.join(names)}}}")
     merged = {}
@@ -233,6 +254,9 @@ def file_of(head, uses, goal, body):
             have += [n.strip() for n in m[2].split(",") if n.strip() not in have]
         else:
             merged[u] = None
+    for n in ("ap", "not"):
+        if re.search(r"\(ap not c\.", text) and not any(n in (v or []) for v in merged.values()):
+            merged.setdefault(COMMON, []).append(n)
     lines = [u if v is None else f"use {u}.{{{', '.join(v)}}}" for u, v in merged.items()]
     return "\n".join(head + lines + [goal, ""] + body).rstrip() + "\n"
 

@@ -1,0 +1,17 @@
+-- The cause's record gets its state (settle_write); where it can be no cause no word is written (settle_keep). One that can be stands in a record of the table
+-- (causing_there).
+use Rattle.std.proofs.Common.{rules}
+use Rattle.removal.specs.Settling.{settle_write, settle_keep, causing_there}
+use Rattle.removal.proofs.settle_cause.Goals as goal
+
+pub fate_of-x-requires : goal.fate_of-x-requires
+fate_of-x-requires c = (search rules, search rules, causing_there _ _ _ _ c.requires.1 c.causing.ensures c.if-causing.true)
+
+pub set_message_state-requires : goal.set_message_state-requires
+set_message_state-requires c = (search rules, causing_there _ _ _ _ c.requires.1 c.causing.ensures c.if-causing.true)
+
+pub returns-then-causing : goal.returns-then-causing
+returns-then-causing c = search settle_write
+
+pub returns-else-causing : goal.returns-else-causing
+returns-else-causing c = search settle_keep
