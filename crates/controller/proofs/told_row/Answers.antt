@@ -1,0 +1,14 @@
+use Rattle.rules.specs.Steps.{told_row}
+use Rattle.base.specs.Lists.{filled_none, filled_more, filled_done}
+use Rattle.std.proofs.Common.{max, ◌-◌, refl, ap₂, ◌∙◌}
+use Rattle.controller.proofs.told_row.Goals as goal
+
+pub loop-i-init : goal.loop-i-init
+loop-i-init c = filled_none 0 _ _ _ refl
+
+pub loop-i-preserved : goal.loop-i-preserved
+loop-i-preserved c = filled_more _ _ _ _ _ _ c.loop-i.invariant c.loop-i-test.true (c.larger.ensures ∙ ap₂ max c.known-theirs.ensures c.known-own.ensures)
+
+pub returns : goal.returns
+unfolding told_row
+returns c = filled_done 0 _ _ _ _ c.loop-i.invariant c.loop-i-test.false
