@@ -99,6 +99,8 @@ def turn(path, made, own):
     args = split_args(re.split(r"tie\.spec\s", spec, maxsplit=1)[1])
     needs, loops = made["needs"], made["loops"]
     places = {p[0]: p for p in made["places"]}
+    by_name = dict(zip([p[0] for p in made["places"]], made["places_by_name"]))
+    named_places = []
     if len(args) != len(needs) + 2 * len(loops):
         raise Cannot(f"{len(args)} arguments, {len(needs)} goals and {len(loops)} loops")
     uses_text = "\n".join(uses)
@@ -107,9 +109,9 @@ def turn(path, made, own):
     def own_words(t):
         return re.sub(WORD, lambda m: own.get(m[0], m[0]) if "-" in m[0] else m[0], t)
 
-    def resolve(body, base):
+    def resolve(body, base, where, goal=None, root="c"):
         """The paths of a body whose argument c is at the place base."""
-        alias = {"c": base}
+        alias = {root: base}
 
         def up(place, k):
             for _ in range(k):
@@ -126,7 +128,7 @@ def turn(path, made, own):
                 return "c." + under(name)
             old, new = places[place][2]
             name = under(name)
-            if name in (under(old), under(new)):
+            if name.lower() in (under(old).lower(), under(new).lower()):
                 return "c." + new
             # the older kit counted other steps before this one: by its name, where that is one
             for n in (name, re.sub(r"_lem$", "", name), re.sub(r"(?<=\D)(\d+)$", r"-\1", name), re.sub(r"(?<=\D)(\d+)$", r"_\1", name)):
@@ -139,7 +141,11 @@ def turn(path, made, own):
             root, befores, name = m[1], m[2], m[3]
             place = up(alias[root], befores.count(".before"))
             if name is None:
-                raise Cannot(f"bare {m[0]}")
+                if place == base:
+                    return "c"
+                if goal is None:
+                    raise Cannot(f"bare {m[0]}")
+                return f"(goal.at.{goal} c).{by_name[place]}"
             return step(place, name[1:])
 
         out = body
@@ -153,6 +159,10 @@ def turn(path, made, own):
             out = out[: m.start()] + out[m.end() :]
         names = "|".join(map(re.escape, sorted(alias, key=len, reverse=True)))
         out = re.sub(r"(?<![\w.'-])(%s)((?:\.before)*)(\.(?!before\b)%s)?(?![\w'-])" % (names, WORD), path, out)
+        # an arm says which variant the value is
+        arm = re.search(r"\b[Ii]n-([A-Z]\w*)(?!.*\b[Ii]n-[A-Z])", where)
+        if arm:
+            out = re.sub(r"c\.[\w-]+\.given\.1", f"c.in-{arm[1]}.is", out)
         # a test `!x` says now that x is false, and not that `not x` is true
         out = re.sub(r"not-(?:true|false) _ (c\.if-not-[\w-]+\.(?:true|false))", r"\1", out)
         out = re.sub(r"(?<!∙ )(c\.if-not-[\w-]+\.(?:true|false))", r"(ap not \1)", out)
@@ -206,17 +216,28 @@ def turn(path, made, own):
         params = [p for p in params if p != "κs"]
         if not params or params[0] != "c":
             raise Cannot(f"{arg}: takes {params}")
-        rest = resolve(rest, base).strip()
+        rest = resolve(rest, base, made["asked_at"][i][1], new).strip()
         if rest == "search rules":
             continue
         ans += comment + [f"pub {new} : goal.{new}"] + ([own_words(unfolding.rstrip())] if unfolding else []) + [f"{new} {' '.join(params)} = {rest}" if "\n" not in rest else f"{new} {' '.join(params)} =\n    {rest}", ""]
     left = [d for d in order if d not in used]
-    if any("tie." in defs[d][1] for d in left):
-        raise Cannot("helpers " + ", ".join(left))
     helpers = []
     for d in left:
-        helpers += defs[d][0] + [own_words(defs[d][1]), ""]
-    return head, keep_uses, inv, helpers + ans
+        comment, body = defs[d]
+        if "tie." in body:
+            m = re.match(r"%s : \((%s) : tie\.(%s)\) →(.*)\n((?:unfolding [^\n]*\n)?)%s (%s) =(\s)(.*)\Z" % (re.escape(d), WORD, WORD, re.escape(d), WORD), body, re.S)
+            if not m or "tie." in m[3]:
+                raise Cannot("helper " + d)
+            found = [p for p in by_name if p.lower() == under(m[2]).replace("After_", "After-").replace("In_", "In-").replace("At_", "At-").lower()]
+            if not found:
+                raise Cannot(f"helper {d}: no place {m[2]} in {list(by_name)}")
+            base = found[0]
+            named_places.append(by_name[base])
+            told = resolve(m[3], base, by_name[base], None, m[1])
+            rest = resolve(m[7], base, by_name[base], None, m[5])
+            body = f"{d} : (c : {by_name[base]}) →{told}\n{m[4]}{d} c ={m[6]}{'    ' if m[6] != ' ' else ''}{rest.strip()}"
+        helpers += comment + [own_words(body), ""]
+    return head, keep_uses, inv, helpers + ans, sorted(set(named_places))
 
 
 def rename_bound(text, p):
@@ -277,7 +298,7 @@ def main(argv):
         try:
             if key not in made:
                 raise Cannot("not in names.json")
-            head, uses, inv, ans = turn(path, made[key], own)
+            head, uses, inv, ans, named = turn(path, made[key], own)
         except Cannot as why:
             print(f"{crate}/{fn}: left: {why}")
             continue
@@ -287,7 +308,8 @@ def main(argv):
                 f.write(file_of(head, uses, f"use Rattle.{crate}.proofs.{fn.replace('/', '.')}.Given as goal", inv))
         if ans:
             with open(f"{d}/Answers.antt", "w", encoding="utf-8") as f:
-                f.write(file_of(head if not inv else [], uses, f"use Rattle.{crate}.proofs.{fn.replace('/', '.')}.Goals as goal", ans))
+                goals = f"use Rattle.{crate}.proofs.{fn.replace('/', '.')}.Goals"
+                f.write(file_of(head if not inv else [], uses, f"{goals} as goal" + (f"\n{goals}.{{{', '.join(named)}}}" if named else ""), ans))
         if not inv and not ans:
             os.rmdir(d)
 

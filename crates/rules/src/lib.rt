@@ -4,7 +4,7 @@
 pub mod refusal;
 
 // A step, by its letter in document 01; W4 names none for its own.
-#[derive(Drop)]
+#[derive(Clone, Copy)]
 pub enum Command {
     // O n k
     Open(u32, u32),
@@ -31,7 +31,7 @@ pub enum Command {
 }
 
 // The answer to a step, or to a call beside it. specs/Report.antt gives each its word, number and values.
-#[derive(Drop)]
+#[derive(Clone, Copy)]
 pub enum Answer {
     Done,
     // message
@@ -63,7 +63,7 @@ pub enum Answer {
 }
 
 // What would come of delivering a released message.
-#[derive(Drop)]
+#[derive(Clone, Copy)]
 pub enum Prospect {
     // controller and ended incarnation of the crash that condemns it
     WouldDrop(u32, u32),

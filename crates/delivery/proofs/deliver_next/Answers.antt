@@ -1,0 +1,21 @@
+-- The receiver has its chain (receiver_chain), and there is room, since an interval would begin (has_room); it begins with the two vectors
+-- merged.
+use Rattle.laws.specs.Chain.{chain_counts}
+use Rattle.message.specs.Ready.{taken_near}
+use Rattle.delivery.specs.Delivers.{receiver_chain, has_room, next_begins}
+use Rattle.std.proofs.Common.{rules}
+use Rattle.delivery.proofs.deliver_next.Goals as goal
+
+pub newest_vector-ours-requires : goal.newest_vector-ours-requires
+newest_vector-ours-requires c = (search rules, search receiver_chain)
+
+pub filter_vector-theirs-requires : goal.filter_vector-theirs-requires
+filter_vector-theirs-requires c = search (rules, taken_near)
+
+pub begin_interval-requires : goal.begin_interval-requires
+begin_interval-requires c = (c.requires.0, chain_counts (receiver_chain _ _ _ c.requires.1 c.receiver-c.ensures), has_room _ _ _ c.requires.1 c.receiver-c.ensures c.requires.2, c.requires.1.record_lt)
+
+pub returns : goal.returns
+returns c =
+    next_begins c.args.t.now _ _ _ c.receiver-c.ensures _ c.message_vector.ensures _ _ c.newest_vector-ours.ensures c.filter_vector-theirs.ensures _ c.merge_vector.ensures _ _
+    c.begin_interval.ensures
