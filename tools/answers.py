@@ -228,7 +228,7 @@ def turn(path, made, own):
             m = re.match(r"%s : \((%s) : tie\.(%s)\) →(.*)\n((?:unfolding [^\n]*\n)?)%s (%s) =(\s)(.*)\Z" % (re.escape(d), WORD, WORD, re.escape(d), WORD), body, re.S)
             if not m or "tie." in m[3]:
                 raise Cannot("helper " + d)
-            found = [p for p in by_name if p.lower() == under(m[2]).replace("After_", "After-").replace("In_", "In-").replace("At_", "At-").lower()]
+            found = [p for p in by_name if under(p).lower() == under(m[2]).lower()]
             if not found:
                 raise Cannot(f"helper {d}: no place {m[2]} in {list(by_name)}")
             base = found[0]
