@@ -236,6 +236,7 @@ def turn(path, made, own):
             told = resolve(m[3], base, by_name[base], None, m[1])
             rest = resolve(m[7], base, by_name[base], None, m[5])
             body = f"{d} : (c : {by_name[base]}) →{told}\n{m[4]}{d} c ={m[6]}{'    ' if m[6] != ' ' else ''}{rest.strip()}"
+            ans = [re.sub(r"(?<![\w-])%s \(goal\.at\.([\w-]+) c\)\.[\w-]+" % re.escape(d), lambda m: f"{d} (goal.at.{m[1]} c).{by_name[base]}", a) for a in ans]
         helpers += comment + [own_words(body), ""]
     return head, keep_uses, inv, helpers + ans, sorted(set(named_places))
 

@@ -57,6 +57,7 @@ count_below (suc k) n =
 accepted_unheard : {n : ℕ} {μ : Model} {b a i j : ℕ} {y : Answer} {μ' : Model} → Outcome n μ (Hear b a i) y j μ' → Accepted y → (b < n) × ((μ.controller b).ends a i ≡ 0)
 accepted_unheard (O.heard b a i w z) _ = (w.hearer_below, w.unheard)
 accepted_unheard (O.rolled b a i j undone w z) _ = (w.hearer_below, w.unheard)
+accepted_unheard {n = n} {μ = μ} {b = b} {a = a} {i = i} (O.refused _ number) none = elim none [ ]
 
 -- and marks it as heard
 accepted_heard : (h : History) (b a i : ℕ) (y : Answer) → Accepted y → Is ((fed_step (Hear b a i) y h).heard b a i)

@@ -78,15 +78,25 @@ itself (alone m echoed mask) = refl
 not_among : {l : List ℕ} {a : Answer} {m mask : ℕ} → ((i : ℕ) → i < length l → nth l i ≢ m) → LetsGo (release_set l) a m mask → ⊥
 not_among none (together l i mask h) = none i h refl
 
+-- a release lets nothing out by a set's answer, nor a set by a release's, nor the dispatcher
+no_set_alone : {x : Command} {mask m k : ℕ} → LetsGo (asks x) (SetReleased mask) m k → ⊥
+no_set_alone o = elim o [ ]
+
+no_one_together : {l : List ℕ} {echoed mask m k : ℕ} → LetsGo (release_set l) (Released echoed mask) m k → ⊥
+no_one_together o = elim o [ ]
+
+not_dispatched : {a : Answer} {m k : ℕ} → LetsGo dispatch a m k → ⊥
+not_dispatched o = elim o [ ]
+
 -- whether a call with this answer lets m out
 lets_go? : (m : ℕ) (x : Call) {a : Answer} → Shown a → ((mask : ℕ) × LetsGo x a m mask) ⊎ ((mask : ℕ) → LetsGo x a m mask → ⊥)
 lets_go? m x (nothing a e f) = inr (λ k o. nothing_goes o e f)
 lets_go? m (asks x) (by_release echoed mask) =
     ⊎_elim (λ is. inl (mask, subst (λ x. LetsGo (asks x) (Released echoed mask) m mask) (sym is) (alone m echoed mask))) (λ ne. inr (λ k o. ne (itself o))) (releases? m x)
-lets_go? m (asks x) (by_set mask) = inr (λ k o. elim o [ ])
-lets_go? m dispatch (by_release echoed mask) = inr (λ k o. elim o [ ])
-lets_go? m dispatch (by_set mask) = inr (λ k o. elim o [ ])
-lets_go? m (release_set l) (by_release echoed mask) = inr (λ k o. elim o [ ])
+lets_go? m (asks x) (by_set mask) = inr (λ k o. no_set_alone o)
+lets_go? m dispatch (by_release echoed mask) = inr (λ k o. not_dispatched o)
+lets_go? m dispatch (by_set mask) = inr (λ k o. not_dispatched o)
+lets_go? m (release_set l) (by_release echoed mask) = inr (λ k o. no_one_together o)
 lets_go? m (release_set l) (by_set mask) =
     ⊎_elim (λ p. inl (mask, subst (λ m. LetsGo (release_set l) (SetReleased mask) m mask) p.2 (together l p.0 mask p.1))) (λ none. inr (λ k o. not_among none o)) (among? m l)
 
