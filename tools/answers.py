@@ -96,6 +96,7 @@ def turn(path, made, own):
             order.append(m[1])
     if spec is None:
         raise Cannot("no tie.spec")
+    opened = "".join(l + "\n" for l in spec.split("\n") if l.startswith("unfolding "))
     args = split_args(re.split(r"tie\.spec\s", spec, maxsplit=1)[1])
     needs, loops = made["needs"], made["loops"]
     places = {p[0]: p for p in made["places"]}
@@ -163,6 +164,7 @@ def turn(path, made, own):
         arm = re.search(r"\b[Ii]n-([A-Z]\w*)(?!.*\b[Ii]n-[A-Z])", where)
         if arm:
             out = re.sub(r"c\.[\w-]+\.given\.1", f"c.in-{arm[1]}.is", out)
+        out = re.sub(r"c\.\w+-in-([A-Z]\w*)-\d+\.given\.1", r"c.in-\1.is", out)
         # a test `!x` says now that x is false, and not that `not x` is true
         out = re.sub(r"not-(?:true|false) _ (c\.if-not-[\w-]+\.(?:true|false))", r"\1", out)
         out = re.sub(r"(?<!∙ )(c\.if-not-[\w-]+\.(?:true|false))", r"(ap not \1)", out)
@@ -212,7 +214,7 @@ def turn(path, made, own):
             m = re.match(r"^\(λ ([^.]*)\. (.*)\)$", arg)
             if not m:
                 raise Cannot(f"{arg}: not read")
-            comment, unfolding, params, gap, rest = [], "", m[1].split(), " ", m[2]
+            comment, unfolding, params, gap, rest = [], opened, m[1].split(), " ", m[2]
         params = [p for p in params if p != "κs"]
         if not params or params[0] != "c":
             raise Cannot(f"{arg}: takes {params}")

@@ -39,6 +39,7 @@ const CRASH: u32 = b'X' as u32;
 const HEAR: u32 = b'H' as u32;
 
 // The step of a letter and its numbers; a step doesn't look at numbers that it hasn't.
+#[tactic(auto, unfolding(lines::specs::Lines::step_of))]
 pub fn step_of(letter: u32, a: u32, b: u32, c: u32) -> Parsed
     ensures { result ≡ step_of letter a b c }
 {
@@ -77,6 +78,7 @@ fn numbers_of(x: Command) -> usize
 }
 
 // What is asked, where it has just n numbers.
+#[tactic(auto, unfolding(lines::specs::Lines::with_numbers))]
 fn with_numbers(n: usize, asked: Parsed) -> Parsed
     ensures { result ≡ with_numbers n asked }
 {

@@ -14,6 +14,7 @@ pub const VALUES: usize = 6;
 #[derive(Drop)]
 pub struct Reported(u32, [u32; VALUES]);
 
+#[tactic(auto, unfolding(crate::specs::Values::value_words, base::specs::Lists::tab, rules::specs::Report::report))]
 fn report(a: Answer) -> Reported
     ensures { (result.0 ≡ (report a).number) × (result.1 ≡ value_words a) }
 {

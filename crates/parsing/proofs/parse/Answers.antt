@@ -16,7 +16,7 @@ pub number_at-requires : goal.number_at-requires
 number_at-requires c = tt
 
 pub returns-in_default : goal.returns-in_default
-returns-in_default c = line_broken c.loop-at.invariant c.loop-at-test.true (sym c.number_at.ensures ∙ c.enum_told-1.given.1)
+returns-in_default c = line_broken c.loop-at.invariant c.loop-at-test.true (sym c.number_at.ensures ∙ c.in_default.is)
 
 pub loop-at-smaller : goal.loop-at-smaller
 loop-at-smaller c = line_less c.loop-at.invariant c.loop-at-test.true (sym c.number_at.ensures ∙ c.in-Ends.is)
@@ -28,7 +28,7 @@ pub bounds-s-0 : goal.bounds-s-0
 bounds-s-0 c = omega (arith, c.loop-at.invariant.inside)
 
 pub overflow_cast-letter : goal.overflow_cast-letter
-overflow_cast-letter c = omega (arith, c.shared_slice_known-2-1.given 0)
+overflow_cast-letter c = omega (arith, c.type_inv.s 0)
 
 pub step_of-requires : goal.step_of-requires
 step_of-requires c = tt
