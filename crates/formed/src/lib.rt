@@ -11,7 +11,7 @@ use rules::{Answer, Command, refusal};
 // A step on a table in form. It leaves one in form.
 pub fn step_in_form(t: &mut [u32], g: &mut [u32], x: Command) -> Answer
     requires { Lent t.old }
-    ensures g_after { out_both result t.new g.new ≡ step t.old g.old x }
+    ensures answered { out_both result t.new g.new ≡ step t.old g.old x }
     ensures lent { Lent t.new }
 {
     machine::perform(t, g, x)
@@ -39,7 +39,7 @@ fn is_done(a: Answer) -> bool
 }
 
 // An answer, and whether the table that is left is in form.
-#[derive(Drop)]
+#[derive(Clone, Copy)]
 pub struct Carried {
     pub answer: Answer,
     pub formed: bool,
@@ -49,7 +49,7 @@ pub struct Carried {
 // and an opening that is done leaves one in form.
 pub fn step_carried(t: &mut [u32], g: &mut [u32], formed: bool, x: Command) -> Carried
     requires { FormKnown t.old formed }
-    ensures g_after { out_both result.answer t.new g.new ≡ step t.old g.old x }
+    ensures answered { out_both result.answer t.new g.new ≡ step t.old g.old x }
     ensures form_known { FormKnown t.new result.formed }
 {
     if formed {
