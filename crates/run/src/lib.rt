@@ -98,8 +98,8 @@ fn form_of(t: &[u32]) -> bool
 // A step on a table of which it is known whether it has its length and is in form.
 fn step_known(t: &mut [u32], g: &mut [u32], formed: bool, x: Command) -> Carried
     requires { formed ≡ form_of t.old }
-    ensures g_after { out_both result.answer t.new g.new ≡ step t.old g.old x }
-    ensures formed_value { result.formed ≡ form_of t.new }
+    ensures answered { out_both result.answer t.new g.new ≡ step t.old g.old x }
+    ensures form_known { result.formed ≡ form_of t.new }
 {
     if t.len() != layout::TABLE_WORDS {
         return Carried {
@@ -113,8 +113,8 @@ fn step_known(t: &mut [u32], g: &mut [u32], formed: bool, x: Command) -> Carried
 // A step, with its answer's number and values in the words d. Says whether the table that is left is in form.
 fn answer_step(t: &mut [u32], g: &mut [u32], formed: bool, x: Command, d: &mut [u32]) -> bool
     requires { (formed ≡ form_of t.old) × (length d.old ≡ answer_words) }
-    ensures d_after { returned ran_all t.new g.new d.new ≡ in_answer (taken t.old g.old no_values (Asks x)) }
-    ensures value { result ≡ form_of t.new }
+    ensures answered { returned ran_all t.new g.new d.new ≡ in_answer (taken t.old g.old no_values (Asks x)) }
+    ensures form_known { result ≡ form_of t.new }
 {
     let done = step_known(t, g, formed, x);
     let a = done.answer;
@@ -135,8 +135,8 @@ fn run_step(
     answers: &mut [u32],
 ) -> bool
     requires { (formed ≡ form_of t.old) × ((i + 1) * step_words ≤ length steps.now) × ((i + 1) * answer_words ≤ length answers.old) × (known (asked_by steps.now i) ≡ true) }
-    ensures answers_after { returned ran_all t.new g.new (take ((i + 1) * answer_words) answers.new) ≡ one_more steps.now (returned ran_all t.old g.old (take (i * answer_words) answers.old)) i }
-    ensures value { result ≡ form_of t.new }
+    ensures answered { returned ran_all t.new g.new (take ((i + 1) * answer_words) answers.new) ≡ one_more steps.now (returned ran_all t.old g.old (take (i * answer_words) answers.old)) i }
+    ensures form_known { result ≡ form_of t.new }
 {
     let Parsed::Asks(x) = asked_by(steps, i) else {
         return formed;

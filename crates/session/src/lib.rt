@@ -13,7 +13,7 @@ use lines::{LINE_FEED, LONGEST_LINE, Parsed};
 pub const LINE_ROOM: usize = LONGEST_LINE + 1;
 
 // How many bytes of a line that hasn't ended are there, how many bytes of answers are owed, and whether the table is in form.
-#[derive(Drop)]
+#[derive(Clone, Copy)]
 pub struct Progress {
     pub line: usize,
     pub owed: usize,
@@ -31,8 +31,8 @@ fn end_line(
     at: usize,
 ) -> Progress
     requires { FormKnown t.old formed × (n ≤ length line.now) × (at + answer_room ≤ length out.old) }
-    ensures owed_after { held t.new g.new line.now result.line out.new result.owed ≡ ended (held t.old g.old line.now n out.old at) }
-    ensures line_value { (result.line ≡ 0) × (at ≤ result.owed) × (result.owed ≤ at + answer_room) × (drop result.owed out.new ≡ drop result.owed out.old) }
+    ensures answers { held t.new g.new line.now result.line out.new result.owed ≡ ended (held t.old g.old line.now n out.old at) }
+    ensures room { (result.line ≡ 0) × (at ≤ result.owed) × (result.owed ≤ at + answer_room) × (drop result.owed out.new ≡ drop result.owed out.old) }
     ensures form_known { FormKnown t.new result.formed }
 {
     let Parsed::Asks(x) = parsing::parse(&line[..n]) else {
@@ -65,9 +65,9 @@ fn take_byte(
     at: usize,
 ) -> Progress
     requires { FormKnown t.old formed × (length line.old ≡ line_room) × (n ≤ line_room) × (at + answer_room ≤ length out.old) }
-    ensures owed_after { held t.new g.new line.new result.line out.new result.owed ≡ taken (held t.old g.old line.old n out.old at) b }
-    ensures line_le_line_room { (result.line ≤ line_room) × (at ≤ result.owed) × (result.owed ≤ at + answer_room) × (drop result.owed out.new ≡ drop result.owed out.old) }
-    ensures line_after { line.new ≡ stored (held t.old g.old line.old n out.old at) line.old b }
+    ensures answers { held t.new g.new line.new result.line out.new result.owed ≡ taken (held t.old g.old line.old n out.old at) b }
+    ensures room { (result.line ≤ line_room) × (at ≤ result.owed) × (result.owed ≤ at + answer_room) × (drop result.owed out.new ≡ drop result.owed out.old) }
+    ensures kept_line { line.new ≡ stored (held t.old g.old line.old n out.old at) line.old b }
     ensures form_known { FormKnown t.new result.formed }
 {
     if b == LINE_FEED {
@@ -99,9 +99,9 @@ fn take_bytes(
     out: &mut [u8],
 ) -> Progress
     requires { FormKnown t.old formed × (length line.old ≡ line_room) × (n ≤ line_room) × (answer_room * length bytes.now ≤ length out.old) }
-    ensures owed_after { held t.new g.new line.new result.line out.new result.owed ≡ taken_all (session t.old g.old (take n line.old) []) bytes.now }
-    ensures line_le_line_room { (result.line ≤ line_room) × (result.owed ≤ length out.new) × (drop result.owed out.new ≡ drop result.owed out.old) }
-    ensures line_after { line.new ≡ stored_all (session t.old g.old (take n line.old) []) line.old bytes.now }
+    ensures answers { held t.new g.new line.new result.line out.new result.owed ≡ taken_all (session t.old g.old (take n line.old) []) bytes.now }
+    ensures room { (result.line ≤ line_room) × (result.owed ≤ length out.new) × (drop result.owed out.new ≡ drop result.owed out.old) }
+    ensures kept_line { line.new ≡ stored_all (session t.old g.old (take n line.old) []) line.old bytes.now }
     ensures form_known { FormKnown t.new result.formed }
 {
     let mut p = Progress {
@@ -127,8 +127,8 @@ fn finish(
     out: &mut [u8],
 ) -> Progress
     requires { FormKnown t.old formed × (n ≤ length line.now) × (answer_room ≤ length out.old) }
-    ensures owed_after { held t.new g.new line.now result.line out.new result.owed ≡ finished (session t.old g.old (take n line.now) []) }
-    ensures line_value { (result.line ≡ 0) × (result.owed ≤ length out.new) × (drop result.owed out.new ≡ drop result.owed out.old) }
+    ensures answers { held t.new g.new line.now result.line out.new result.owed ≡ finished (session t.old g.old (take n line.now) []) }
+    ensures room { (result.line ≡ 0) × (result.owed ≤ length out.new) × (drop result.owed out.new ≡ drop result.owed out.old) }
     ensures form_known { FormKnown t.new result.formed }
 {
     if n == 0 {
@@ -153,9 +153,9 @@ pub fn serve(
     out: &mut [u8],
 ) -> Progress
     requires { FormKnown t.old formed × (length line.old ≡ line_room) × (n ≤ line_room) × (answer_room * length bytes.now ≤ length out.old) × (answer_room ≤ length out.old) }
-    ensures owed_after { held t.new g.new line.new result.line out.new result.owed ≡ served (session t.old g.old (take n line.old) []) bytes.now }
-    ensures line_le_line_room { (result.line ≤ line_room) × (result.owed ≤ length out.new) × (drop result.owed out.new ≡ drop result.owed out.old) }
-    ensures line_after { line.new ≡ stored_all (session t.old g.old (take n line.old) []) line.old bytes.now }
+    ensures answers { held t.new g.new line.new result.line out.new result.owed ≡ served (session t.old g.old (take n line.old) []) bytes.now }
+    ensures room { (result.line ≤ line_room) × (result.owed ≤ length out.new) × (drop result.owed out.new ≡ drop result.owed out.old) }
+    ensures kept_line { line.new ≡ stored_all (session t.old g.old (take n line.old) []) line.old bytes.now }
     ensures form_known { FormKnown t.new result.formed }
 {
     if bytes.len() == 0 {
