@@ -2,10 +2,12 @@
 // any bytes, is proved there; that this loop hands over all that it reads, and writes all that is owed, can only be read here.
 #![tactic(auto)]
 
-ghost use Rattle.std.specs.Prelude.{◌≤◌, length};
+ghost use Rattle.std.specs.Prelude.{◌≤◌, length, IfSome};
 
 use printing::ANSWER_ROOM;
 use session::LINE_ROOM;
+use std::io;
+use std::io::{Error, ErrorKind, Print, Read};
 
 // With its table and its ledger the program fits on a stack of 128 KB.
 const READ_ROOM: usize = 512;
@@ -13,65 +15,74 @@ const READ_ROOM: usize = 512;
 // Each byte that is read may end a line.
 const OUT_ROOM: usize = READ_ROOM * ANSWER_ROOM;
 
+// Says why a call has failed, in the system's words, without the number that the library puts behind them.
+fn fail(rt: HostRuntime, what: &str, error: Error) -> io::Result<()> {
+    let text = format!(in rt.alloc(); "{error}")?;
+    let words = match text.find(" (os error ") {
+        Some(end) => &text[..end],
+        None => text.as_str(),
+    };
+    eprintln!(rt; "house: {what}: {words}")
+}
+
 // Whether a call that has failed is to be made again: a signal came first. Otherwise it says why, unless nobody reads the output
 // any more, which is no fault.
-fn again(what: &[u8]) -> bool {
-    let error = os::errno();
-    if error == libc::EINTR {
-        return true;
+fn again(rt: HostRuntime, what: &str, error: Error) -> bool {
+    match error.kind() {
+        ErrorKind::Interrupted => true,
+        ErrorKind::BrokenPipe => false,
+        _ => {
+            let _ = fail(rt, what, error);
+            false
+        }
     }
-    if error != libc::EPIPE {
-        os::fail(what);
-    }
-    false
 }
 
 // The first n bytes of the output are written out; answers whether they were. After a write that failed there is no other.
-fn write_out(out: &[u8], n: usize) -> bool
+fn write_out(rt: HostRuntime, out: &[u8], n: usize) -> bool
     requires { n ≤ length out.now }
 {
     let mut done = 0;
-    // A proved loop has to end, and nothing says that signals do: it counts down from a number that no run uses up.
-    let mut turns = u64::MAX;
-    while turns > 0 {
+    // A proved loop has to end, and nothing says that signals do: the range is one that no run uses up.
+    for _ in 0..u64::MAX {
         if done == n {
             return true;
         }
-        let rest = &out[done..n];
-        let put = libc::write(libc::STDOUT_FILENO, rest);
-        if put == 0 {
-            io::write_all(libc::STDERR_FILENO, b"house: write: nothing was taken\n");
-            return false;
-        }
-        if put < 0 {
-            if !again(b"house: write") {
+        match rt.write_some(&out[done..n]) {
+            Ok(0) => {
+                let _ = eprintln!(rt; "house: write: nothing was taken");
                 return false;
             }
+            Ok(put) => done += put,
+            Err(error) => {
+                if !again(rt, "write", error) {
+                    return false;
+                }
+            }
         }
-        done += io::count(put, rest);
-        turns -= 1;
     }
     false
 }
 
-// Bytes of the input, one read of them; answers how many there are, 0 at its end, and less than 0 where the read failed.
-fn read_in(bytes: &mut [u8]) -> isize {
+// Bytes of the input, one read of them; answers how many there are, 0 at its end, and none where the read failed.
+fn read_in(rt: HostRuntime, bytes: &mut [u8]) -> Option<usize>
+    ensures { IfSome result (λ n. n ≤ length bytes.new) }
+{
     // as above
-    let mut turns = u64::MAX;
-    while turns > 0 {
-        let got = libc::read(libc::STDIN_FILENO, bytes);
-        if got >= 0 {
-            return got;
+    for _ in 0..u64::MAX {
+        match rt.stdin().read(bytes) {
+            Ok(got) => return Some(got),
+            Err(error) => {
+                if !again(rt, "read", error) {
+                    return None;
+                }
+            }
         }
-        if !again(b"house: read") {
-            return -1;
-        }
-        turns -= 1;
     }
-    -1
+    None
 }
 
-fn main() {
+fn main(rt: HostRuntime) {
     let mut table = [0u32; 15152];
     let mut ledger = [0u32; 257];
     let mut line = [0u8; LINE_ROOM];
@@ -81,13 +92,10 @@ fn main() {
     // a table of zeros is not in form
     let mut formed = false;
     // as above; nothing says that the input ends
-    let mut turns = u64::MAX;
-    while turns > 0 {
-        let got = read_in(&mut bytes);
-        if got < 0 {
+    for _ in 0..u64::MAX {
+        let Some(n) = read_in(rt, &mut bytes) else {
             return;
-        }
-        let n = io::count(got, &bytes);
+        };
         let p = session::serve(
             &mut table,
             &mut ledger,
@@ -100,12 +108,11 @@ fn main() {
         kept = p.line;
         formed = p.formed;
         let owed = p.owed;
-        if !write_out(&out, owed) {
+        if !write_out(rt, &out, owed) {
             return;
         }
         if n == 0 {
             return;
         }
-        turns -= 1;
     }
 }

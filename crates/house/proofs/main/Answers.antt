@@ -1,0 +1,28 @@
+use Rattle.std.proofs.Common.{rules, ◌≡◌, sym, ◌∙◌, take, length, length-take-le}
+use Rattle.session.specs.Buffers.{reached_first, first_unformed, reached_next}
+use Rattle.house.proofs.main.Goals as goal
+
+pub loop-init : goal.loop-init
+loop-init c = record {
+  reached = reached_first;
+  form_known = first_unformed;
+  ledger_long = search rules;
+  line_long = search rules;
+  bytes_long = search rules;
+  out_long = search rules;
+  kept_le = search rules;
+}
+
+pub loop-preserved : goal.loop-preserved
+loop-preserved c =
+    let e = c.serve-p.ensures in
+    let long : length (take c.in-Some.n c.read_in.new.bytes) ≡ c.in-Some.n = length-take-le _ _ (rw c.in-Some.is at c.read_in.ensures) in
+    record {
+      reached = reached_next (take c.in-Some.n c.read_in.new.bytes) c.loop.invariant.reached (λ z. c.if-n-eq0.false (sym long ∙ z)) e.answers;
+      form_known = e.form_known;
+      ledger_long = search rules;
+      line_long = search rules;
+      bytes_long = search rules;
+      out_long = search rules;
+      kept_le = e.room.0;
+    }
