@@ -11,5 +11,3 @@ pub mod Dispatch
 pub mod Step
 pub mod Order
 pub mod Report
-pub mod Starred
-pub mod Faults

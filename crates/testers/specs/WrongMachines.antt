@@ -13,7 +13,7 @@ use Rattle.rules.specs.Ledger.{ledger_words}
 use Rattle.rules.specs.Steps.{beside}
 use Rattle.rules.specs.Step.{OutBoth, out_both, lent, step}
 use Rattle.rules.specs.Report.{report}
-use Rattle.rules.specs.Starred.{answer}
+use Rattle.rules.proofs.Starred.{answer}
 use Rattle.rules.specs.declared.Answer.{Answer}
 use Rattle.rules.specs.declared.Answer.TheVariants.{Done, Sent, Released, Held, Delivered, Dropped, Waits, Crashed, Heard, Rolled, Refused, SetReleased, SetHeld, Idle}
 use Rattle.rules.specs.declared.Command.{Command}

@@ -18,7 +18,7 @@ use Rattle.rules.specs.Shared.{place_record, logged, logged_to, checkpointed, fo
 use Rattle.rules.specs.Steps.{refusing, refusing_both, open_house, step_open, step_gap, records_full, step_send, own_vector, let_out, gone, ledger_out, may_go, release, step_release, interval_added, interval_begins, no_place, chain_full, prospect, comes_of, deliver, told_row, told, crashed, crash_full, step_crash, noted, lowest_condemned, rolled_back, hear, step_deliver}
 use Rattle.rules.specs.Sets.{some_absent, bad_length, named_before, named_twice, some_not_held, many_senders, some_full, bits, union, some_for_desk, set_may_go, desks, out_to, ledger_to, release_all, step_set}
 use Rattle.rules.specs.Report.{report}
-use Rattle.rules.specs.Starred.{Row, ◌is◌by◌, rows_hold, no, yes, truth, answer}
+use Rattle.rules.proofs.Starred.{Row, ◌is◌by◌, rows_hold, no, yes, truth, answer}
 use Rattle.rules.specs.declared.Answer.TheVariants.{Done, Sent, Released, Held, Delivered, Dropped, Crashed, Rolled, Refused, SetReleased, SetHeld}
 use Rattle.rules.specs.Dispatch.{dispatched, servable, has_message, turn, first_turn, lowest_for, serve}
 
