@@ -1,4 +1,4 @@
-//! Nothing is held for ever, and what is cited stands: the theorems on messages in `paper/specs/Theorems.antt`
+//! Nothing is held for ever, and what is cited stands: the theorems on messages in `paper/proofs/Theorems.antt`
 //! (theorem-A-1-messages, theorem-A-2 and those under its name), and `AllCitable` in `history/specs/Citable.antt`.
 //!
 //! In random lists both machines are held to these at every release, of a set too, and every delivery, by the

@@ -1,5 +1,5 @@
 //! What the theorems claim of an answer, by the history and by who was asked. Their names stand in
-//! `paper/specs/Theorems.antt`, their words in `Progress`, `Asked` and `Citable` of `history/specs`.
+//! `paper/proofs/Theorems.antt`, their words in `Progress`, `Asked` and `Citable` of `history/specs`.
 
 use super::{refused, House, Told};
 use goulvizad::SET_MOST;

@@ -20,7 +20,7 @@ use Rattle.rules.specs.declared.Answer.TheVariants.{Refused, Idle}
 use Rattle.rules.specs.declared.Command.TheVariants.{Deliver}
 use Rattle.laws.specs.Answering.{Lent}
 use Rattle.laws.specs.Dispatching.{Servable, dispatched_cases}
-use Rattle.keeping.specs.Dispatch.{served_low, deliver_is}
+use Rattle.keeping.proofs.Dispatch.{served_low, deliver_is}
 use Rattle.history.specs.History.{History, answers, value_at, fed_step, fed}
 use Rattle.history.specs.Citations.{cited_step, cited}
 use Rattle.history.specs.Demand.{Run, call_in, next}

@@ -15,7 +15,7 @@ use Rattle.rules.specs.declared.Answer.TheVariants.{Done, Released, SetReleased}
 use Rattle.rules.specs.declared.Command.{Command}
 use Rattle.rules.specs.declared.Command.TheVariants.{Open, Release, Deliver}
 use Rattle.laws.specs.Answering.{Lent}
-use Rattle.keeping.specs.Kept.{kept}
+use Rattle.keeping.proofs.Kept.{kept}
 use Rattle.history.specs.History.{fed_step, fed}
 use Rattle.history.specs.Demand.{Run, call_in, step_in, next, runs, named, LetsGo, alone, together}
 use Rattle.laws.specs.Together.{own_mask, own_named}

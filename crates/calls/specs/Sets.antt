@@ -28,9 +28,9 @@ use Rattle.laws.specs.Facts.{house_fits}
 use Rattle.laws.specs.Answering.{Lent}
 use Rattle.laws.specs.Together as T
 use Rattle.laws.specs.Together.{own_mask, Goes, Stays, each_released, SetOutcome, set_outcome}
-use Rattle.keeping.specs.StepSame.{step_words_lem}
-use Rattle.keeping.specs.Steps.{performed}
-use Rattle.keeping.specs.Sets.{kept_on_the_way}
+use Rattle.keeping.proofs.StepSame.{step_words_lem}
+use Rattle.keeping.proofs.Steps.{performed}
+use Rattle.keeping.proofs.Sets.{kept_on_the_way}
 
 -- runs of a list in two parts
 pub runs_append : (r : Run) (l l' : List Call) → runs r (l ++ l') ≡ runs (runs r l) l'

@@ -24,7 +24,7 @@ use Rattle.history.specs.Fair.{DeliveredOrDropped, delivered, dropped, PassedOve
 use Rattle.laws.specs.Allowed.{message_allowed}
 use Rattle.laws.specs.Answering.{Lent}
 use Rattle.laws.specs.Dispatching.{Servable, let_through, NobodyHas, Takes, dispatched_cases}
-use Rattle.keeping.specs.Dispatch.{deliver_is}
+use Rattle.keeping.proofs.Dispatch.{deliver_is}
 use Rattle.history.specs.History.{value_at}
 use Rattle.rules.specs.Report.{report}
 

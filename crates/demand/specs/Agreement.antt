@@ -13,11 +13,11 @@ use Rattle.rules.specs.declared.Command.TheVariants.{Open}
 use Rattle.laws.specs.Facts.{form, number_is}
 use Rattle.history.specs.History.{Interval, interval, newest, member}
 use Rattle.history.specs.Demand.{Run, FromOpening, up_to}
-use Rattle.model.specs.Chain.{OnChain, member_chain, chain_member}
-use Rattle.model.specs.Invariant.{newest_is}
-use Rattle.model.specs.Runs.{part}
+use Rattle.model.proofs.Chain.{OnChain, member_chain, chain_member}
+use Rattle.model.proofs.Invariant.{newest_is}
+use Rattle.model.proofs.Runs.{part}
 use Rattle.image.specs.Reads.{gap_is, degree_is, incarnation_is, live_is, stable_is, flag_is}
-use Rattle.image.specs.Tables.{model_of, opening_done}
+use Rattle.image.proofs.Tables.{model_of, opening_done}
 use Rattle.demand.specs.Demanded.{table_inv, follows}
 use Rattle.demand.specs.InForm.{sound_after}
 

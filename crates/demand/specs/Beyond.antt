@@ -18,23 +18,24 @@ use Rattle.rules.specs.declared.Command.TheVariants.{Open, Release, Crash, Deliv
 use Rattle.history.specs.History.{Interval, History, member, joined, stabilized, flagging, degree_set, sent_from, gap_set, delivering, logging, checkpointing, beginning, opening, answers, fed_step, fed}
 use Rattle.history.specs.Demand.{Run, call_in, step_in, next, just_opened, named, LetsGo, FromOpening, up_to, end, Cited}
 use Rattle.model.specs.Model.{Model, full, released_vec}
-use Rattle.model.specs.Tests.{Is, fails}
-use Rattle.model.specs.Invariant.{Inv, ext_refl}
-use Rattle.model.specs.Consequences.{release_covers, release_named, sending_begun, unheard_end, unheard_not_condemned, unheard_live}
-use Rattle.model.specs.Blaming.{capped_heard}
-use Rattle.model.specs.Recovery.{HearsOf}
+use Rattle.model.specs.Tests.{Is}
+use Rattle.model.proofs.Tests.{fails}
+use Rattle.model.proofs.Invariant.{Inv, ext_refl}
+use Rattle.model.proofs.Consequences.{release_covers, release_named, sending_begun, unheard_end, unheard_not_condemned, unheard_live}
+use Rattle.model.proofs.Blaming.{capped_heard}
+use Rattle.model.proofs.Recovery.{HearsOf}
 use Rattle.laws.specs.Facts.{form, controller_form}
 use Rattle.laws.specs.Together.{named_own, own_may}
 use Rattle.calls.specs.Dispatch as D
 use Rattle.calls.specs.Dispatch.{DispatchIn, dispatch_in}
 use Rattle.calls.specs.Sets.{SetIn, refused, held, goes, set_in, set_goes}
 use Rattle.calls.specs.Made.{NoDoneOpening, part_itself}
-use Rattle.model.specs.Runs.{in_list, part, along, later, at_end}
+use Rattle.model.proofs.Runs.{in_list, part, along, later, at_end}
 use Rattle.image.specs.Reads.{incarnation_is, known_is}
 use Rattle.image.specs.Stepped.{release_found}
 use Rattle.image.specs.Outcome as O
 use Rattle.image.specs.Outcome.{Outcome}
-use Rattle.image.specs.Tables.{opening_done}
+use Rattle.image.proofs.Tables.{opening_done}
 use Rattle.testers.specs.Citing.{RunCites, cites_next, cites_opened, cites_served}
 use Rattle.demand.specs.Demanded.{fed_refused, found, outcome, follows}
 use Rattle.demand.specs.InForm.{sound_after}

@@ -15,12 +15,12 @@ use Rattle.history.specs.Fair.{DeliveredOrDropped}
 use Rattle.history.specs.Blame.{DropsNaming, by_delivery, by_dispatcher, OrphanBy, orphan_rests, DroppedFor, Blame}
 use Rattle.history.specs.Uses.{orphan_is_not_live}
 use Rattle.model.specs.Model.{Model}
-use Rattle.model.specs.Invariant.{Inv, rests_on_lem}
-use Rattle.model.specs.Consequences.{sending_begun}
-use Rattle.model.specs.Blaming.{blamed_orphan, blamed_lowest, rolled_unheard, rolled_newest, rolled_orphan}
-use Rattle.model.specs.Runs.{Holds, in_list, later}
+use Rattle.model.proofs.Invariant.{Inv, rests_on_lem}
+use Rattle.model.proofs.Consequences.{sending_begun}
+use Rattle.model.proofs.Blaming.{blamed_orphan, blamed_lowest, rolled_unheard, rolled_newest, rolled_orphan}
+use Rattle.model.proofs.Runs.{Holds, in_list, later}
 use Rattle.image.specs.Outcome.{Outcome, dropped, rolled}
-use Rattle.image.specs.Tables.{model_of, size_of}
+use Rattle.image.proofs.Tables.{model_of, size_of}
 use Rattle.demand.specs.Demanded.{ReadOff, outcome, follows, demand_3}
 use Rattle.calls.specs.Dispatch.{answered_as}
 

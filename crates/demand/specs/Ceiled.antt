@@ -13,12 +13,13 @@ use Rattle.history.specs.History.{History}
 use Rattle.history.specs.Demand.{Run, step_in, next, runs, just_opened, FromOpening}
 use Rattle.history.specs.Ceiling.{largest_gap, NeverOff, Ceiling, largest_covers}
 use Rattle.model.specs.Model.{Model, put_controller, put_message, degree_controller, log_controller, gap_model, tell_controller, end_controller, note_controller, send_message, release_message}
-use Rattle.model.specs.Invariant.{Inv}
-use Rattle.model.specs.Close.{Close, carries_begun, carries_anew, logged_flagged, cap_gap, close_opened, close_controllers, close_same, close_checkpointed, close_capped}
+use Rattle.model.proofs.Invariant.{Inv}
+use Rattle.model.specs.Close.{Close}
+use Rattle.model.proofs.Close.{carries_begun, carries_anew, logged_flagged, cap_gap, close_opened, close_controllers, close_same, close_checkpointed, close_capped}
 use Rattle.calls.specs.Made.{NoDoneOpening, part_history, part_then}
-use Rattle.model.specs.Runs.{in_list, first_part, along}
+use Rattle.model.proofs.Runs.{in_list, first_part, along}
 use Rattle.image.specs.Outcome.{Outcome, refused, opened, degree_set_lem, sent, released, held, dropped, waits, delivered, logged, checkpointed, told, crashed, heard, rolled, gap_set_lem}
-use Rattle.image.specs.Tables.{model_of, size_of, opening_done, model_served}
+use Rattle.image.proofs.Tables.{model_of, size_of, opening_done, model_served}
 use Rattle.demand.specs.Demanded.{table_inv, table_outcome, follows}
 
 -- a step keeps the numbers less than M above the latest flagged ones, where Q is not 0 after it and was at most M before

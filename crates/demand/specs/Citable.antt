@@ -22,12 +22,12 @@ use Rattle.history.specs.Demand.{Run, call_in, step_in, next, just_opened, LetsG
 use Rattle.history.specs.Progress.{SentIn}
 use Rattle.history.specs.Citable.{newest_then, Citable, AllCitable}
 use Rattle.model.specs.Model.{Model}
-use Rattle.model.specs.Tests.{changed_at_same}
+use Rattle.model.proofs.Tests.{changed_at_same}
 use Rattle.calls.specs.Made.{NoDoneOpening, part_itself, part_out}
-use Rattle.model.specs.Runs.{AtStep, in_list, along}
+use Rattle.model.proofs.Runs.{AtStep, in_list, along}
 use Rattle.image.specs.Outcome as O
 use Rattle.image.specs.Outcome.{Outcome}
-use Rattle.image.specs.Tables.{model_of, size_of}
+use Rattle.image.proofs.Tables.{model_of, size_of}
 use Rattle.testers.specs.Ledgers.{citation_at, count_ledger, message_cited, payload_cited}
 use Rattle.testers.specs.Citing.{cited_refused}
 use Rattle.demand.specs.Demanded.{sent_last, outcome, follows, demand_3}

@@ -21,7 +21,7 @@ use Rattle.rules.specs.declared.Answer.TheVariants.{Done, Released, Held, Refuse
 use Rattle.rules.specs.declared.Command.{Command}
 use Rattle.rules.specs.declared.Command.TheVariants.{Open, Checkpoint, Release, SetGap}
 use Rattle.lines.specs.Lines.{step_of, parse}
-use Rattle.lines.specs.Letters.{no_letter, no_line}
+use Rattle.lines.proofs.Letters.{no_letter, no_line}
 use Rattle.lines.specs.Program.{house_writes}
 use Rattle.lines.specs.declared.Parsed.TheVariants.{Asks}
 use Rattle.history.specs.History.{interval, member, opening}
@@ -32,11 +32,11 @@ use Rattle.history.specs.Ceiling.{largest_gap, NeverOff, Ceiling}
 use Rattle.history.specs.Blame.{OrphanBy, Blame, DropsNaming}
 use Rattle.history.specs.Uses.{orphan_is_not_live}
 use Rattle.history.specs.Examples.{ListingLine}
-use Rattle.image.specs.Tables.{opening_done}
+use Rattle.image.proofs.Tables.{opening_done}
 use Rattle.laws.specs.Beside.{looks_at_ledger}
 use Rattle.laws.specs.Together.{union_counts}
-use Rattle.keeping.specs.Unrefused.{sound_let}
-use Rattle.keeping.specs.Sets.{sound_let_set}
+use Rattle.keeping.proofs.Unrefused.{sound_let}
+use Rattle.keeping.proofs.Sets.{sound_let_set}
 use Rattle.calls.specs.Sets.{set_goes, not_gone_keeps}
 use Rattle.calls.specs.Made.{call_ind}
 use Rattle.demand.specs.Demanded.{demand_3}
@@ -45,7 +45,7 @@ use Rattle.demand.specs.Citable.{all_citable}
 use Rattle.demand.specs.Ceiled.{ceiling}
 use Rattle.demand.specs.Blamed.{blame, sender_undone}
 use Rattle.demand.specs.InForm.{sound_after}
-use Rattle.keeping.specs.StepSame.{same_written, step_words_lem}
+use Rattle.keeping.proofs.StepSame.{same_written, step_words_lem}
 use Rattle.testers.specs.Refused.{keeps_refused}
 use Rattle.testers.specs.NoneLost.{none_lost}
 use Rattle.testers.specs.Checkpoint.{checkpoint_twice}
@@ -53,12 +53,12 @@ use Rattle.testers.specs.Counted.{counted_step}
 use Rattle.testers.specs.Ledgers.{count_ledger, message_cited, payload_cited}
 use Rattle.testers.specs.Desk.{publishes, Writes, ledger_stays, whatever_ledger}
 use Rattle.testers.specs.Sample.{sample, asked, answered, calls, answers_from, sample_from_opening, sample_answers}
-use Rattle.testers.specs.Written.{left_column, right_column, listing_written}
-use Rattle.testers.specs.Judged.{list, publications, sample_at, sample_answer, published_is, live_before, gone_after, live_first, still_live, sending_rests, not_yet_stable, lost_later, undone_rests, heard_later, degree_then, sent_to_desk, sent_from_lem}
-use Rattle.testers.specs.Gapped.{crashing, rolling, GapRun, crashes, rolls, gap_from_opening, gap_never_off, gap_answer, gap_largest, gap_newest}
+use Rattle.testers.proofs.Written.{left_column, right_column, listing_written}
+use Rattle.testers.proofs.Judged.{list, publications, sample_at, sample_answer, published_is, live_before, gone_after, live_first, still_live, sending_rests, not_yet_stable, lost_later, undone_rests, heard_later, degree_then, sent_to_desk, sent_from_lem}
+use Rattle.testers.proofs.Gapped.{crashing, rolling, GapRun, crashes, rolls, gap_from_opening, gap_never_off, gap_answer, gap_largest, gap_newest}
 use Rattle.calls.specs.Dispatch.{not_served_keeps}
 use Rattle.table.specs.Change.{put, put_other}
-use Rattle.keeping.specs.Dispatch.{sound_let_dispatch}
+use Rattle.keeping.proofs.Dispatch.{sound_let_dispatch}
 use Rattle.history.specs.Fair.{DeliveredOrDropped}
 
 -- 1. "A step that can't be done answers one refusal number from document 01 and changes no word of the table", nor of the ledger.

@@ -18,15 +18,15 @@ use Rattle.laws.specs.Facts.{form}
 use Rattle.calls.specs.Sets.{set_goes}
 use Rattle.calls.specs.Made.{NoDoneOpening}
 use Rattle.model.specs.Model.{Model, put_controller, cap_model, begin_controller, send_message}
-use Rattle.model.specs.Invariant.{Inv}
-use Rattle.model.specs.Keeping.{Keeps, keeps_refl}
-use Rattle.model.specs.Capping.{keeps_log, keeps_checkpoint}
-use Rattle.model.specs.Steps.{LetsOut, LetUnder, let_under, keeps_degree, keeps_send, keeps_release, keeps_deliver, keeps_tell, keeps_gap}
-use Rattle.model.specs.Recovery.{keeps_crash, keeps_heard, keeps_rolled}
-use Rattle.model.specs.Runs.{Holds, Follows, demand3}
+use Rattle.model.proofs.Invariant.{Inv}
+use Rattle.model.proofs.Keeping.{Keeps, keeps_refl}
+use Rattle.model.proofs.Capping.{keeps_log, keeps_checkpoint}
+use Rattle.model.proofs.Steps.{LetsOut, LetUnder, let_under, keeps_degree, keeps_send, keeps_release, keeps_deliver, keeps_tell, keeps_gap}
+use Rattle.model.proofs.Recovery.{keeps_crash, keeps_heard, keeps_rolled}
+use Rattle.model.proofs.Runs.{Holds, Follows, demand3}
 use Rattle.image.specs.Outcome.{Outcome, refused, opened, degree_set_lem, sent, released, held, dropped, waits, delivered, logged, checkpointed, told, crashed, heard, rolled, gap_set_lem, kept_size}
-use Rattle.image.specs.Sets.{set_found}
-use Rattle.image.specs.Tables.{model_of, size_of, stepped, opening_done, size_served, model_served}
+use Rattle.image.proofs.Sets.{set_found}
+use Rattle.image.proofs.Tables.{model_of, size_of, stepped, opening_done, size_served, model_served}
 
 -- a refused step changes nothing in the history
 pub fed_refused : (x : Command) (number : ℕ) (h : History) → fed_step x (Refused number) h ≡ h

@@ -4,8 +4,8 @@ use Rattle.history.specs.Fair.{ServesInTurn, IdleIfNobodyHas, FairIn, Fair, Idle
 use Rattle.history.specs.Emptied.{Drains}
 use Rattle.fairness.specs.Fair.{fair, idle_leaves_nothing}
 use Rattle.fairness.specs.InTurn.{serves_in_turn, idle_if_nobody_has}
-use Rattle.fairness.specs.Example.{n_calls_needed}
-use Rattle.fairness.specs.Drained.{drains}
+use Rattle.fairness.proofs.Example.{n_calls_needed}
+use Rattle.fairness.proofs.Drained.{drains}
 
 -- 1. "Each call goes round from the controller that is word 12 plus 1, less n as often as needed, and takes the first that has a released message for
 -- it which would be delivered or dropped. Of these it takes the lowest number and performs that delivery", as D does; word 12 is the controller that

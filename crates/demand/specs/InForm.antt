@@ -4,9 +4,9 @@ use Rattle.rules.specs.Step.{step, Call, asks, release_set, dispatch, step_call}
 use Rattle.rules.specs.declared.Answer.TheVariants.{Done}
 use Rattle.rules.specs.declared.Command.TheVariants.{Open}
 use Rattle.history.specs.Demand.{Run, next, runs, just_opened, up_to}
-use Rattle.keeping.specs.Unrefused.{Sound, sound_step, sound_opened}
-use Rattle.keeping.specs.Sets.{sound_set}
-use Rattle.keeping.specs.Dispatch.{sound_dispatch}
+use Rattle.keeping.proofs.Unrefused.{Sound, sound_step, sound_opened}
+use Rattle.keeping.proofs.Sets.{sound_set}
+use Rattle.keeping.proofs.Dispatch.{sound_dispatch}
 
 -- one call leaves them in form
 pub sound_next : (s : Run) (x : Call) → Sound s.table s.ledger → Sound (next x s).table (next x s).ledger

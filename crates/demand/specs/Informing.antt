@@ -8,12 +8,12 @@ use Rattle.rules.specs.declared.Command.{Command}
 use Rattle.history.specs.History.{History}
 use Rattle.history.specs.Demand.{Run, step_in, next, just_opened, FromOpening, up_to}
 use Rattle.model.specs.Model.{Model, put_message, gap_model, send_message, release_message, note_controller}
-use Rattle.model.specs.Invariant.{Inv}
-use Rattle.model.specs.Informed.{AllInformed, informed_opened, informed_degree, informed_logged, informed_checkpointed, informed_told, informed_begun, informed_crashed, informed_heard, informed_rolled}
+use Rattle.model.proofs.Invariant.{Inv}
+use Rattle.model.proofs.Informed.{AllInformed, informed_opened, informed_degree, informed_logged, informed_checkpointed, informed_told, informed_begun, informed_crashed, informed_heard, informed_rolled}
 use Rattle.calls.specs.Made.{NoDoneOpening, Unturned}
-use Rattle.model.specs.Runs.{Holds, along}
+use Rattle.model.proofs.Runs.{Holds, along}
 use Rattle.image.specs.Outcome.{Outcome, refused, opened, degree_set_lem, sent, released, held, dropped, waits, delivered, logged, checkpointed, told, crashed, heard, rolled, gap_set_lem}
-use Rattle.image.specs.Tables.{model_of, opening_done, model_served}
+use Rattle.image.proofs.Tables.{model_of, opening_done, model_served}
 use Rattle.demand.specs.Demanded.{ReadOff, table_inv, table_outcome, follows}
 
 -- every step but a done opening keeps what each controller knows at least

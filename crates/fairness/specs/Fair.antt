@@ -23,7 +23,7 @@ use Rattle.laws.specs.Answering.{Lent}
 use Rattle.laws.specs.Round.{turn_of, nearer}
 use Rattle.fairness.specs.Leaves.{SameRound, step_leaves, set_leaves}
 use Rattle.laws.specs.Dispatching.{Servable, record_lt, has_one, NobodyHas, Takes, serving, dispatched_cases}
-use Rattle.keeping.specs.Dispatch.{dispatch_is}
+use Rattle.keeping.proofs.Dispatch.{dispatch_is}
 use Rattle.calls.specs.Would.{taken_goes, would, would_not, idle_nobody}
 
 -- a call of D leaves the number of controllers

@@ -18,7 +18,7 @@ use Rattle.history.specs.Demand.{Run, call_in, step_in}
 use Rattle.history.specs.Fair.{size_in, DeliveredOrDropped, Has, turn_in, ServesInTurn, IdleIfNobodyHas}
 use Rattle.laws.specs.Answering.{Lent}
 use Rattle.laws.specs.Dispatching.{Servable, servable_is, is_servable, has_one, record_lt, Takes, dispatched_cases, takes}
-use Rattle.keeping.specs.Dispatch.{deliver_is, dispatch_is}
+use Rattle.keeping.proofs.Dispatch.{deliver_is, dispatch_is}
 use Rattle.calls.specs.Would.{would, would_go, takes_message}
 
 module _ (r : Run) where

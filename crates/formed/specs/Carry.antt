@@ -14,7 +14,7 @@ use Rattle.rules.specs.declared.Answer.TheVariants.{Done, Sent, Released, Held, 
 use Rattle.rules.specs.declared.Command.{Command}
 use Rattle.rules.specs.declared.Command.TheVariants.{Open, SetDegree, Send, Release, Deliver, Log, Checkpoint, Tell, Crash, Hear, SetGap}
 use Rattle.laws.specs.Answering.{Lent, LentFor}
-use Rattle.keeping.specs.Kept.{kept, opened}
+use Rattle.keeping.proofs.Kept.{kept, opened}
 
 -- an answer `done`
 abbrev pub is_done : Answer → Bool

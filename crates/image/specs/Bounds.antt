@@ -21,7 +21,7 @@ use Rattle.rules.specs.declared.Command.TheVariants.{Open, SetDegree, Send, Rele
 use Rattle.history.specs.History.{interval}
 use Rattle.model.specs.Model.{absent_controller}
 use Rattle.laws.specs.Facts.{Form, form, controller_form, no_controller_lem, house_fits}
-use Rattle.keeping.specs.Steps.{form_kept}
+use Rattle.keeping.proofs.Steps.{form_kept}
 use Rattle.laws.specs.Agree.{place_vector_same, message_vector_same}
 use Rattle.image.specs.Functions.{rows_same, within, within_same}
 use Rattle.image.specs.Image.{no_vec, vec_of, place_vec, controller_by, model_controller, model_message, image, message_kept, controller_path, model_path, renumbered}

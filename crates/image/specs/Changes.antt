@@ -7,7 +7,7 @@ use Rattle.table.specs.Change.{put, put_ind, put_same, put_other, put_part, part
 use Rattle.table.specs.Layout.{controllers, incarnations}
 use Rattle.rules.specs.Vector.{place_vector}
 use Rattle.model.specs.Model.{changed_at₂}
-use Rattle.model.specs.Tests.{changed_at₂_ind}
+use Rattle.model.proofs.Tests.{changed_at₂_ind}
 use Rattle.image.specs.Functions.{in_rows, rows_changed}
 use Rattle.image.specs.Image.{controller_by, image, Away, Elsewhere, same_controller}
 

@@ -15,8 +15,8 @@ use Rattle.rules.specs.Shared.{logged, logged_to}
 use Rattle.rules.specs.Steps.{told_row, told, noted}
 use Rattle.history.specs.History.{changed_at}
 use Rattle.model.specs.Model.{changed_at₂, Controller, put_controller, gap_model, absent_controller, degree_controller, log_controller, logged_controller, tell_controller, end_controller, note_controller}
-use Rattle.model.specs.Tests.{changed_at_ind}
-use Rattle.model.specs.Keeping.{put_controller_id}
+use Rattle.model.proofs.Tests.{changed_at_ind}
+use Rattle.model.proofs.Keeping.{put_controller_id}
 use Rattle.laws.specs.Records.{part_at, part_other}
 use Rattle.image.specs.Functions.{in_rows, rows_in, rows_out, rows_same}
 use Rattle.image.specs.Image.{unsent_message, controller_by, model_message, image, controller_is, controller_path, model_path, renumbered, one_controller}

@@ -8,7 +8,7 @@ use Rattle.base.specs.Choice.{◌==◌, ◌≤?◌, ◌<?◌, and_left, and_righ
 use Rattle.table.specs.Layout.{controllers, incarnations}
 use Rattle.history.specs.History.{changed_at}
 use Rattle.model.specs.Model.{changed_at₂, renewed}
-use Rattle.model.specs.Tests.{changed_at_ind, changed_at₂_ind, changed_at₂_same, changed_at₂_other}
+use Rattle.model.proofs.Tests.{changed_at_ind, changed_at₂_ind, changed_at₂_same, changed_at₂_other}
 
 -- the second of two tests failed if the first passed
 and_no : (a b : Bool) → (a && b) ≡ false → a ≡ true → b ≡ false

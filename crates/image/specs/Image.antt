@@ -10,8 +10,8 @@ use Rattle.table.specs.Numbering.{number_of, last_live, place_of, used, last_giv
 use Rattle.rules.specs.Vector.{Pair as PairList, Vector, incarnation, number, pair_of, place_vector, message_vector}
 use Rattle.history.specs.History.{interval}
 use Rattle.model.specs.Model.{Pair, pair, Vec, Controller, Message, Model, put_controller, absent_controller}
-use Rattle.model.specs.Tests.{changed_at_ind, changed_at_same}
-use Rattle.model.specs.Keeping.{put_controller_id, put_controller_twice}
+use Rattle.model.proofs.Tests.{changed_at_ind, changed_at_same}
+use Rattle.model.proofs.Keeping.{put_controller_id, put_controller_twice}
 use Rattle.laws.specs.Records.{place_vector_of, message_vector_of}
 use Rattle.image.specs.Functions.{within, within_in, in_rows}
 

@@ -13,6 +13,4 @@ pub mod Open
 pub mod Mask
 pub mod Outcome
 pub mod Stepped
-pub mod Sets
 pub mod Bounds
-pub mod Tables

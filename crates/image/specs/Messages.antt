@@ -16,7 +16,7 @@ use Rattle.rules.specs.Shared.{newest_place}
 use Rattle.rules.specs.Steps.{message_record, sent, let_out}
 use Rattle.history.specs.History.{Interval, interval}
 use Rattle.model.specs.Model.{pair, Vec, Controller, Message, put_message, absent_controller, send_message, release_message, filtered as filtered_for}
-use Rattle.model.specs.Tests.{changed_at_ind}
+use Rattle.model.proofs.Tests.{changed_at_ind}
 use Rattle.laws.specs.Facts.{Near, Form, controller_form, place_form}
 use Rattle.laws.specs.Records.{part_other, length_filtered, length_message_record}
 use Rattle.image.specs.Image.{vec_of, controller_by, model_controller, model_message, image, controller_is, begun_at, message_at_lem, message_kept, controller_frame, renumbered, message_frame, model_path}

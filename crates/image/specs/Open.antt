@@ -16,7 +16,7 @@ use Rattle.rules.specs.Steps.{first_vector, open_house}
 use Rattle.laws.specs.Numbers.{opened_number}
 use Rattle.history.specs.History.{changed_at}
 use Rattle.model.specs.Model.{pair, changed_at₂, open_controller, absent_controller, open_model}
-use Rattle.model.specs.Tests.{changed_at_ind, changed_at_other, changed_at₂_ind}
+use Rattle.model.proofs.Tests.{changed_at_ind, changed_at_other, changed_at₂_ind}
 use Rattle.image.specs.Functions.{within, within_in, within_out, within_ind, in_rows, rows_none, rows_changed}
 use Rattle.image.specs.Image.{no_vec, model_pair, place_vec, controller_by, model_controller, image, controller_is, message_none, controller_path, model_path}
 use Rattle.image.specs.Vectors.{tab_vec, place_pairs, record_pair}

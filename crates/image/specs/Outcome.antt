@@ -9,8 +9,8 @@ use Rattle.rules.specs.declared.Command.{Command}
 use Rattle.rules.specs.declared.Command.TheVariants.{Open, SetDegree, Send, Release, Deliver, Log, Checkpoint, Tell, Crash, Hear, SetGap}
 use Rattle.model.specs.Model.{Model, put_controller, degree_controller, log_controller, logged_controller, checkpoint_controller, above_latest, cap_model, gap_model, tell_controller, end_controller, begin_controller, anew_controller, send_message, release_message, open_model}
 use Rattle.model.specs.Vectors.{LowestOwner}
-use Rattle.model.specs.Steps.{Delivers, LetsOut}
-use Rattle.model.specs.Recovery.{HearsOf, noted_controller, NoneCondemned, LowestCondemned}
+use Rattle.model.proofs.Steps.{Delivers, LetsOut}
+use Rattle.model.proofs.Recovery.{HearsOf, noted_controller, NoneCondemned, LowestCondemned}
 
 -- a message goes to a controller of the house, or to the desk (W2)
 abbrev pub Receives : ℕ → ℕ → Type 0

@@ -28,8 +28,8 @@ use Rattle.history.specs.Demand.{named}
 use Rattle.model.specs.Model as M
 use Rattle.model.specs.Vectors.{Condemned, LowestOwner}
 use Rattle.model.specs.Beginning.{Compatible}
-use Rattle.model.specs.Steps.{Delivers, LetsOut}
-use Rattle.model.specs.Recovery.{HearsOf, noted_controller, NoneCondemned, LowestCondemned}
+use Rattle.model.proofs.Steps.{Delivers, LetsOut}
+use Rattle.model.proofs.Recovery.{HearsOf, noted_controller, NoneCondemned, LowestCondemned}
 use Rattle.laws.specs.Facts.{Form, form, controller_form, place_form, message_form, released_lt}
 use Rattle.laws.specs.Allowed.{open_allowed, degree_allowed, send_allowed, message_allowed, release_allowed, log_allowed, checkpoint_allowed, tell_allowed, crash_allowed, hear_allowed, gap_allowed}
 use Rattle.laws.specs.Numbers.{numbers_added, numbers_noted}

@@ -11,9 +11,10 @@ use Rattle.rules.specs.Vector.{Vector, incarnation, number, pair_of, place_vecto
 use Rattle.rules.specs.Steps.{noted, lowest_condemned}
 use Rattle.history.specs.History.{Interval}
 use Rattle.model.specs.Model.{Pair, Controller, released_vec, filtered as filtered_for}
-use Rattle.model.specs.Vectors.{full_pos, CondemnedBy, Condemned, LowestOwner}
+use Rattle.model.specs.Vectors.{CondemnedBy, Condemned, LowestOwner}
+use Rattle.model.proofs.Vectors.{full_pos}
 use Rattle.model.specs.Beginning.{Compatible}
-use Rattle.model.specs.Recovery.{NoneCondemned, LowestCondemned}
+use Rattle.model.proofs.Recovery.{NoneCondemned, LowestCondemned}
 use Rattle.laws.specs.Facts.{VectorForm, Form, controller_form, place_form, message_form, number_is}
 use Rattle.laws.specs.Found.{Lowest, lowest, clear_pair, condemned_pair_lem, condemned_none, condemning_lt, condemning_hit, condemning_before, conflict_none}
 use Rattle.image.specs.Image.{vec_of, image, controller_is}

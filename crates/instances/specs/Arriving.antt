@@ -24,17 +24,17 @@ use Rattle.history.specs.Progress.{Orphan, Drops, drops, SentIn, SendingLive, Le
 use Rattle.history.specs.Asked.{checkpoints, crashes, Asked, AllAsked, Cleared, out_without, was_asked, AllCleared, GoesOut, NotHeld, Begins, Arrives, Eventually, Fate, was_let_out, is_discarded, still_held}
 use Rattle.history.specs.Examples.{line}
 use Rattle.model.specs.Model.{Model}
-use Rattle.model.specs.Tests.{contrary}
+use Rattle.model.proofs.Tests.{contrary}
 use Rattle.model.specs.Vectors.{Condemned}
-use Rattle.model.specs.Paper.{vector_of}
+use Rattle.model.proofs.Paper.{vector_of}
 use Rattle.base.specs.Ranges.{count}
 use Rattle.image.specs.Reads.{present_sent}
-use Rattle.image.specs.Tables.{model_of}
+use Rattle.image.proofs.Tables.{model_of}
 use Rattle.testers.specs.Refused.{answers_differ}
 use Rattle.testers.specs.Sample.{sample, all_look, from_opening, sample_from_opening, sample_answers}
 use Rattle.demand.specs.Demanded.{table_inv}
 use Rattle.paper.specs.Ready.{ready, sent_there}
-use Rattle.paper.specs.Theorems as T
+use Rattle.paper.proofs.Theorems as T
 use Rattle.instances.specs.Lists.{unheard, loss, waiting, delivered_sooner, calls_of, unheard_run, loss_run, waiting_run, delivered_sooner_run}
 use Rattle.instances.specs.Shown.{three, Shown, shown, shown_to, told, no_orphan, not_let_out, has_heard, answer_in, deliverable_by, crash_by, sent_by, goes_by, out_by, own_asked_by, asked_by_lem}
 use Rattle.instances.specs.Told.{sample_to, unheard_to, loss_to, waiting_to, sample_told, unheard_told, loss_told, waiting_told}

@@ -25,16 +25,16 @@ use Rattle.history.specs.Uses.{mask_cleared}
 use Rattle.history.specs.Examples.{line, all_cited}
 use Rattle.history.specs.Citations.{no_citations}
 use Rattle.model.specs.Model.{interval_of, Model}
-use Rattle.model.specs.Tests.{contrary, fails}
-use Rattle.model.specs.Vectors.{pos_full}
-use Rattle.model.specs.Paper.{Useful, vector_of}
+use Rattle.model.proofs.Tests.{contrary, fails}
+use Rattle.model.proofs.Vectors.{pos_full}
+use Rattle.model.proofs.Paper.{Useful, vector_of}
 use Rattle.base.specs.Ranges.{count}
-use Rattle.image.specs.Tables.{model_of}
+use Rattle.image.proofs.Tables.{model_of}
 use Rattle.testers.specs.Refused.{answers_differ}
 use Rattle.testers.specs.Sample.{all_look}
-use Rattle.testers.specs.Along.{citations_after}
+use Rattle.testers.proofs.Along.{citations_after}
 use Rattle.paper.specs.Ready.{model_in}
-use Rattle.paper.specs.Theorems as T
+use Rattle.paper.proofs.Theorems as T
 use Rattle.instances.specs.Lists.{woven, all_but_one, unrevoked, calls_of, woven_run, all_but_one_run, unrevoked_run}
 use Rattle.instances.specs.Shown.{three, Shown, shown, shown_to, told, no_orphan, not_let_out, has_heard, answer_in, sent_by, held_by, goes_by, own_asked_by, asked_by_lem}
 use Rattle.instances.specs.Told.{woven_to, woven_told, unrevoked_told}

@@ -20,7 +20,7 @@ use Rattle.listing.specs.Run as states
 use Rattle.listing.specs.Run.{steps, blank_ok, goes}
 use Rattle.history.specs.Examples.{ListingLine, line}
 use Rattle.testers.specs.Sample.{asked, answered, calls, sample_run}
-use Rattle.testers.specs.Along.{state_at, ledger_at}
+use Rattle.testers.proofs.Along.{state_at, ledger_at}
 
 -- THE LISTS
 -- Two messages are held, a reading for the desk and one for a controller, with two controllers named; these are asked, with a crash and a

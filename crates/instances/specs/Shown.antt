@@ -24,12 +24,13 @@ use Rattle.history.specs.Demand.{Run, call_in, step_in, next, runs, just_opened,
 use Rattle.history.specs.Progress.{Orphan, SentIn, HoldsBack, held_alone, HeldIn, LetOutIn, NotLetOut, Deliverable, CrashIn, HasHeard}
 use Rattle.history.specs.Asked.{Secures, SecuredIn, Asked}
 use Rattle.history.specs.Examples.{ListingLine, line, all}
-use Rattle.model.specs.Tests.{Is, fails, contrary}
-use Rattle.model.specs.Chain.{member_cases}
-use Rattle.model.specs.Runs.{first_part}
+use Rattle.model.specs.Tests.{Is}
+use Rattle.model.proofs.Tests.{fails, contrary}
+use Rattle.model.proofs.Chain.{member_cases}
+use Rattle.model.proofs.Runs.{first_part}
 use Rattle.testers.specs.Refused.{answers_differ}
 use Rattle.testers.specs.Sample.{asked, calls, answers_from, all_look, from_opening, run_answered}
-use Rattle.testers.specs.Along.{Answered, head_answered, tail_answered, history_at}
+use Rattle.testers.proofs.Along.{Answered, head_answered, tail_answered, history_at}
 use Rattle.paper.specs.Whenever.{secured_since}
 use Rattle.instances.specs.Lists.{calls_of, Computed}
 

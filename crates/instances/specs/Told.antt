@@ -8,7 +8,7 @@ use Rattle.history.specs.History.{Interval, interval, History, same_interval, ch
 use Rattle.history.specs.Citations.{no_citations, sent_with, let_out_to, cited_step, cited}
 use Rattle.history.specs.Progress.{Orphan}
 use Rattle.history.specs.Examples.{all, all_cited}
-use Rattle.model.specs.Tests.{same_interval_true}
+use Rattle.model.proofs.Tests.{same_interval_true}
 use Rattle.testers.specs.Sample.{sample}
 use Rattle.instances.specs.Lists.{woven, unrevoked, unheard, loss, waiting}
 use Rattle.instances.specs.Shown.{judged, passes, holding, hears, all_stable, none_lost, history_of}

@@ -1,12 +1,3 @@
 pub mod Untouched
 pub mod InRange
 pub mod Changes
-pub mod Messages
-pub mod Chains
-pub mod Opening
-pub mod Steps
-pub mod Kept
-pub mod Unrefused
-pub mod StepSame
-pub mod Sets
-pub mod Dispatch

@@ -24,8 +24,8 @@ use Rattle.rules.specs.declared.Command.{Command}
 use Rattle.rules.specs.declared.Command.TheVariants.{Open, Release}
 use Rattle.laws.specs.Facts.{house_fits}
 use Rattle.laws.specs.Ledger.{blank_sound}
-use Rattle.keeping.specs.Opening.{form_open}
-use Rattle.keeping.specs.Steps.{performed, form_kept}
+use Rattle.keeping.proofs.Opening.{form_open}
+use Rattle.keeping.proofs.Steps.{performed, form_kept}
 
 -- the answers to a list of steps, each on the state and the ledger that the last one left
 unfoldable pub answers : State → List ℕ → List Command → List Answer

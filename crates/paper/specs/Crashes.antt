@@ -18,18 +18,19 @@ use Rattle.history.specs.History.{Interval, History, member, joined, leaving, st
 use Rattle.history.specs.Demand.{step_in, next, just_opened, RestsOnLost, FromOpening, up_to, end}
 use Rattle.history.specs.Progress.{Orphan, CrashIn, HasHeard, CanHear}
 use Rattle.model.specs.Model.{Model, above_latest}
-use Rattle.model.specs.Tests.{Is, contrary}
-use Rattle.model.specs.Invariant.{Inv}
-use Rattle.model.specs.Hearing.{hearing_cases, hearing_new}
-use Rattle.model.specs.Recovery.{HearsOf, hears_other}
+use Rattle.model.specs.Tests.{Is}
+use Rattle.model.proofs.Tests.{contrary}
+use Rattle.model.proofs.Invariant.{Inv}
+use Rattle.model.proofs.Hearing.{hearing_cases, hearing_new}
+use Rattle.model.proofs.Recovery.{HearsOf, hears_other}
 use Rattle.calls.specs.Made.{NoDoneOpening, part_itself}
-use Rattle.model.specs.Runs.{in_list, along, at_end}
-use Rattle.model.specs.Consequences.{unheard_end}
-use Rattle.model.specs.Blaming.{capped_heard, restarted_heard}
+use Rattle.model.proofs.Runs.{in_list, along, at_end}
+use Rattle.model.proofs.Consequences.{unheard_end}
+use Rattle.model.proofs.Blaming.{capped_heard, restarted_heard}
 use Rattle.image.specs.Reads.{incarnation_is, ends_is}
 use Rattle.image.specs.Outcome as O
 use Rattle.image.specs.Outcome.{Outcome}
-use Rattle.image.specs.Tables.{model_of, size_of, opening_done}
+use Rattle.image.proofs.Tables.{model_of, size_of, opening_done}
 use Rattle.demand.specs.Demanded.{fed_refused, outcome, table_inv, follows, demand_3}
 use Rattle.demand.specs.InForm.{sound_after}
 use Rattle.laws.specs.Facts.{form, controller_form}

@@ -18,26 +18,26 @@ use Rattle.history.specs.History.{Interval, interval, History, fed}
 use Rattle.history.specs.Demand.{Run, step_in, next, just_opened, FromOpening, up_to}
 use Rattle.history.specs.Progress.{SentIn, SendingLive}
 use Rattle.model.specs.Model.{Controller, Message, Model, degree_controller, log_controller, logged_controller, tell_controller, end_controller, note_controller, anew_controller, gap_model, send_message, put_message, release_message}
-use Rattle.model.specs.Tests.{changed_at_same}
-use Rattle.model.specs.Invariant.{Inv, some_live}
-use Rattle.model.specs.Consequences.{chain_live}
-use Rattle.model.specs.Recovery.{noted_controller}
-use Rattle.model.specs.Lasting.{Lasts, LastsIn, lasts_same, unchanged, lasts_checkpoint, lasts_begun, lasts_anew, lasts_put, lasts_capped, LiveIn, SparedIn, stays_live}
+use Rattle.model.proofs.Tests.{changed_at_same}
+use Rattle.model.proofs.Invariant.{Inv, some_live}
+use Rattle.model.proofs.Consequences.{chain_live}
+use Rattle.model.proofs.Recovery.{noted_controller}
+use Rattle.model.proofs.Lasting.{Lasts, LastsIn, lasts_same, unchanged, lasts_checkpoint, lasts_begun, lasts_anew, lasts_put, lasts_capped, LiveIn, SparedIn, stays_live}
 use Rattle.calls.specs.Made.{NoDoneOpening, Unturned}
-use Rattle.model.specs.Runs.{AtStep, along}
+use Rattle.model.proofs.Runs.{AtStep, along}
 use Rattle.image.specs.Reads.{present_sent, incarnation_is, live_is}
 use Rattle.image.specs.Outcome as O
 use Rattle.image.specs.Outcome.{Outcome}
-use Rattle.image.specs.Tables.{model_of, opening_done}
+use Rattle.image.proofs.Tables.{model_of, opening_done}
 use Rattle.progress.specs.Held.{Spared}
-use Rattle.progress.specs.Tables.{same_record, held_before, there_served}
+use Rattle.progress.proofs.Tables.{same_record, held_before, there_served}
 use Rattle.progress.specs.Answers.{release_refused}
 use Rattle.demand.specs.Demanded.{table_inv, table_outcome, follows}
-use Rattle.keeping.specs.Unrefused.{Sound, sound_opened}
+use Rattle.keeping.proofs.Unrefused.{Sound, sound_opened}
 use Rattle.demand.specs.InForm.{sound_next, sound_after}
 use Rattle.paper.specs.Ready.{state_of_message, sent_there}
 use Rattle.paper.specs.Holding.{Sends, sends, just_sent, same_sending, sending_is, begun, none_there}
-use Rattle.keeping.specs.Dispatch.{sound_served}
+use Rattle.keeping.proofs.Dispatch.{sound_served}
 
 -- a step leaves the live intervals of a controller whose incarnation stays, and those below its new one where it starts anew
 lasts : {n : ℕ} {μ : Model} {x : Command} {a : Answer} {j : ℕ} {μ' : Model} → Outcome n μ x a j μ' → NoDoneOpening x a → LastsIn μ μ'

@@ -17,21 +17,22 @@ use Rattle.history.specs.History.{History, leaving, stabilized, rolling_back, an
 use Rattle.history.specs.Demand.{call_in, step_in, next, Accepted, answers_heard, answers_rolled, named, LetsGo, FromOpening, up_to, end}
 use Rattle.history.specs.Progress.{Orphan}
 use Rattle.model.specs.Model.{Model}
-use Rattle.model.specs.Tests.{Is, eq?}
-use Rattle.model.specs.Consequences.{release_degree, release_named, sending_begun}
-use Rattle.model.specs.Hearing.{hearing_new}
-use Rattle.model.specs.Runs.{in_list}
+use Rattle.model.specs.Tests.{Is}
+use Rattle.model.proofs.Tests.{eq?}
+use Rattle.model.proofs.Consequences.{release_degree, release_named, sending_begun}
+use Rattle.model.proofs.Hearing.{hearing_new}
+use Rattle.model.proofs.Runs.{in_list}
 use Rattle.base.specs.Ranges.{count, count_le}
 use Rattle.image.specs.Reads.{present_sent}
 use Rattle.image.specs.Outcome as O
 use Rattle.image.specs.Outcome.{Outcome}
-use Rattle.image.specs.Tables.{opening_done}
+use Rattle.image.proofs.Tables.{opening_done}
 use Rattle.progress.specs.Answers.{release_refused}
 use Rattle.demand.specs.Demanded.{table_inv, table_outcome, follows, demand_3}
 use Rattle.demand.specs.Beyond.{lost_unstable}
 use Rattle.demand.specs.Claims.{at_most_K_named}
 use Rattle.paper.specs.Ready.{state_of_message, there_ok, ready}
-use Rattle.model.specs.Blaming.{restarted_heard}
+use Rattle.model.proofs.Blaming.{restarted_heard}
 use Rattle.paper.specs.Spreading.{first, ready_at}
 use Rattle.paper.specs.Named.{held_names, few_go}
 

@@ -17,24 +17,24 @@ use Rattle.history.specs.Demand.{Run, step_in, next, just_opened, FromOpening, u
 use Rattle.history.specs.Progress.{SendingLive, NotLetOut}
 use Rattle.model.specs.Model.{Model, open_model, put_controller, put_message, gap_model, logged_controller, end_controller, begin_controller, anew_controller, forced_model, cap_model, send_message, release_message}
 use Rattle.model.specs.Tests.{Is}
-use Rattle.model.specs.Invariant.{Inv, Ext, spoilt_on}
-use Rattle.model.specs.Consequences.{on_chain_lem, live_clean, live_or_lost, sending_begun}
-use Rattle.model.specs.Recovery.{noted_controller}
+use Rattle.model.proofs.Invariant.{Inv, Ext, spoilt_on}
+use Rattle.model.proofs.Consequences.{on_chain_lem, live_clean, live_or_lost, sending_begun}
+use Rattle.model.proofs.Recovery.{noted_controller}
 use Rattle.calls.specs.Made.{NoDoneOpening, part_out, Unturned}
-use Rattle.model.specs.Runs.{Holds, Later, AtStep, along}
+use Rattle.model.proofs.Runs.{Holds, Later, AtStep, along}
 use Rattle.image.specs.Reads.{sent_is, incarnation_is, live_is, from_is, present_sent}
 use Rattle.image.specs.Outcome as O
 use Rattle.image.specs.Outcome.{Outcome}
-use Rattle.image.specs.Tables.{model_of, opening_done}
+use Rattle.image.proofs.Tables.{model_of, opening_done}
 use Rattle.laws.specs.Answering.{Lent}
-use Rattle.keeping.specs.Unrefused.{Sound, sound_opened}
+use Rattle.keeping.proofs.Unrefused.{Sound, sound_opened}
 use Rattle.progress.specs.Causes.{NoneCauses}
 use Rattle.progress.specs.Held.{Leaves, let_out_lem, undone}
-use Rattle.progress.specs.Tables.{none_causes_step, none_causes_open, same_record, held_step, sent_held, none_causes_served, there_served}
+use Rattle.progress.proofs.Tables.{none_causes_step, none_causes_open, same_record, held_step, sent_held, none_causes_served, there_served}
 use Rattle.demand.specs.Demanded.{ReadOff, table_inv, table_outcome, follows}
 use Rattle.demand.specs.InForm.{sound_next}
 use Rattle.paper.specs.Ready.{state_of_message}
-use Rattle.keeping.specs.Dispatch.{sound_served}
+use Rattle.keeping.proofs.Dispatch.{sound_served}
 
 -- the step sent message m
 pub data Sends : Command → Answer → ℕ → Type 0 where

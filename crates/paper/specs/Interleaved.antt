@@ -22,21 +22,22 @@ use Rattle.history.specs.Demand.{Run, step_in, next, named, FromOpening, up_to, 
 use Rattle.history.specs.Progress.{HeldIn, LetOutIn}
 use Rattle.history.specs.Asked.{Learned, its_own, was_told, has_heard, Secures, checkpoints, crashes, undoes, SecuredIn, TellAfter, Cleared, held_without, out_without, was_asked, each_learned, Names, names_held, names_out, GoesOut}
 use Rattle.model.specs.Model.{interval_of, Controller, Message, Model, full, filtered, put_controller, logged_controller, forced_model, cap_model, end_controller, anew_controller, put_message, released_vec, release_message}
-use Rattle.model.specs.Tests.{Is, contrary, fails, changed_at_same}
-use Rattle.model.specs.Invariant.{MessageOk, Inv, Ext, spoilt_on, rests_back}
-use Rattle.model.specs.Vectors.{pos_full, filtered_ind}
-use Rattle.model.specs.Consequences.{spoilt_orphan, orphan_up, on_chain_lem, live_or_lost, sending_begun}
-use Rattle.model.specs.Paper.{useful_live}
-use Rattle.model.specs.Steps.{LetsOut}
-use Rattle.model.specs.Securing.{Secured, secured_here, told_model, tell_tells}
-use Rattle.model.specs.Recovery.{noted_controller}
-use Rattle.model.specs.Informed.{Sure}
+use Rattle.model.specs.Tests.{Is}
+use Rattle.model.proofs.Tests.{contrary, fails, changed_at_same}
+use Rattle.model.proofs.Invariant.{MessageOk, Inv, Ext, spoilt_on, rests_back}
+use Rattle.model.proofs.Vectors.{pos_full, filtered_ind}
+use Rattle.model.proofs.Consequences.{spoilt_orphan, orphan_up, on_chain_lem, live_or_lost, sending_begun}
+use Rattle.model.proofs.Paper.{useful_live}
+use Rattle.model.proofs.Steps.{LetsOut}
+use Rattle.model.proofs.Securing.{Secured, secured_here, told_model, tell_tells}
+use Rattle.model.proofs.Recovery.{noted_controller}
+use Rattle.model.proofs.Informed.{Sure}
 use Rattle.calls.specs.Made.{NotDone, out_part, part_ind, part_on}
-use Rattle.model.specs.Runs.{in_list, part, later}
+use Rattle.model.proofs.Runs.{in_list, part, later}
 use Rattle.image.specs.Reads.{sent_is, present_sent, to_is}
 use Rattle.image.specs.Outcome as O
 use Rattle.image.specs.Outcome.{Outcome}
-use Rattle.image.specs.Tables.{model_of, size_of}
+use Rattle.image.proofs.Tables.{model_of, size_of}
 use Rattle.progress.specs.Answers.{release_answers}
 use Rattle.testers.specs.Ledgers.{count_ledger}
 use Rattle.demand.specs.Demanded.{table_inv, table_outcome, follows}

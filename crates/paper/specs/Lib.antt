@@ -6,9 +6,4 @@ pub mod Spreading
 pub mod Named
 pub mod Interleaved
 pub mod Whenever
-pub mod Longer
-pub mod Eventually
-pub mod Emptied
 pub mod Extremes
-pub mod Fates
-pub mod Theorems

@@ -13,18 +13,18 @@ use Rattle.history.specs.History.{History}
 use Rattle.history.specs.Demand.{Run, step_in, next, FromOpening, up_to}
 use Rattle.history.specs.Progress.{SentIn}
 use Rattle.model.specs.Model.{Model}
-use Rattle.model.specs.Invariant.{MessageOk, Inv}
-use Rattle.model.specs.Informed.{AllInformed}
+use Rattle.model.proofs.Invariant.{MessageOk, Inv}
+use Rattle.model.proofs.Informed.{AllInformed}
 use Rattle.calls.specs.Made.{NoDoneOpening, NotDone, PartOf, call_ind, part_not_done, Unturned}
-use Rattle.model.specs.Runs.{Holds, in_list, at_end}
+use Rattle.model.proofs.Runs.{Holds, in_list, at_end}
 use Rattle.image.specs.Reads.{sent_is, present_sent}
 use Rattle.image.specs.Outcome.{Outcome}
-use Rattle.image.specs.Tables.{model_of, size_of}
-use Rattle.keeping.specs.Unrefused.{Sound}
+use Rattle.image.proofs.Tables.{model_of, size_of}
+use Rattle.keeping.proofs.Unrefused.{Sound}
 use Rattle.demand.specs.Demanded.{sent_last, ReadOff, table_outcome, follows}
 use Rattle.demand.specs.InForm.{sound_next, sound_after}
 use Rattle.demand.specs.Informing.{informed_next, all_informed, informed_turned}
-use Rattle.keeping.specs.Dispatch.{sound_served}
+use Rattle.keeping.proofs.Dispatch.{sound_served}
 
 -- a run of a house of n controllers of which all is known
 pub record Ready (n : ℕ) (r : Run) : Type 0 where

@@ -9,19 +9,20 @@ use Rattle.rules.specs.declared.Command.{Command}
 use Rattle.history.specs.History.{interval, History}
 use Rattle.history.specs.Demand.{Run, next, runs, FromOpening, up_to, NoOpening}
 use Rattle.model.specs.Model.{pair, Vec, Controller, Message, Model, put_controller, put_message, degree_controller, log_controller, logged_controller, flag_controller, checkpoint_controller, forced_model, cap_model, gap_model, tell_controller, end_controller, note_controller, begin_controller, anew_controller, send_message, released_vec, release_message}
-use Rattle.model.specs.Tests.{Is, changed_at_ind, changed_at_other, changed_at₂_ind, changed_at₂_same, changed_at₂_other}
-use Rattle.model.specs.Invariant.{ControllerOk, Inv}
-use Rattle.model.specs.Vectors.{filtered_ind}
-use Rattle.model.specs.Keeping.{put_controller_twice}
-use Rattle.model.specs.Recovery.{hears_other, noted_controller}
+use Rattle.model.specs.Tests.{Is}
+use Rattle.model.proofs.Tests.{changed_at_ind, changed_at_other, changed_at₂_ind, changed_at₂_same, changed_at₂_other}
+use Rattle.model.proofs.Invariant.{ControllerOk, Inv}
+use Rattle.model.proofs.Vectors.{filtered_ind}
+use Rattle.model.proofs.Keeping.{put_controller_twice}
+use Rattle.model.proofs.Recovery.{hears_other, noted_controller}
 use Rattle.calls.specs.Sets.{runs_append}
 use Rattle.calls.specs.Made.{NoDoneOpening, NotDone, PartOf, call_ind, part_not_done, Unturned}
-use Rattle.model.specs.Runs.{no_opening_after, not_done, first_part}
+use Rattle.model.proofs.Runs.{no_opening_after, not_done, first_part}
 use Rattle.image.specs.Outcome as O
 use Rattle.image.specs.Outcome.{Outcome}
 use Rattle.demand.specs.Demanded.{table_inv, table_outcome}
 use Rattle.paper.specs.Ready.{Ready, model_in, ready_next, ready, ready_kept, ready_turned}
-use Rattle.image.specs.Tables.{model_served}
+use Rattle.image.proofs.Tables.{model_served}
 
 -- KNOWN WORDS
 -- no known word is lowered

@@ -25,14 +25,15 @@ use Rattle.history.specs.Asked.{Secures, SecuredIn, Asked, AllAsked, Cleared, he
 use Rattle.fairness.specs.Settling.{Unhindered, drops, known}
 use Rattle.history.specs.Uses.{mask_cleared}
 use Rattle.model.specs.Model.{Model, full, filtered, released_vec}
-use Rattle.model.specs.Tests.{Is, contrary, eq?}
-use Rattle.model.specs.Invariant.{MessageOk, Inv, newest_is, ext_refl}
+use Rattle.model.specs.Tests.{Is}
+use Rattle.model.proofs.Tests.{contrary, eq?}
+use Rattle.model.proofs.Invariant.{MessageOk, Inv, newest_is, ext_refl}
 use Rattle.model.specs.Vectors.{Condemned}
-use Rattle.model.specs.Consequences.{orphan_up, sending_begun, release_degree, release_covers, release_named}
-use Rattle.model.specs.Paper.{useful_live, theorem_3_message}
+use Rattle.model.proofs.Consequences.{orphan_up, sending_begun, release_degree, release_covers, release_named}
+use Rattle.model.proofs.Paper.{useful_live, theorem_3_message}
 use Rattle.base.specs.Ranges.{count, count_le}
 use Rattle.image.specs.Reads.{sent_is, incarnation_is, live_is, present_sent, to_is}
-use Rattle.image.specs.Tables.{size_of, opening_done}
+use Rattle.image.proofs.Tables.{size_of, opening_done}
 use Rattle.progress.specs.Answers.{checkpoint_answers, tell_answers, record_in, receiver_in, deliverable_is, receiver_below, delivery_drops, dropped_condemned, delivery_goes, release_refused, condemned_there, known_there}
 use Rattle.demand.specs.Demanded.{table_inv}
 use Rattle.paper.specs.Ready.{Ready, model_in, state_of_message, there_ok, ready, sent_there}

@@ -29,17 +29,17 @@ use Rattle.rules.specs.declared.Command.TheVariants.{Release, Deliver, Checkpoin
 use Rattle.history.specs.Progress.{Drops, drops}
 use Rattle.laws.specs.Facts.{Form, form, message_form, released_lt}
 use Rattle.laws.specs.Delivering.{deliver_cases}
-use Rattle.keeping.specs.Unrefused.{Sound}
+use Rattle.keeping.proofs.Unrefused.{Sound}
 use Rattle.model.specs.Model.{Vec, full, released_vec, filtered as filtered_for, Pair}
-use Rattle.model.specs.Tests.{fails, passes, eq?}
+use Rattle.model.proofs.Tests.{fails, passes, eq?}
 use Rattle.model.specs.Vectors.{Condemned}
 use Rattle.image.specs.Image.{vec_of, image}
 use Rattle.image.specs.Vectors.{length_message}
 use Rattle.image.specs.Tests.{spared, condemned_model, filtered_is, released_is}
 use Rattle.image.specs.Reads.{message_vec_is, known_is}
-use Rattle.image.specs.Tables.{model_of, size_of}
-use Rattle.progress.specs.Tables.{answer_is}
-use Rattle.keeping.specs.Steps.{performed}
+use Rattle.image.proofs.Tables.{model_of, size_of}
+use Rattle.progress.proofs.Tables.{answer_is}
+use Rattle.keeping.proofs.Steps.{performed}
 
 -- EMPTY PAIRS
 -- a pair of the model is empty where that of the words is

@@ -15,10 +15,10 @@ use Rattle.rules.specs.declared.Answer.{Answer}
 use Rattle.rules.specs.declared.Answer.TheVariants.{Refused}
 use Rattle.rules.specs.declared.Command.TheVariants.{Hear}
 use Rattle.history.specs.Demand.{Accepted, answers_heard, answers_rolled}
-use Rattle.keeping.specs.Unrefused.{Sound}
-use Rattle.image.specs.Tables.{size_of}
+use Rattle.keeping.proofs.Unrefused.{Sound}
+use Rattle.image.proofs.Tables.{size_of}
 use Rattle.progress.specs.Answers.{unrefused, same_answer}
-use Rattle.keeping.specs.Steps.{performed}
+use Rattle.keeping.proofs.Steps.{performed}
 
 -- it is accepted, unless the hearer must undo and is in the last incarnation
 abbrev pub Hears : ℕ → Answer → Type 0

@@ -20,7 +20,7 @@ use Rattle.rules.specs.declared.Answer.{Answer}
 use Rattle.rules.specs.declared.Answer.TheVariants.{Done, Released, Dropped}
 use Rattle.rules.specs.declared.Command.{Command}
 use Rattle.rules.specs.declared.Command.TheVariants.{Open, SetDegree, Send, Release, Deliver, Log, Checkpoint, Tell, Crash, Hear, SetGap}
-use Rattle.model.specs.Tests.{eq?}
+use Rattle.model.proofs.Tests.{eq?}
 use Rattle.laws.specs.Numbers.{numbers_restarted}
 use Rattle.laws.specs.Records.{part_other}
 use Rattle.laws.specs.Agree.{live_restarted}

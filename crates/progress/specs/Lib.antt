@@ -2,6 +2,5 @@ pub mod Unmoved
 pub mod Causes
 pub mod Held
 pub mod There
-pub mod Tables
 pub mod Answers
 pub mod Hears

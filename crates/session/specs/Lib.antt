@@ -1,4 +1,1 @@
 pub mod Taking
-pub mod Cutting
-pub mod Whole
-pub mod Buffers

@@ -17,7 +17,7 @@ use Rattle.rules.specs.declared.Command.TheVariants.{Checkpoint}
 use Rattle.laws.specs.Facts.{house_fits}
 use Rattle.laws.specs.Allowed.{checkpoint_allowed}
 use Rattle.keeping.specs.Changes.{kept_checkpointed}
-use Rattle.keeping.specs.StepSame.{SameBoth, same_refl}
+use Rattle.keeping.proofs.StepSame.{SameBoth, same_refl}
 
 module _ (σ : State) (c : ℕ) where
   -- after a checkpoint: the size and the live count, and nothing is left to log

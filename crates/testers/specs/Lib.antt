@@ -3,12 +3,7 @@ pub mod Checkpoint
 pub mod Counted
 pub mod Desk
 pub mod Sample
-pub mod Along
-pub mod Judged
-pub mod Gapped
-pub mod Echo
 pub mod WrongMachines
-pub mod Written
 pub mod NoneLost
 pub mod Ledgers
 pub mod Citing

@@ -22,8 +22,8 @@ use Rattle.rules.specs.declared.Command.TheVariants.{Open, Send, Release, Delive
 use Rattle.listing.specs.Run.{steps, answers, opened_form, opens, blank_ok, Run, end, next, run_answers, goes}
 use Rattle.history.specs.Demand.{just_opened, FromOpening}
 use Rattle.history.specs.Examples.{ListingLine, line}
-use Rattle.image.specs.Tables.{Opened, opening_done}
-use Rattle.keeping.specs.StepSame.{step_words_lem}
+use Rattle.image.proofs.Tables.{Opened, opening_done}
+use Rattle.keeping.proofs.StepSame.{step_words_lem}
 
 -- after the opening of a house of three, all with the degree 1
 abbrev pub sample : List ListingLine

@@ -19,8 +19,8 @@ use Rattle.rules.specs.declared.Answer.TheVariants.{Done, Sent, Released, Held, 
 use Rattle.rules.specs.declared.Command.{Command}
 use Rattle.rules.specs.declared.Command.TheVariants.{Open, SetDegree, Send, Release, Deliver, Log, Checkpoint, Tell, Crash, Hear, SetGap}
 use Rattle.history.specs.Demand.{Run, step_in}
-use Rattle.testers.specs.Judged.{sample_at, sample_answer, none_sent, one_sent_lem, pair_merged}
-use Rattle.testers.specs.Echo.{echoed, pair_echoed}
+use Rattle.testers.proofs.Judged.{sample_at, sample_answer, none_sent, one_sent_lem, pair_merged}
+use Rattle.testers.proofs.Echo.{echoed, pair_echoed}
 
 -- what the step function is too
 abbrev pub Machine : Type 0

@@ -1,5 +1,5 @@
 use Rattle.std.proofs.Common.{rules, ◌≡◌, sym, ◌∙◌, take, length, length-take-le}
-use Rattle.session.specs.Buffers.{reached_first, first_unformed, reached_next}
+use Rattle.session.proofs.Buffers.{reached_first, first_unformed, reached_next}
 use Rattle.house.proofs.main.Goals as goal
 
 pub loop-init : goal.loop-init

@@ -5,7 +5,7 @@ use Rattle.rules.specs.Limits.{house}
 use Rattle.rules.specs.Ledger.{ledger_words}
 use Rattle.formed.specs.Carry.{FormKnown}
 use Rattle.session.specs.Taking.{line_room}
-use Rattle.session.specs.Buffers.{Reached}
+use Rattle.session.proofs.Buffers.{Reached}
 use Rattle.house.specs.Room.{read_room, out_room}
 use Rattle.house.proofs.main.Given as goal
 

@@ -1,4 +1,4 @@
-use Rattle.printing.specs.Writing.{counting_more, counting_end, decimal_size}
+use Rattle.printing.proofs.Writing.{counting_more, counting_end, decimal_size}
 use Rattle.std.proofs.Common.{arith}
 use Rattle.printing.proofs.digit_count.Goals as goal
 

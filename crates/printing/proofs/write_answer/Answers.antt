@@ -1,7 +1,7 @@
 -- Each arm writes the word and the values that `report` has for its answer (answer_written).
 use Rattle.lines.specs.Lines.{answer_line}
 use Rattle.rules.specs.Report.{report}
-use Rattle.printing.specs.Writing.{answer_written}
+use Rattle.printing.proofs.Writing.{answer_written}
 use Rattle.printing.proofs.write_answer.Goals as goal
 
 pub returns-in-Done : goal.returns-in-Done

@@ -1,6 +1,6 @@
 -- The word and its line are those of `bad_line`.
 use Rattle.lines.specs.Lines.{bad_line}
-use Rattle.printing.specs.Writing.{bad_written}
+use Rattle.printing.proofs.Writing.{bad_written}
 use Rattle.printing.proofs.write_bad.Goals as goal
 
 pub returns : goal.returns

@@ -1,5 +1,5 @@
 use Rattle.printing.specs.Parts.{number_room}
-use Rattle.printing.specs.Writing.{listing_start, listing_room, listing_length, listing_more, word_length, behind_word, line_written}
+use Rattle.printing.proofs.Writing.{listing_start, listing_room, listing_length, listing_more, word_length, behind_word, line_written}
 use Rattle.std.proofs.Common.{◌∙◌, ◌+◌, ◌*◌, ◌≤◌, length, length-set, arith}
 use Rattle.printing.proofs.write_line.Goals as goal
 use Rattle.printing.proofs.write_line.Goals.{After-slice_known-2-1}

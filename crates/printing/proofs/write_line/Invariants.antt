@@ -1,5 +1,5 @@
 -- Before value i the first i values stand behind the word (Listing), with room for the others.
-use Rattle.printing.specs.Writing.{Listing}
+use Rattle.printing.proofs.Writing.{Listing}
 use Rattle.std.proofs.Common.{◌-◌, length}
 use Rattle.printing.proofs.write_line.Given as goal
 

@@ -1,4 +1,4 @@
-use Rattle.printing.specs.Writing.{storing_start, storing_place, storing_more, storing_end, number_written, decimal_size}
+use Rattle.printing.proofs.Writing.{storing_start, storing_place, storing_more, storing_end, number_written, decimal_size}
 use Rattle.std.proofs.Common.{◌∙◌, arith, length-set}
 use Rattle.printing.proofs.write_number.Goals as goal
 

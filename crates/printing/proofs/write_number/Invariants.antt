@@ -1,5 +1,5 @@
 -- The digits are stored from the last one: writing those of rest behind the space would complete the number (Storing).
-use Rattle.printing.specs.Writing.{Storing}
+use Rattle.printing.proofs.Writing.{Storing}
 use Rattle.printing.proofs.write_number.Given as goal
 
 abbrev pub invariant-loop-rest : goal.invariant-loop-rest

@@ -1,4 +1,4 @@
-use Rattle.printing.specs.Writing.{spelling_start, spelling_length, spelling_more, spelling_end}
+use Rattle.printing.proofs.Writing.{spelling_start, spelling_length, spelling_more, spelling_end}
 use Rattle.std.proofs.Common.{◌-◌, arith}
 use Rattle.printing.proofs.write_word.Goals as goal
 

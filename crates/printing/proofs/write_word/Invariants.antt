@@ -1,5 +1,5 @@
 -- Before byte i the first i bytes of the word stand there (Spelling).
-use Rattle.printing.specs.Writing.{Spelling}
+use Rattle.printing.proofs.Writing.{Spelling}
 use Rattle.std.proofs.Common.{◌-◌, length}
 use Rattle.printing.proofs.write_word.Given as goal
 

@@ -1,6 +1,6 @@
 -- Without a line there is nothing more; else it ends (finished_none, finished_more).
 use Rattle.std.proofs.Common.{refl, arith}
-use Rattle.session.specs.Buffers.{finished_none, finished_more}
+use Rattle.session.proofs.Buffers.{finished_none, finished_more}
 use Rattle.session.proofs.finish.Goals as goal
 
 pub returns-then-n-eq0 : goal.returns-then-n-eq0

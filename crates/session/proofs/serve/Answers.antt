@@ -1,6 +1,6 @@
 -- A read without bytes is the end of the input, and another one is taken (served_none, served_some).
 use Rattle.std.proofs.Common.{arith}
-use Rattle.session.specs.Buffers.{served_none, served_some, stored_none}
+use Rattle.session.proofs.Buffers.{served_none, served_some, stored_none}
 use Rattle.session.proofs.serve.Goals as goal
 
 pub returns-then-bytes-eq0 : goal.returns-then-bytes-eq0

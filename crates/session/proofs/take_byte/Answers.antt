@@ -1,7 +1,7 @@
 -- Each return is a case of a byte: a line feed, one that has no room, another (taken_feed, taken_full, taken_more, and the same of
 -- the buffer of the line).
 use Rattle.std.proofs.Common.{refl, arith}
-use Rattle.session.specs.Buffers.{taken_feed, taken_more, taken_full, stored_feed, stored_more, stored_full}
+use Rattle.session.proofs.Buffers.{taken_feed, taken_more, taken_full, stored_feed, stored_more, stored_full}
 use Rattle.session.proofs.take_byte.Goals as goal
 
 pub returns-then-b-eq-LINE_FEED : goal.returns-then-b-eq-LINE_FEED

@@ -1,0 +1,9 @@
+pub mod Messages
+pub mod Chains
+pub mod Opening
+pub mod Steps
+pub mod Kept
+pub mod Unrefused
+pub mod StepSame
+pub mod Sets
+pub mod Dispatch

@@ -1,0 +1,5 @@
+pub mod Longer
+pub mod Eventually
+pub mod Emptied
+pub mod Fates
+pub mod Theorems

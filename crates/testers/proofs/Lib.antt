@@ -1,0 +1,5 @@
+pub mod Along
+pub mod Judged
+pub mod Gapped
+pub mod Echo
+pub mod Written
