@@ -7,7 +7,8 @@ use Rattle.base.specs.Choice.{◌==◌, cond_ind}
 use Rattle.table.specs.Field.{Served}
 use Rattle.table.specs.Change.{put}
 use Rattle.table.specs.Layout.{table_words}
-use Rattle.table.specs.Words.{state, words, words_state, then_put}
+use Rattle.table.specs.Words.{state, words}
+use Rattle.table.proofs.Words.{words_state, then_put}
 use Rattle.table.specs.Numbering.{message_of}
 use Rattle.rules.specs.Limits.{house, last_served}
 use Rattle.rules.specs.Refusal.{LENGTH}

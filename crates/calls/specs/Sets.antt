@@ -10,7 +10,8 @@ use Rattle.std.proofs.lemmas.Bool.{not-false}
 use Rattle.base.specs.Choice.{◌==◌, cond_ind}
 use Rattle.table.specs.Field.{State}
 use Rattle.table.specs.Layout.{table_words}
-use Rattle.table.specs.Words.{state, words, words_state}
+use Rattle.table.specs.Words.{state, words}
+use Rattle.table.proofs.Words.{words_state}
 use Rattle.rules.specs.Limits.{house}
 use Rattle.rules.specs.Refusal.{LENGTH}
 use Rattle.rules.specs.Form.{in_form}

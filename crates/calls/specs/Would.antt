@@ -9,7 +9,8 @@ use Rattle.base.specs.Cases.{first_of}
 use Rattle.table.specs.Field.{State, MessageState, Receiver}
 use Rattle.table.specs.Layout.{table_words}
 use Rattle.table.specs.Words.{state}
-use Rattle.table.specs.Numbering.{used, record_of, message_of, record_of_message}
+use Rattle.table.specs.Numbering.{used, record_of, message_of}
+use Rattle.table.proofs.Numbering.{record_of_message}
 use Rattle.rules.specs.Limits.{Limits, house}
 use Rattle.rules.specs.Form.{state_released, in_form}
 use Rattle.rules.specs.Steps.{After, AfterBoth, refusing, message_refusals, interval_begins, prospect, comes_of, deliver, step_deliver}

@@ -6,7 +6,8 @@ use Rattle.base.specs.Choice.{◌≤?◌}
 use Rattle.table.specs.Field.{State, Known, Gap, Incarnation, LiveCount, StableCount, Flag}
 use Rattle.table.specs.Change.{put}
 use Rattle.table.specs.Layout.{table_words}
-use Rattle.table.specs.Words.{state, words, words_state, then_put}
+use Rattle.table.specs.Words.{state, words}
+use Rattle.table.proofs.Words.{words_state, then_put}
 use Rattle.table.specs.Numbering.{number_of}
 use Rattle.rules.specs.Shared.{logged, logged_to, checkpointed, latest_flagged, replayed, forced, capped}
 

@@ -6,7 +6,8 @@ use Rattle.base.specs.Cases.{none, hit, skip}
 use Rattle.base.specs.Lists.{length_tab}
 use Rattle.table.specs.Field.{Known, Size, StableCount}
 use Rattle.table.specs.Layout.{controllers, incarnations, table_words, position}
-use Rattle.table.specs.Words.{state, words, words_state, fits_known, lent_part}
+use Rattle.table.specs.Words.{state, words}
+use Rattle.table.proofs.Words.{words_state, fits_known, lent_part}
 use Rattle.rules.specs.Shared.{logged, checkpointed}
 use Rattle.rules.specs.Refusal.{CONTROLLER}
 use Rattle.rules.specs.Steps.{checkpoint_refusals, step_checkpoint, told_row, told}

@@ -6,7 +6,8 @@ use Rattle.base.specs.Cases.{first_of}
 use Rattle.table.specs.Field.{State, OfPlace, Incarnation, LiveCount, MessageState, Receiver}
 use Rattle.table.specs.Change.{put, put_part}
 use Rattle.table.specs.Layout.{controllers, table_words}
-use Rattle.table.specs.Words.{state, words, then_put}
+use Rattle.table.specs.Words.{state, words}
+use Rattle.table.proofs.Words.{then_put}
 use Rattle.table.specs.Numbering.{number_of, record_of}
 use Rattle.rules.specs.Limits.{house}
 use Rattle.rules.specs.Vector.{Vector, pair, incarnation, pair_of, message_vector, filtered, condemned, condemning, conflict, merged, place_vector}

@@ -8,7 +8,8 @@ use Rattle.base.specs.Choice.{◌==◌, cond_ind}
 use Rattle.base.specs.Ranges.{count}
 use Rattle.table.specs.Field.{MessageState, Served}
 use Rattle.table.specs.Layout.{controllers, messages, table_words}
-use Rattle.table.specs.Words.{state, words, words_state, word_at}
+use Rattle.table.specs.Words.{state, words}
+use Rattle.table.proofs.Words.{words_state, word_at}
 use Rattle.table.specs.Numbering.{record_of}
 use Rattle.rules.specs.Limits.{house}
 use Rattle.rules.specs.Refusal.{LENGTH, FORM, LEDGER}
@@ -40,9 +41,9 @@ use Rattle.keeping.proofs.Sets.{sound_let_set}
 use Rattle.calls.specs.Sets.{set_goes, not_gone_keeps}
 use Rattle.calls.specs.Made.{call_ind}
 use Rattle.demand.specs.Demanded.{demand_3}
-use Rattle.demand.specs.Beyond.{ledger_cites}
-use Rattle.demand.specs.Citable.{all_citable}
-use Rattle.demand.specs.Ceiled.{ceiling}
+use Rattle.demand.proofs.Beyond.{ledger_cites}
+use Rattle.demand.proofs.Citable.{all_citable}
+use Rattle.demand.proofs.Ceiled.{ceiling}
 use Rattle.demand.specs.Blamed.{blame, sender_undone}
 use Rattle.demand.specs.InForm.{sound_after}
 use Rattle.keeping.proofs.StepSame.{same_written, step_words_lem}
@@ -52,7 +53,8 @@ use Rattle.testers.specs.Checkpoint.{checkpoint_twice}
 use Rattle.testers.specs.Counted.{counted_step}
 use Rattle.testers.specs.Ledgers.{count_ledger, message_cited, payload_cited}
 use Rattle.testers.specs.Desk.{publishes, Writes, ledger_stays, whatever_ledger}
-use Rattle.testers.specs.Sample.{sample, asked, answered, calls, answers_from, sample_from_opening, sample_answers}
+use Rattle.testers.specs.Sample.{sample, asked, answered, calls, answers_from}
+use Rattle.testers.proofs.Sample.{sample_from_opening, sample_answers}
 use Rattle.testers.proofs.Written.{left_column, right_column, listing_written}
 use Rattle.testers.proofs.Judged.{list, publications, sample_at, sample_answer, published_is, live_before, gone_after, live_first, still_live, sending_rests, not_yet_stable, lost_later, undone_rests, heard_later, degree_then, sent_to_desk, sent_from_lem}
 use Rattle.testers.proofs.Gapped.{crashing, rolling, GapRun, crashes, rolls, gap_from_opening, gap_never_off, gap_answer, gap_largest, gap_newest}

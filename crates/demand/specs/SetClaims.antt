@@ -11,8 +11,10 @@ use Rattle.base.specs.Ranges.{anyb}
 use Rattle.base.specs.Cases.{first_of}
 use Rattle.table.specs.Field.{State, Degree, MessageState, Sender, desk}
 use Rattle.table.specs.Layout.{table_words}
-use Rattle.table.specs.Words.{state, words, agree_words}
-use Rattle.table.specs.Numbering.{record_of, used_agree, record_agree}
+use Rattle.table.specs.Words.{state, words}
+use Rattle.table.proofs.Words.{agree_words}
+use Rattle.table.specs.Numbering.{record_of}
+use Rattle.table.proofs.Numbering.{used_agree, record_agree}
 use Rattle.rules.specs.Limits.{Limits, house}
 use Rattle.rules.specs.Refusal.{LENGTH, FORM, LEDGER_USED_UP}
 use Rattle.rules.specs.Report.{report}

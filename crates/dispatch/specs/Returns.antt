@@ -5,7 +5,8 @@ use Rattle.std.proofs.Common.{ap, ◌∙◌, arith, eq-eqb, ne_eqb}
 use Rattle.table.specs.Field.{Size, Served, Receiver}
 use Rattle.table.specs.Change.{put}
 use Rattle.table.specs.Layout.{controllers, messages, table_words}
-use Rattle.table.specs.Words.{state, words, words_state, then_put}
+use Rattle.table.specs.Words.{state, words}
+use Rattle.table.proofs.Words.{words_state, then_put}
 use Rattle.table.specs.Numbering.{used, message_of}
 use Rattle.rules.specs.Limits.{house}
 use Rattle.rules.specs.Refusal.{LENGTH, FORM}

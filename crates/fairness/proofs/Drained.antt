@@ -12,8 +12,10 @@ use Rattle.base.specs.Ranges.{count, count_le}
 use Rattle.table.specs.Field.{Field, State, OfMessage, Known, End, Served, MessageState, Receiver, same, word}
 use Rattle.table.specs.Layout.{controllers, messages}
 use Rattle.table.specs.Change.{put}
-use Rattle.table.specs.Words.{state, words, words_state, word_at}
-use Rattle.table.specs.Numbering.{used, record_of, message_of, record_of_message, numbers_put, numbers_trans, used_agree}
+use Rattle.table.specs.Words.{state, words}
+use Rattle.table.proofs.Words.{words_state, word_at}
+use Rattle.table.specs.Numbering.{used, record_of, message_of}
+use Rattle.table.proofs.Numbering.{record_of_message, numbers_put, numbers_trans, used_agree}
 use Rattle.rules.specs.Limits.{house}
 use Rattle.rules.specs.Refusal.{PLACES_USED_UP}
 use Rattle.rules.specs.Form.{state_released, in_form}

@@ -13,8 +13,10 @@ use Rattle.base.specs.Cases.{first_of}
 use Rattle.table.specs.Field.{State, OfMessage, OfPlace, Size, SentCount, Served, LiveCount, MessageState, Receiver, message_head}
 use Rattle.table.specs.Change.{blank, put, put_part}
 use Rattle.table.specs.Layout.{controllers, table_words, position}
-use Rattle.table.specs.Words.{state, words, length_words, words_put, agree_words}
-use Rattle.table.specs.Numbering.{record_of, record_agree, present_pos}
+use Rattle.table.specs.Words.{state, words}
+use Rattle.table.proofs.Words.{length_words, words_put, agree_words}
+use Rattle.table.specs.Numbering.{record_of}
+use Rattle.table.proofs.Numbering.{record_agree, present_pos}
 use Rattle.rules.specs.Limits.{house, last_served}
 use Rattle.rules.specs.Vector.{Vector, pair, no_pair, flat}
 use Rattle.rules.specs.Form.{state_held, state_released, state_delivered, in_form}

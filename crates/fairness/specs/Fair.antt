@@ -6,8 +6,10 @@ use Rattle.std.proofs.Math.Path.{ap}
 use Rattle.base.specs.Choice.{fails, le?}
 use Rattle.table.specs.Field.{State, Size, Served, Receiver, same}
 use Rattle.table.specs.Change.{put, put_same}
-use Rattle.table.specs.Words.{state, word_at}
-use Rattle.table.specs.Numbering.{record_of, message_of, record_of_message}
+use Rattle.table.specs.Words.{state}
+use Rattle.table.proofs.Words.{word_at}
+use Rattle.table.specs.Numbering.{record_of, message_of}
+use Rattle.table.proofs.Numbering.{record_of_message}
 use Rattle.rules.specs.Limits.{house}
 use Rattle.rules.specs.Form.{in_form}
 use Rattle.rules.specs.Steps.{prospect, step_deliver}

@@ -6,8 +6,10 @@ use Rattle.base.specs.Choice.{fails, le?}
 use Rattle.base.specs.Ranges.{anyb_some}
 use Rattle.table.specs.Field.{State, Served, Receiver}
 use Rattle.table.specs.Layout.{position}
-use Rattle.table.specs.Words.{state, words_put, words_state}
-use Rattle.table.specs.Numbering.{used, record_of, message_of, message_of_record, record_of_message, message_rises}
+use Rattle.table.specs.Words.{state}
+use Rattle.table.proofs.Words.{words_put, words_state}
+use Rattle.table.specs.Numbering.{used, record_of, message_of}
+use Rattle.table.proofs.Numbering.{message_of_record, record_of_message, message_rises}
 use Rattle.rules.specs.Limits.{house}
 use Rattle.rules.specs.Steps.{beside, step_deliver}
 use Rattle.rules.specs.Step.{out_both, written_both, dispatch}

@@ -8,8 +8,10 @@ use Rattle.base.specs.Choice.{◌==◌, cond_ind}
 use Rattle.base.specs.Cases.{first_of}
 use Rattle.table.specs.Field.{Field, State, OfHead, OfController, Known, End, OfPlace, OfMessage, Size, Served, region, word}
 use Rattle.table.specs.Layout.{table_words, Valid}
-use Rattle.table.specs.Words.{state, word_at}
-use Rattle.table.specs.Numbering.{posted, posted_size, posted_served}
+use Rattle.table.specs.Words.{state}
+use Rattle.table.proofs.Words.{word_at}
+use Rattle.table.specs.Numbering.{posted}
+use Rattle.table.proofs.Numbering.{posted_size, posted_served}
 use Rattle.rules.specs.Limits.{Limits, house}
 use Rattle.rules.specs.Form.{in_form}
 use Rattle.rules.specs.Steps.{AfterBoth, refusing_both, open_refusals, step_open, sent}

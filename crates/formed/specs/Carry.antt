@@ -4,7 +4,8 @@ use Rattle.std.proofs.Common.{sym, ap, ◌∙◌, subst, true≢false, eq-eqb}
 use Rattle.base.specs.Choice.{◌==◌, cond_ind}
 use Rattle.base.specs.Cases.{first_of}
 use Rattle.table.specs.Layout.{table_words}
-use Rattle.table.specs.Words.{state, words_state}
+use Rattle.table.specs.Words.{state}
+use Rattle.table.proofs.Words.{words_state}
 use Rattle.rules.specs.Limits.{house}
 use Rattle.rules.specs.Form.{in_form}
 use Rattle.rules.specs.Steps.{AfterBoth, refusing_both, open_refusals, step_open}

@@ -9,8 +9,10 @@ use Rattle.base.specs.Cases.{Case, first_of, none, hit, skip}
 use Rattle.table.specs.Field.{Field, State, Known, End, Size, Incarnation, LiveCount, Flag, same}
 use Rattle.table.specs.Change.{put, put_ind, put_other}
 use Rattle.table.specs.Layout.{controllers, incarnations, table_words}
-use Rattle.table.specs.Words.{state, words, words_same, Agree, agree_words, agree_put, put_again, then_put}
-use Rattle.table.specs.Numbering.{number_of, number_same}
+use Rattle.table.specs.Words.{state, words, Agree}
+use Rattle.table.proofs.Words.{words_same, agree_words, agree_put, put_again, then_put}
+use Rattle.table.specs.Numbering.{number_of}
+use Rattle.table.proofs.Numbering.{number_same}
 use Rattle.rules.specs.Limits.{house, last_incarnation}
 use Rattle.rules.specs.Refusal.{CONTROLLER, NO_SUCH_CRASH, ALREADY_HEARD, INCARNATIONS_USED_UP}
 use Rattle.rules.specs.Shared.{latest_flagged, replayed}

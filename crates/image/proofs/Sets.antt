@@ -10,7 +10,7 @@ use Rattle.laws.specs.Together.{Goes, own_named, own_may, union_few, desk_nobody
 use Rattle.model.proofs.Steps.{LetUnder}
 use Rattle.image.specs.Image.{image}
 use Rattle.image.specs.Reads.{to_is}
-use Rattle.image.specs.Stepped.{within_degree, release_found}
+use Rattle.image.proofs.Stepped.{within_degree, release_found}
 
 -- it may go by itself, the union names all whom it names, and no more than its sender's degree; and nobody where it is for the desk
 pub set_found : {L : Limits} {σ : State} {g l : List ℕ} → Form L σ → Goes L σ g l → (i : ℕ) → i < length l → LetUnder (image σ) (nth l i) (union σ l)

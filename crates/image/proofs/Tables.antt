@@ -6,7 +6,8 @@ use Rattle.base.specs.Cases.{first_of}
 use Rattle.table.specs.Field.{State, Size, Served, word}
 use Rattle.table.specs.Change.{put, put_other}
 use Rattle.table.specs.Layout.{controllers, table_words}
-use Rattle.table.specs.Words.{state, words, words_state, word_at}
+use Rattle.table.specs.Words.{state, words}
+use Rattle.table.proofs.Words.{words_state, word_at}
 use Rattle.rules.specs.Limits.{house, last_served}
 use Rattle.rules.specs.Refusal.{LENGTH}
 use Rattle.rules.specs.Ledger.{blank_ledger}
@@ -26,7 +27,8 @@ use Rattle.image.specs.Controllers.{image_served}
 use Rattle.image.specs.Outcome as O
 use Rattle.image.specs.Outcome.{Outcome}
 use Rattle.image.specs.Tests.{fresh}
-use Rattle.image.specs.Stepped.{outcome_as, stepped_state}
+use Rattle.image.specs.Stepped.{outcome_as}
+use Rattle.image.proofs.Stepped.{stepped_state}
 use Rattle.image.specs.Bounds.{Bounded, bounded_form, bounded_opened, image_same, step_bounded}
 
 -- the model of a table

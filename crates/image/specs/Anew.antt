@@ -9,7 +9,8 @@ use Rattle.base.specs.Choice.{◌==◌, ◌<?◌, cond_ind}
 use Rattle.table.specs.Field.{State, Known, End, OfPlace, Incarnation, LiveCount, StableCount, PlaceIncarnation, Flag, PairIncarnation, PairNumber, word, same}
 use Rattle.table.specs.Change.{put, put_same, clear_places, put_part, put_states}
 use Rattle.table.specs.Layout.{controllers, incarnations}
-use Rattle.table.specs.Numbering.{number_of, last_live, place_of, number_from_lem, number_next, place_lt, place_next, numbers_put, numbers_states}
+use Rattle.table.specs.Numbering.{number_of, last_live, place_of}
+use Rattle.table.proofs.Numbering.{number_from_lem, number_next, place_lt, place_next, numbers_put, numbers_states}
 use Rattle.rules.specs.Limits.{last_incarnation}
 use Rattle.rules.specs.Vector.{pair as pair_list, place_vector}
 use Rattle.rules.specs.Shared.{logged, logged_to, capped, causes_in, causes, new_vector, placed, entered, restarted, drop_held, start_anew, removed}

@@ -7,7 +7,8 @@ use Rattle.base.specs.Choice.{◌==◌}
 use Rattle.table.specs.Field.{State, OfPlace, Size, Incarnation, LiveCount, PlaceIncarnation, Flag, PairIncarnation, PairNumber, MessageState, word, place_head, same}
 use Rattle.table.specs.Change.{put, put_same, put_part}
 use Rattle.table.specs.Layout.{controllers}
-use Rattle.table.specs.Numbering.{number_of, last_live, place_of, used, record_of, number_from_lem, number_next, place_lt, place_next, place_of_count}
+use Rattle.table.specs.Numbering.{number_of, last_live, place_of, used, record_of}
+use Rattle.table.proofs.Numbering.{number_from_lem, number_next, place_lt, place_next, place_of_count}
 use Rattle.rules.specs.Limits.{Limits}
 use Rattle.rules.specs.Vector.{Vector, pair as pair_list, place_vector, message_vector, filtered, merged}
 use Rattle.rules.specs.Form.{state_delivered}

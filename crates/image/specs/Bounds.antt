@@ -11,7 +11,8 @@ use Rattle.base.specs.Cases.{first_of}
 use Rattle.table.specs.Field.{State, Known, End, Size, Gap, Degree, Incarnation, LiveCount, StableCount, PlaceIncarnation, Flag, Sender, Receiver, SendingIncarnation, SendingNumber, word, same}
 use Rattle.table.specs.Layout.{controllers, places, messages}
 use Rattle.table.specs.Words.{Agree}
-use Rattle.table.specs.Numbering.{number_of, last_live, place_of, used, record_of, number_from_lem, place_lt, none_used, number_same, used_agree, last_agree, record_agree}
+use Rattle.table.specs.Numbering.{number_of, last_live, place_of, used, record_of}
+use Rattle.table.proofs.Numbering.{number_from_lem, place_lt, none_used, number_same, used_agree, last_agree, record_agree}
 use Rattle.rules.specs.Limits.{house}
 use Rattle.rules.specs.Form.{in_form}
 use Rattle.rules.specs.Steps.{AfterBoth, refusing_both, open_house, open_refusals, step_open}

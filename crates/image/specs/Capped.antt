@@ -9,7 +9,8 @@ use Rattle.base.specs.Choice.{◌==◌, ◌≤?◌, ◌<?◌, cond_ind}
 use Rattle.table.specs.Field.{State, OfPlace, Incarnation, LiveCount, StableCount, Flag, PairIncarnation, PairNumber, same, word, second}
 use Rattle.table.specs.Change.{put, put_same, put_other}
 use Rattle.table.specs.Layout.{controllers}
-use Rattle.table.specs.Numbering.{number_of, place_of, number_from_lem, place_of_number, number_of_place, place_of_count}
+use Rattle.table.specs.Numbering.{number_of, place_of}
+use Rattle.table.proofs.Numbering.{number_from_lem, place_of_number, number_of_place, place_of_count}
 use Rattle.rules.specs.Limits.{last_incarnation}
 use Rattle.rules.specs.Vector.{place_vector}
 use Rattle.rules.specs.Shared.{newest_place, logged, logged_to, checkpointed, latest_flagged, replayed, forced, capped}

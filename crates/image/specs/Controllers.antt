@@ -9,7 +9,8 @@ use Rattle.base.specs.Lists.{tab, length_tab, get_d_tab}
 use Rattle.table.specs.Field.{State, Known, End, Gap, Degree, Incarnation, StableCount, same, Served}
 use Rattle.table.specs.Change.{put, put_same, put_part}
 use Rattle.table.specs.Layout.{controllers, incarnations}
-use Rattle.table.specs.Numbering.{number_of, number_ltb, numbers_put}
+use Rattle.table.specs.Numbering.{number_of}
+use Rattle.table.proofs.Numbering.{number_ltb, numbers_put}
 use Rattle.rules.specs.Vector.{place_vector, message_vector}
 use Rattle.rules.specs.Shared.{logged, logged_to}
 use Rattle.rules.specs.Steps.{told_row, told, noted}

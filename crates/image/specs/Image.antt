@@ -6,7 +6,8 @@ use Rattle.std.proofs.Math.Path.{fun_ext}
 use Rattle.base.specs.Choice.{◌==◌, ◌<?◌, le?}
 use Rattle.table.specs.Field.{Field, State, OfHead, OfController, Known, End, OfPlace, OfMessage, Gap, Degree, Incarnation, LiveCount, StableCount, PlaceIncarnation, Flag, PairIncarnation, PairNumber, MessageState, Sender, Receiver, SendingIncarnation, SendingNumber, MessagePairIncarnation, MessagePairNumber, word}
 use Rattle.table.specs.Layout.{controllers}
-use Rattle.table.specs.Numbering.{number_of, last_live, place_of, used, last_given, record_of, present, place_from, numbering, Numbered, numbers_kept}
+use Rattle.table.specs.Numbering.{number_of, last_live, place_of, used, last_given, record_of, present, numbering, Numbered}
+use Rattle.table.proofs.Numbering.{place_from, numbers_kept}
 use Rattle.rules.specs.Vector.{Pair as PairList, Vector, incarnation, number, pair_of, place_vector, message_vector}
 use Rattle.history.specs.History.{interval}
 use Rattle.model.specs.Model.{Pair, pair, Vec, Controller, Message, Model, put_controller, absent_controller}

@@ -8,7 +8,8 @@ use Rattle.base.specs.Choice.{◌<?◌}
 use Rattle.table.specs.Field.{State, OfController, Known, End, OfPlace, OfMessage, Size, LiveCount, PlaceIncarnation, PlaceNumber, Sender, Receiver, SendingIncarnation, SendingNumber, MessagePairIncarnation, MessagePairNumber, message_head, word}
 use Rattle.table.specs.Change.{put_part}
 use Rattle.table.specs.Layout.{controllers, message_words}
-use Rattle.table.specs.Numbering.{number_of, last_live, used, next_message, record_of, number_from_lem, place_of_count, record_one, posted, posted_used, posted_last, posted_gap, posted_new, posted_record, posted_number, posted_at, posted_kept, posted_missing, numbering_vector, Numbered, numbers_part}
+use Rattle.table.specs.Numbering.{number_of, last_live, used, next_message, record_of, posted, Numbered}
+use Rattle.table.proofs.Numbering.{number_from_lem, place_of_count, record_one, posted_used, posted_last, posted_gap, posted_new, posted_record, posted_number, posted_at, posted_kept, posted_missing, numbering_vector, numbers_part}
 use Rattle.rules.specs.Limits.{Limits}
 use Rattle.rules.specs.Vector.{Vector, place_vector, message_vector, flat, filtered}
 use Rattle.rules.specs.Form.{state_held}

@@ -9,7 +9,8 @@ use Rattle.base.specs.Choice.{◌==◌, ◌<?◌, and_left, and_right, cond_ind}
 use Rattle.base.specs.Lists.{length_tab}
 use Rattle.table.specs.Field.{State, OfController, Known, OfPlace, Degree, Incarnation, LiveCount, StableCount, PlaceIncarnation, Flag, PairIncarnation, PairNumber, place_head, word}
 use Rattle.table.specs.Layout.{controllers}
-use Rattle.table.specs.Numbering.{last_live, place_of, place_of_number, none_given, none_used}
+use Rattle.table.specs.Numbering.{last_live, place_of}
+use Rattle.table.proofs.Numbering.{place_of_number, none_given, none_used}
 use Rattle.rules.specs.Vector.{pair as pair_list, no_pair}
 use Rattle.rules.specs.Shared.{place_record}
 use Rattle.rules.specs.Steps.{first_vector, open_house}

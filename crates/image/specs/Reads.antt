@@ -6,7 +6,8 @@ use Rattle.std.proofs.Math.Bool.{false}
 use Rattle.base.specs.Choice.{◌==◌}
 use Rattle.table.specs.Field.{State, Known, End, Gap, Degree, Incarnation, StableCount, Flag, Sender, Receiver, SendingIncarnation, SendingNumber}
 use Rattle.table.specs.Layout.{controllers, incarnations}
-use Rattle.table.specs.Numbering.{number_of, last_live, place_of, used, last_given, record_of, present_given}
+use Rattle.table.specs.Numbering.{number_of, last_live, place_of, used, last_given, record_of}
+use Rattle.table.proofs.Numbering.{present_given}
 use Rattle.rules.specs.Vector.{place_vector, message_vector}
 use Rattle.history.specs.History.{interval}
 use Rattle.model.specs.Model.{Controller, Message}

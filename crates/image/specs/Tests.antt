@@ -5,7 +5,8 @@ use Rattle.base.specs.Choice.{le?}
 use Rattle.table.specs.Field.{State, End, Size, LiveCount, Sender, same}
 use Rattle.table.specs.Change.{put}
 use Rattle.table.specs.Layout.{controllers}
-use Rattle.table.specs.Numbering.{number_of, last_live, place_of, used, record_of, number_from_lem, place_lt, place_next, place_ge, Numbered}
+use Rattle.table.specs.Numbering.{number_of, last_live, place_of, used, record_of, Numbered}
+use Rattle.table.proofs.Numbering.{number_from_lem, place_lt, place_next, place_ge}
 use Rattle.rules.specs.Limits.{Limits}
 use Rattle.rules.specs.Vector.{Vector, incarnation, number, pair_of, place_vector, message_vector, filtered, condemned_pair, condemned, condemning, conflict}
 use Rattle.rules.specs.Steps.{noted, lowest_condemned}

@@ -31,7 +31,8 @@ use Rattle.base.specs.Ranges.{count}
 use Rattle.image.specs.Reads.{present_sent}
 use Rattle.image.proofs.Tables.{model_of}
 use Rattle.testers.specs.Refused.{answers_differ}
-use Rattle.testers.specs.Sample.{sample, all_look, from_opening, sample_from_opening, sample_answers}
+use Rattle.testers.specs.Sample.{sample, all_look}
+use Rattle.testers.proofs.Sample.{from_opening, sample_from_opening, sample_answers}
 use Rattle.demand.specs.Demanded.{table_inv}
 use Rattle.paper.specs.Ready.{ready, sent_there}
 use Rattle.paper.proofs.Theorems as T

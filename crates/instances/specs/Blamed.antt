@@ -23,7 +23,8 @@ use Rattle.history.specs.Blame.{OrphanBy, DroppedFor}
 use Rattle.history.specs.Examples.{ListingLine, line, all}
 use Rattle.listing.specs.Run as states
 use Rattle.listing.specs.Run.{steps, blank_ok, goes}
-use Rattle.testers.specs.Sample.{sample, sample_run, all_look}
+use Rattle.testers.specs.Sample.{sample, all_look}
+use Rattle.testers.proofs.Sample.{sample_run}
 use Rattle.testers.proofs.Along.{state_at, ledger_at}
 use Rattle.demand.specs.Blamed.{blame}
 use Rattle.demand.specs.Claims.{hearing_it_undoes_the_sender}

@@ -19,7 +19,8 @@ use Rattle.rules.specs.declared.Command.TheVariants.{SetDegree, Send, Release, D
 use Rattle.listing.specs.Run as states
 use Rattle.listing.specs.Run.{steps, blank_ok, goes}
 use Rattle.history.specs.Examples.{ListingLine, line}
-use Rattle.testers.specs.Sample.{asked, answered, calls, sample_run}
+use Rattle.testers.specs.Sample.{asked, answered, calls}
+use Rattle.testers.proofs.Sample.{sample_run}
 use Rattle.testers.proofs.Along.{state_at, ledger_at}
 
 -- THE LISTS

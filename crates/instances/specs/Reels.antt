@@ -29,12 +29,13 @@ use Rattle.history.specs.Examples.{ListingLine, line, all, all_cited}
 use Rattle.laws.specs.Ledger.{appended_sound}
 use Rattle.listing.specs.Run as states
 use Rattle.listing.specs.Run.{steps, blank_ok, goes, opened_form}
-use Rattle.testers.specs.Sample.{sample, asked, calls, sample_run, all_look, opened_three, from_opening}
+use Rattle.testers.specs.Sample.{sample, asked, calls, all_look}
+use Rattle.testers.proofs.Sample.{sample_run, opened_three, from_opening}
 use Rattle.testers.proofs.Along.{citations_after, Stage, state_at, ledger_at, command_at, stage_at}
 use Rattle.keeping.proofs.Sets.{set_words}
 use Rattle.calls.specs.Sets.{runs_append, releases, set_runs}
 use Rattle.demand.specs.Demanded.{demand_3}
-use Rattle.demand.specs.Beyond.{ledger_cites}
+use Rattle.demand.proofs.Beyond.{ledger_cites}
 use Rattle.instances.specs.Lists.{calls_of, Computed, branch}
 use Rattle.instances.specs.Shown.{Shown, shown, shown_to, history_of, history_is, told}
 

@@ -29,7 +29,8 @@ use Rattle.model.proofs.Tests.{fails, contrary}
 use Rattle.model.proofs.Chain.{member_cases}
 use Rattle.model.proofs.Runs.{first_part}
 use Rattle.testers.specs.Refused.{answers_differ}
-use Rattle.testers.specs.Sample.{asked, calls, answers_from, all_look, from_opening, run_answered}
+use Rattle.testers.specs.Sample.{asked, calls, answers_from, all_look}
+use Rattle.testers.proofs.Sample.{from_opening, run_answered}
 use Rattle.testers.proofs.Along.{Answered, head_answered, tail_answered, history_at}
 use Rattle.paper.specs.Whenever.{secured_since}
 use Rattle.instances.specs.Lists.{calls_of, Computed}

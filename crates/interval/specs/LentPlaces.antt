@@ -6,7 +6,8 @@ use Rattle.base.specs.Lists.{tab_of, Filled, filled_done}
 use Rattle.table.specs.Field.{OfPlace}
 use Rattle.table.specs.Change.{put_part, clear_places}
 use Rattle.table.specs.Layout.{controllers, places, place_words, table_words, position}
-use Rattle.table.specs.Words.{state, words, words_state, fits_place, lent_part, lent_places}
+use Rattle.table.specs.Words.{state, words}
+use Rattle.table.proofs.Words.{words_state, fits_place, lent_part, lent_places}
 use Rattle.rules.specs.Vector.{Vector}
 use Rattle.rules.specs.Shared.{place_record}
 use Rattle.laws.specs.Records.{length_place_record}

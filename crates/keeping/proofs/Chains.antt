@@ -7,7 +7,8 @@ use Rattle.base.specs.Choice.{◌==◌, le?}
 use Rattle.table.specs.Field.{Field, State, OfHead, OfController, Known, End, OfPlace, OfMessage, Size, Incarnation, LiveCount, StableCount, Receiver, desk, same}
 use Rattle.table.specs.Change.{put, put_same, put_other, put_part, clear_places, clear_ind, differs}
 use Rattle.table.specs.Layout.{controllers, place_words}
-use Rattle.table.specs.Numbering.{number_of, used, last_given, Numbered, numbers_kept, numbering, number_from_lem}
+use Rattle.table.specs.Numbering.{number_of, used, last_given, Numbered, numbering}
+use Rattle.table.proofs.Numbering.{numbers_kept, number_from_lem}
 use Rattle.rules.specs.Limits.{Limits, last_incarnation}
 use Rattle.rules.specs.Vector.{Vector, pair, place_vector, filtered}
 use Rattle.rules.specs.Form.{state_delivered, state_ok, vector_ok, controller_ok, place_ok, in_form}

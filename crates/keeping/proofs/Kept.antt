@@ -5,8 +5,9 @@ use Rattle.base.specs.Ranges.{allb, allb_ext}
 use Rattle.base.specs.Cases.{all_of}
 use Rattle.table.specs.Field.{State, OfHead, OfController, Known, End, OfPlace, OfMessage, Size, LiveCount}
 use Rattle.table.specs.Layout.{controllers, places, messages, table_words}
-use Rattle.table.specs.Words.{Agree, state, words, length_words, agree_words}
-use Rattle.table.specs.Numbering.{number_same, used_agree, last_agree}
+use Rattle.table.specs.Words.{Agree, state, words}
+use Rattle.table.proofs.Words.{length_words, agree_words}
+use Rattle.table.proofs.Numbering.{number_same, used_agree, last_agree}
 use Rattle.rules.specs.Limits.{house}
 use Rattle.rules.specs.Form.{controller_ok, row_ok, place_ok, message_ok, in_form}
 use Rattle.rules.specs.Step.{step_on, lent, step}

@@ -12,7 +12,8 @@ use Rattle.base.specs.Lists.{get_d_tab}
 use Rattle.table.specs.Field.{Field, State, OfHead, OfController, Known, End, OfPlace, OfMessage, Size, LiveCount, MessageState, Sender, Receiver, SendingIncarnation, SendingNumber, MessagePairIncarnation, MessagePairNumber, message_head, desk, region, word, same}
 use Rattle.table.specs.Change.{put, put_same, put_other, put_part, put_states}
 use Rattle.table.specs.Layout.{controllers, message_words}
-use Rattle.table.specs.Numbering.{number_of, used, Numbered, posted, posted_used, posted_last, posted_number, posted_at, posted_kept, numbers_put, numbers_part, numbers_states, numbering_vector}
+use Rattle.table.specs.Numbering.{number_of, used, Numbered, posted}
+use Rattle.table.proofs.Numbering.{posted_used, posted_last, posted_number, posted_at, posted_kept, numbers_put, numbers_part, numbers_states, numbering_vector}
 use Rattle.rules.specs.Limits.{Limits, last_incarnation}
 use Rattle.rules.specs.Vector.{Vector, pair_of, incarnation, number, place_vector, message_vector, flat, condemned}
 use Rattle.rules.specs.Form.{state_held, for_desk, state_ok, zeros, vector_ok, controller_ok, row_ok, place_ok, message_ok, head_zeros, in_form}

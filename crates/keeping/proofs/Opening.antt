@@ -10,7 +10,7 @@ use Rattle.base.specs.Ranges.{allb}
 use Rattle.base.specs.Lists.{get_d_tab}
 use Rattle.table.specs.Field.{Field, State, OfHead, OfController, Known, End, OfPlace, OfMessage, Degree, Incarnation, LiveCount, StableCount, word}
 use Rattle.table.specs.Layout.{controllers}
-use Rattle.table.specs.Numbering.{none_used}
+use Rattle.table.proofs.Numbering.{none_used}
 use Rattle.rules.specs.Limits.{Limits}
 use Rattle.rules.specs.Vector.{pair, no_pair}
 use Rattle.rules.specs.Form.{zeros, pair_ok, vector_ok, controller_ok, highest, row_ok, place_ok, head_zeros, in_form}

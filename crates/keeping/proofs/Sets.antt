@@ -12,8 +12,10 @@ use Rattle.base.specs.Ranges.{anyb_same}
 use Rattle.base.specs.Cases.{first_of}
 use Rattle.table.specs.Field.{State, Degree, MessageState, Sender}
 use Rattle.table.specs.Layout.{controllers, table_words}
-use Rattle.table.specs.Words.{state, words, length_words, word_at, Agree}
-use Rattle.table.specs.Numbering.{used, used_agree, record_agree}
+use Rattle.table.specs.Words.{state, words, Agree}
+use Rattle.table.proofs.Words.{length_words, word_at}
+use Rattle.table.specs.Numbering.{used}
+use Rattle.table.proofs.Numbering.{used_agree, record_agree}
 use Rattle.rules.specs.Limits.{Limits, house}
 use Rattle.rules.specs.Refusal.{LENGTH, FORM, LEDGER, MESSAGE, SAME_CONTROLLER, STATE, SENDERS}
 use Rattle.rules.specs.Form.{state_held, for_desk, in_form}

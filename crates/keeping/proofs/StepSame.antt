@@ -11,8 +11,10 @@ use Rattle.base.specs.Cases.{Case, ◌⇒◌, first_of, hit}
 use Rattle.table.specs.Field.{State, End, Size, Gap, Degree, Incarnation, LiveCount, StableCount, MessageState, Receiver, desk, same}
 use Rattle.table.specs.Change.{put}
 use Rattle.table.specs.Layout.{controllers, messages, table_words}
-use Rattle.table.specs.Words.{state, words, length_words, word_at, words_same, Agree, agree_put, agree_put_to}
-use Rattle.table.specs.Numbering.{number_of, used, record_of, number_same, used_agree, last_agree, record_agree}
+use Rattle.table.specs.Words.{state, words, Agree}
+use Rattle.table.proofs.Words.{length_words, word_at, words_same, agree_put, agree_put_to}
+use Rattle.table.specs.Numbering.{number_of, used, record_of}
+use Rattle.table.proofs.Numbering.{number_same, used_agree, last_agree, record_agree}
 use Rattle.rules.specs.Limits.{house, last_incarnation}
 use Rattle.rules.specs.Refusal.{FORM, LEDGER, CONTROLLER, MESSAGE, DEGREE, SAME_CONTROLLER, STATE, LOG_COUNT, NO_SUCH_CRASH, ALREADY_HEARD, MESSAGES_USED_UP, PLACES_USED_UP, INCARNATIONS_USED_UP}
 use Rattle.rules.specs.Vector.{Vector, incarnation, pair_of, place_vector, message_vector, filtered, condemned, condemning, mask, conflict, merged}

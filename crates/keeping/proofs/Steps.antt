@@ -13,7 +13,8 @@ use Rattle.base.specs.Cases.{Case, first_of}
 use Rattle.table.specs.Field.{State, Known, End, Size, Incarnation, LiveCount, StableCount, Receiver, desk, word, same}
 use Rattle.table.specs.Change.{put, put_part, clear_places, put_states}
 use Rattle.table.specs.Layout.{incarnations}
-use Rattle.table.specs.Numbering.{record_of, present_given, number_from_lem, numbers_put}
+use Rattle.table.specs.Numbering.{record_of}
+use Rattle.table.proofs.Numbering.{present_given, number_from_lem, numbers_put}
 use Rattle.rules.specs.Limits.{Limits, last_incarnation}
 use Rattle.rules.specs.Form.{state_held, state_released, state_dropped, state_published, for_desk, state_ok, in_form}
 use Rattle.rules.specs.Shared.{newest_place, logged_to, causes_in, causes, placed, entered, restarted, start_anew, removed}

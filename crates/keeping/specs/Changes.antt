@@ -8,7 +8,7 @@ use Rattle.base.specs.Choice.{◌<?◌, cond_ind}
 use Rattle.base.specs.Ranges.{allb}
 use Rattle.table.specs.Field.{Field, State, Known, End, Size, Gap, Served, Degree, LiveCount, StableCount, Flag, PairIncarnation, PairNumber, place_head, word, same}
 use Rattle.table.specs.Change.{put, put_ind, put_same, put_other, put_part, part_ind}
-use Rattle.table.specs.Numbering.{numbers_put}
+use Rattle.table.proofs.Numbering.{numbers_put}
 use Rattle.rules.specs.Limits.{Limits, last_gap, last_served}
 use Rattle.rules.specs.Form.{zeros, vector_ok, highest, row_ok, head_zeros, in_form}
 use Rattle.rules.specs.Shared.{newest_place, logged, logged_to, checkpointed, forced, capped}

@@ -10,7 +10,8 @@ use Rattle.base.specs.Cases.{all_of, passed}
 use Rattle.table.specs.Field.{Field, State, OfHead, OfController, Known, End, OfPlace, OfMessage, Size, Degree, Incarnation, LiveCount, StableCount, PlaceIncarnation, PlaceNumber, Cause, Flag, MessageState, Sender, Receiver, SendingIncarnation, SendingNumber, PairIncarnation, PairNumber, MessagePairIncarnation, MessagePairNumber, Gap, Served, desk, word, spare_from, spare_again, word_of, same, same_true, same_refl}
 use Rattle.table.specs.Change.{differs, put, put_other, put_part}
 use Rattle.table.specs.Layout.{controllers, incarnations, head_words, controller_words, place_words, message_words}
-use Rattle.table.specs.Numbering.{number_of, used, last_given, numbering, Numbered, numbers_kept}
+use Rattle.table.specs.Numbering.{number_of, used, last_given, numbering, Numbered}
+use Rattle.table.proofs.Numbering.{numbers_kept}
 use Rattle.rules.specs.Limits.{Limits, last_incarnation, last_gap, last_served}
 use Rattle.rules.specs.Form.{state_ok, zeros, vector_ok, controller_ok, highest, row_ok, place_ok, message_ok, head_zeros, head_ok, in_form}
 use Rattle.laws.specs.Facts.{form}

@@ -11,9 +11,12 @@ use Rattle.base.specs.Ranges.{anyb, first, anyb_same, first_same}
 use Rattle.base.specs.Lists.{tab_same}
 use Rattle.table.specs.Field.{State, Known, End, OfPlace, Gap, Incarnation, LiveCount, StableCount, PlaceIncarnation, PlaceNumber, Cause, Flag, MessageState, Sender, Receiver, SendingNumber, same, desk}
 use Rattle.table.specs.Change.{put, put_same}
-use Rattle.table.specs.Layout.{controllers, incarnations, places, messages, valid_pair, valid_message_pair}
-use Rattle.table.specs.Words.{Agree, agree_put, agree_put_to, agree_value, agree_part_to, agree_values, agree_clear_to, agree_cond, agree_states}
-use Rattle.table.specs.Numbering.{number_of, message_of, number_same, used_agree, message_agree, posted_agree}
+use Rattle.table.specs.Layout.{controllers, incarnations, places, messages}
+use Rattle.table.proofs.Positions.{valid_pair, valid_message_pair}
+use Rattle.table.specs.Words.{Agree}
+use Rattle.table.proofs.Words.{agree_put, agree_put_to, agree_value, agree_part_to, agree_values, agree_clear_to, agree_cond, agree_states}
+use Rattle.table.specs.Numbering.{number_of, message_of}
+use Rattle.table.proofs.Numbering.{number_same, used_agree, message_agree, posted_agree}
 use Rattle.rules.specs.Limits.{Limits}
 use Rattle.rules.specs.Vector.{Pair, Vector, pair, no_pair, incarnation, number, empty, pair_of, place_vector, message_vector, known_stable, filter_pair, filtered, condemned_pair, condemned, condemning}
 use Rattle.rules.specs.Form.{state_held, state_released, state_delivered, state_dropped}

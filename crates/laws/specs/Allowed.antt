@@ -6,7 +6,8 @@ use Rattle.base.specs.Choice.{◌==◌, or_left, or_right}
 use Rattle.base.specs.Cases.{first_of, cleared}
 use Rattle.table.specs.Field.{State, End, Size, Incarnation, LiveCount, StableCount, MessageState}
 use Rattle.table.specs.Layout.{controllers}
-use Rattle.table.specs.Numbering.{number_of, used, number_from_lem}
+use Rattle.table.specs.Numbering.{number_of, used}
+use Rattle.table.proofs.Numbering.{number_from_lem}
 use Rattle.rules.specs.Limits.{Limits, last_incarnation, last_gap}
 use Rattle.rules.specs.Form.{state_held}
 use Rattle.rules.specs.Ledger.{ledger_ok}

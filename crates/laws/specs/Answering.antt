@@ -4,7 +4,8 @@ use Rattle.std.proofs.Common.{sym, ap, ◌∙◌, arith, eq-eqb, ne_eqb}
 use Rattle.base.specs.Cases.{Case, first_of}
 use Rattle.table.specs.Field.{State}
 use Rattle.table.specs.Layout.{table_words}
-use Rattle.table.specs.Words.{state, words, words_state}
+use Rattle.table.specs.Words.{state, words}
+use Rattle.table.proofs.Words.{words_state}
 use Rattle.rules.specs.Limits.{house}
 use Rattle.rules.specs.Refusal.{LENGTH, FORM}
 use Rattle.rules.specs.Form.{in_form}

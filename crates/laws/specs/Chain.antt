@@ -8,8 +8,10 @@ use Rattle.base.specs.Cases.{first_of}
 use Rattle.table.specs.Field.{Field, State, OfHead, OfController, Known, End, OfPlace, OfMessage, Size, Incarnation, LiveCount, StableCount, Flag, Sender, Receiver, SendingNumber, PairIncarnation, PairNumber, MessagePairIncarnation, MessagePairNumber, same, word, message_head}
 use Rattle.table.specs.Change.{put, put_ind, put_same, put_part, put_states, states_ind}
 use Rattle.table.specs.Layout.{controllers, places, messages}
-use Rattle.table.specs.Words.{state, words, agree_words}
-use Rattle.table.specs.Numbering.{number_of, last_live, used, numbering, numbers_kept, number_same, used_agree}
+use Rattle.table.specs.Words.{state, words}
+use Rattle.table.proofs.Words.{agree_words}
+use Rattle.table.specs.Numbering.{number_of, last_live, used, numbering}
+use Rattle.table.proofs.Numbering.{numbers_kept, number_same, used_agree}
 use Rattle.rules.specs.Limits.{house, last_incarnation, last_number}
 use Rattle.rules.specs.Vector.{Vector, pair, place_vector, message_vector}
 use Rattle.rules.specs.Form.{state_released}

@@ -10,7 +10,8 @@ use Rattle.base.specs.Ranges.{anyb_at, first, first_at, first_none, first_hit, f
 use Rattle.base.specs.Cases.{all_of, first_of, passed}
 use Rattle.table.specs.Field.{State, Size, Served, MessageState, Receiver}
 use Rattle.table.specs.Change.{put}
-use Rattle.table.specs.Numbering.{used, record_of, message_of, record_of_message}
+use Rattle.table.specs.Numbering.{used, record_of, message_of}
+use Rattle.table.proofs.Numbering.{record_of_message}
 use Rattle.rules.specs.Limits.{Limits, house}
 use Rattle.rules.specs.Form.{state_released, in_form}
 use Rattle.rules.specs.Steps.{After, after, refusing, prospect, deliver, step_deliver}

@@ -12,7 +12,8 @@ use Rattle.base.specs.Lists.{get_d_tab}
 use Rattle.base.specs.Cases.{passed, failed}
 use Rattle.table.specs.Field.{State, OfHead, OfController, OfPlace, Known, End, OfMessage, Size, Degree, Incarnation, LiveCount, StableCount, PlaceIncarnation, PlaceNumber, Cause, Flag, MessageState, Sender, Receiver, SendingIncarnation, SendingNumber, MessagePairIncarnation, Discarded, Gap, Served, word, spare_from, spare_again}
 use Rattle.table.specs.Layout.{controllers, incarnations, head_words, controller_words, place_words, message_words}
-use Rattle.table.specs.Numbering.{number_of, last_live, used, last_given, number_from_lem, number_fresh}
+use Rattle.table.specs.Numbering.{number_of, last_live, used, last_given}
+use Rattle.table.proofs.Numbering.{number_from_lem, number_fresh}
 use Rattle.rules.specs.Limits.{Limits, house, last_incarnation, last_gap, last_served}
 use Rattle.rules.specs.Vector.{Pair, Vector, incarnation, number, pair_of, place_vector, message_vector}
 use Rattle.rules.specs.Form.{state_released, for_desk, state_ok, zeros, pair_ok, vector_ok, controller_ok, highest, row_ok, place_ok, message_ok, head_zeros, head_ok, in_form}

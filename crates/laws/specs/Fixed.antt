@@ -3,7 +3,8 @@ use Rattle.std.specs.Prelude.{◌≡◌, refl, Bool, true, false, ◌&&◌, List
 use Rattle.std.proofs.Common.{sym, ap, ◌∙◌, true≢false, le-ltb}
 use Rattle.base.specs.Choice.{◌<?◌, and_right}
 use Rattle.table.specs.Field.{Field, State, OfHead, OfController, OfPlace, OfMessage, Known, End, MessageState, word, message_head}
-use Rattle.table.specs.Numbering.{numbering, Numbered, numbers_kept}
+use Rattle.table.specs.Numbering.{numbering, Numbered}
+use Rattle.table.proofs.Numbering.{numbers_kept}
 use Rattle.rules.specs.Limits.{Limits}
 use Rattle.rules.specs.Step.{step_on}
 use Rattle.rules.specs.declared.Command.{Command}

@@ -8,7 +8,8 @@ use Rattle.base.specs.Choice.{◌==◌, and_left, and_right, cond_ind}
 use Rattle.base.specs.Ranges.{anyb_clear, first_le, first_before, first_hit, first_some}
 use Rattle.table.specs.Field.{State, End, LiveCount, Flag}
 use Rattle.table.specs.Layout.{controllers}
-use Rattle.table.specs.Numbering.{number_of, number_from_lem}
+use Rattle.table.specs.Numbering.{number_of}
+use Rattle.table.proofs.Numbering.{number_from_lem}
 use Rattle.rules.specs.Vector.{Pair, Vector, incarnation, number, empty, pair_of, place_vector, condemned_pair, condemned, condemning, conflict_pair, conflict}
 use Rattle.rules.specs.Shared.{latest_flagged}
 use Rattle.rules.specs.Steps.{lowest_condemned}

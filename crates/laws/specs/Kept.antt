@@ -2,7 +2,8 @@
 use Rattle.std.specs.Prelude.{◌≡◌, List, ℕ, ◌-◌}
 use Rattle.std.proofs.Common.{arith}
 use Rattle.table.specs.Field.{State}
-use Rattle.table.specs.Words.{state, words, Agree, agree_words, called}
+use Rattle.table.specs.Words.{state, words, Agree}
+use Rattle.table.proofs.Words.{agree_words, called}
 use Rattle.rules.specs.Shared.{capped, start_anew, removed}
 use Rattle.rules.specs.Steps.{rolled_back}
 use Rattle.laws.specs.Agree.{agree_capped, agree_causes, agree_logged_to, agree_start_anew}

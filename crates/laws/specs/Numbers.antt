@@ -4,7 +4,8 @@ use Rattle.std.proofs.Common.{arith, ne_eqb}
 use Rattle.base.specs.Choice.{◌<?◌, cond_ind}
 use Rattle.table.specs.Field.{State, Known, End, OfPlace, Size, Discarded, Served, Incarnation, LiveCount, StableCount, Flag, MessageState, word}
 use Rattle.table.specs.Layout.{places}
-use Rattle.table.specs.Numbering.{number_of, last_live, Numbered, numbers_refl, numbers_put, numbers_part, numbers_clear, numbers_states, numbers_trans, number_from_lem, number_fresh}
+use Rattle.table.specs.Numbering.{number_of, last_live, Numbered}
+use Rattle.table.proofs.Numbering.{numbers_refl, numbers_put, numbers_part, numbers_clear, numbers_states, numbers_trans, number_from_lem, number_fresh}
 use Rattle.rules.specs.Limits.{Limits, house, last_number}
 use Rattle.rules.specs.Vector.{Vector}
 use Rattle.rules.specs.Shared.{logged, logged_to, checkpointed, forced, capped, causes_in, causes, placed, entered, restarted}

@@ -7,7 +7,8 @@ use Rattle.std.proofs.Math.Bool.{true, false, cond}
 use borrow.Author.Tests.{leb-true, leb-false, not-true, not-false}
 use Rattle.base.specs.Choice.{◌==◌, ◌≤?◌, cond_ind}
 use Rattle.table.specs.Field.{State, OfMessage, Degree, MessageState, Sender, Receiver, Payload, desk, message_head}
-use Rattle.table.specs.Words.{Agree, agree_put_to, agree_values}
+use Rattle.table.specs.Words.{Agree}
+use Rattle.table.proofs.Words.{agree_put_to, agree_values}
 use Rattle.rules.specs.Limits.{Limits}
 use Rattle.rules.specs.Refusal.{LEDGER_USED_UP}
 use Rattle.rules.specs.Vector.{Vector, message_vector, flat, filtered, mask}

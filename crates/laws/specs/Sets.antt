@@ -11,7 +11,8 @@ use Rattle.base.specs.Splice.{splice, length_splice}
 use Rattle.table.specs.Field.{Field, State, OfMessage, Known, MessageState, Sender, Receiver, Payload, MessagePairIncarnation, MessagePairNumber, message_head, desk, region, word, owner}
 use Rattle.table.specs.Change.{put_same, put_other, part_ind}
 use Rattle.table.specs.Layout.{controllers}
-use Rattle.table.specs.Numbering.{used, Numbered, numbering, numbers_kept, numbering_vector, record_one}
+use Rattle.table.specs.Numbering.{used, Numbered, numbering}
+use Rattle.table.proofs.Numbering.{numbers_kept, numbering_vector, record_one}
 use Rattle.rules.specs.Limits.{Limits}
 use Rattle.rules.specs.Vector.{Vector, no_pair, incarnation, number, pair_of, message_vector, flat, known_stable, filter_pair, filtered}
 use Rattle.rules.specs.Form.{state_held, state_released, state_published, for_desk}

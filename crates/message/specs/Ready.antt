@@ -6,7 +6,8 @@ use Rattle.base.specs.Cases.{first_of}
 use Rattle.table.specs.Field.{State, LiveCount}
 use Rattle.table.specs.Layout.{messages, table_words}
 use Rattle.table.specs.Words.{state}
-use Rattle.table.specs.Numbering.{used, last_given, record_of, given_le}
+use Rattle.table.specs.Numbering.{used, last_given, record_of}
+use Rattle.table.proofs.Numbering.{given_le}
 use Rattle.rules.specs.Limits.{house}
 use Rattle.rules.specs.Vector.{Vector, place_vector, message_vector}
 use Rattle.rules.specs.Form.{state_released}

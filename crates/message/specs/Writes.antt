@@ -4,8 +4,10 @@ use Rattle.std.proofs.Common.{ap, arith}
 use Rattle.table.specs.Field.{State, OfMessage, SentCount, LiveCount, PlaceIncarnation, PlaceNumber}
 use Rattle.table.specs.Change.{put, put_part}
 use Rattle.table.specs.Layout.{messages, message_words, table_words, position}
-use Rattle.table.specs.Words.{state, words, words_state, fits_message, lent_part}
-use Rattle.table.specs.Numbering.{used, last_given, next_message, posted_words}
+use Rattle.table.specs.Words.{state, words}
+use Rattle.table.proofs.Words.{words_state, fits_message, lent_part}
+use Rattle.table.specs.Numbering.{used, last_given, next_message}
+use Rattle.table.proofs.Numbering.{posted_words}
 use Rattle.rules.specs.Vector.{Vector, place_vector, filtered}
 use Rattle.rules.specs.Form.{state_held}
 use Rattle.rules.specs.Shared.{newest_place}

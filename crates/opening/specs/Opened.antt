@@ -12,7 +12,8 @@ use Rattle.base.specs.Cases.{first_of, cleared}
 use Rattle.table.specs.Field.{Field, State, OfHead, OfController, Known, End, OfPlace, OfMessage, Size, Served, word, same}
 use Rattle.table.specs.Change.{put, put_ind, put_part, part_ind}
 use Rattle.table.specs.Layout.{controllers, controller_words, place_words, table_words, Valid, position}
-use Rattle.table.specs.Words.{state, words, words_of, words_state, words_same, Agree, agree_words, agree_put, agree_part, lent_part, fits_controller, called, then_put, then_part}
+use Rattle.table.specs.Words.{state, words, Agree}
+use Rattle.table.proofs.Words.{words_of, words_state, words_same, agree_words, agree_put, agree_part, lent_part, fits_controller, called, then_put, then_part}
 use Rattle.rules.specs.Limits.{house}
 use Rattle.rules.specs.Vector.{Pair, Vector, pair, no_pair}
 use Rattle.rules.specs.Ledger.{ledger_words, blank_ledger}

@@ -2,7 +2,7 @@
 -- dispatcher as there are message records leave only those whose receiver has no place left.
 use Rattle.std.specs.Prelude.{◌≡◌, true, List, ◌++◌, ◌≢◌, ℕ, zero, suc, ◌<◌}
 use Rattle.std.proofs.Common.{sym, ◌∙◌, subst, ap₂, arith}
-use Rattle.table.specs.Numbering.{present_pos}
+use Rattle.table.proofs.Numbering.{present_pos}
 use Rattle.rules.specs.Refusal.{PLACES_USED_UP}
 use Rattle.rules.specs.Step.{Call, asks}
 use Rattle.rules.specs.declared.Answer.TheVariants.{Refused}
@@ -16,7 +16,7 @@ use Rattle.fairness.proofs.Drained.{drains_all}
 use Rattle.model.proofs.Consequences.{sending_begun}
 use Rattle.model.proofs.Tests.{eq?}
 use Rattle.image.specs.Reads.{present_sent}
-use Rattle.progress.specs.Answers.{released_deliverable}
+use Rattle.progress.proofs.Answers.{released_deliverable}
 use Rattle.demand.specs.Demanded.{table_inv}
 use Rattle.paper.specs.Ready.{Ready, ready}
 use Rattle.paper.specs.Whenever.{unhindered, receiver_in_lem}

@@ -4,7 +4,8 @@ use Rattle.std.specs.Prelude.{◌≡◌, refl, true, List, [], ◌∷◌, ◌++�
 use Rattle.std.proofs.Common.{sym, ◌∙◌, ap, subst, append_assoc, inl, arith, eq-eqb, ne_eqb}
 use Rattle.base.specs.Choice.{◌==◌, cond_ind}
 use Rattle.table.specs.Words.{state}
-use Rattle.table.specs.Numbering.{used, record_of, present_pos, given_present}
+use Rattle.table.specs.Numbering.{used, record_of}
+use Rattle.table.proofs.Numbering.{present_pos, given_present}
 use Rattle.rules.specs.Limits.{house}
 use Rattle.rules.specs.Form.{state_released}
 use Rattle.rules.specs.Step.{Call, asks, step_call}
@@ -21,7 +22,7 @@ use Rattle.calls.specs.Sets.{runs_append}
 use Rattle.calls.specs.Made.{NotDone}
 use Rattle.image.specs.Reads.{sent_is, present_sent}
 use Rattle.progress.proofs.Tables.{checkpoint_leaves, tell_leaves, state_same}
-use Rattle.progress.specs.Answers.{deliverable_is, released_deliverable}
+use Rattle.progress.proofs.Answers.{deliverable_is, released_deliverable}
 use Rattle.demand.specs.Demanded.{table_inv}
 use Rattle.paper.specs.Ready.{Ready, state_of_message, ready_next, ready, sent_there}
 use Rattle.paper.specs.Spreading.{grown_next}

@@ -27,7 +27,7 @@ use Rattle.model.proofs.Stability.{lemma_A_1_always}
 use Rattle.base.specs.Ranges.{count}
 use Rattle.image.proofs.Tables.{model_of}
 use Rattle.demand.specs.Demanded.{table_inv, follows, demand_3}
-use Rattle.demand.specs.Beyond.{lost_unstable}
+use Rattle.demand.proofs.Beyond.{lost_unstable}
 use Rattle.demand.specs.Claims.{at_most_K_named}
 use Rattle.paper.specs.Ready.{model_in, ready}
 use Rattle.paper.specs.Crashes.{can_hear, live_sure}

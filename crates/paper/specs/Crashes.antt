@@ -34,7 +34,8 @@ use Rattle.image.proofs.Tables.{model_of, size_of, opening_done}
 use Rattle.demand.specs.Demanded.{fed_refused, outcome, table_inv, follows, demand_3}
 use Rattle.demand.specs.InForm.{sound_after}
 use Rattle.laws.specs.Facts.{form, controller_form}
-use Rattle.progress.specs.Hears.{Hears, hear_answers}
+use Rattle.progress.specs.Hears.{Hears}
+use Rattle.progress.proofs.Hears.{hear_answers}
 
 -- what is heard by one account is heard by the other
 heard_in : {f f' : ℕ → ℕ → ℕ → Bool} (c i : ℕ) → f ≡ f' → Is (f c c i) → Is (f' c c i)

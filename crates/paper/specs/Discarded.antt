@@ -6,7 +6,8 @@ use Rattle.base.specs.Choice.{◌<?◌, cond_ind, le?}
 use Rattle.table.specs.Field.{State, MessageState, Sender}
 use Rattle.table.specs.Layout.{controllers}
 use Rattle.table.specs.Words.{state}
-use Rattle.table.specs.Numbering.{used, record_of, present_pos}
+use Rattle.table.specs.Numbering.{used, record_of}
+use Rattle.table.proofs.Numbering.{present_pos}
 use Rattle.rules.specs.Refusal.{STATE}
 use Rattle.rules.specs.Form.{state_held}
 use Rattle.rules.specs.Step.{step, Call, asks, step_call}
@@ -31,7 +32,7 @@ use Rattle.image.specs.Outcome.{Outcome}
 use Rattle.image.proofs.Tables.{model_of, opening_done}
 use Rattle.progress.specs.Held.{Spared}
 use Rattle.progress.proofs.Tables.{same_record, held_before, there_served}
-use Rattle.progress.specs.Answers.{release_refused}
+use Rattle.progress.proofs.Answers.{release_refused}
 use Rattle.demand.specs.Demanded.{table_inv, table_outcome, follows}
 use Rattle.keeping.proofs.Unrefused.{Sound, sound_opened}
 use Rattle.demand.specs.InForm.{sound_next, sound_after}

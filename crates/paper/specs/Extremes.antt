@@ -6,7 +6,7 @@ use Rattle.std.proofs.Common.{◌∙◌, ap, subst, append_assoc, arith, lt-ltb,
 use Rattle.base.specs.Choice.{◌<?◌, cond_ind, le?}
 use Rattle.table.specs.Field.{desk}
 use Rattle.table.specs.Layout.{controllers}
-use Rattle.table.specs.Numbering.{present_pos}
+use Rattle.table.proofs.Numbering.{present_pos}
 use Rattle.rules.specs.Form.{state_held}
 use Rattle.rules.specs.Report.{report}
 use Rattle.rules.specs.Step.{Call, asks, step_call}
@@ -27,9 +27,9 @@ use Rattle.image.specs.Reads.{present_sent}
 use Rattle.image.specs.Outcome as O
 use Rattle.image.specs.Outcome.{Outcome}
 use Rattle.image.proofs.Tables.{opening_done}
-use Rattle.progress.specs.Answers.{release_refused}
+use Rattle.progress.proofs.Answers.{release_refused}
 use Rattle.demand.specs.Demanded.{table_inv, table_outcome, follows, demand_3}
-use Rattle.demand.specs.Beyond.{lost_unstable}
+use Rattle.demand.proofs.Beyond.{lost_unstable}
 use Rattle.demand.specs.Claims.{at_most_K_named}
 use Rattle.paper.specs.Ready.{state_of_message, there_ok, ready}
 use Rattle.model.proofs.Blaming.{restarted_heard}

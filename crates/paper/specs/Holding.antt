@@ -5,7 +5,8 @@ use Rattle.base.specs.Choice.{cond_ind, le?}
 use Rattle.table.specs.Field.{State, Incarnation, LiveCount, MessageState, Sender, SendingIncarnation, SendingNumber}
 use Rattle.table.specs.Layout.{controllers}
 use Rattle.table.specs.Words.{state}
-use Rattle.table.specs.Numbering.{number_of, last_live, used, last_given, record_of, present_pos, given_present, record_one}
+use Rattle.table.specs.Numbering.{number_of, last_live, used, last_given, record_of}
+use Rattle.table.proofs.Numbering.{present_pos, given_present, record_one}
 use Rattle.rules.specs.Form.{state_held}
 use Rattle.rules.specs.Step.{step, Call, asks, step_call}
 use Rattle.rules.specs.declared.Answer.{Answer}

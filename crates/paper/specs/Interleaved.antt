@@ -7,7 +7,8 @@ use Rattle.std.proofs.Math.Bool.{false, cond}
 use Rattle.base.specs.Choice.{◌==◌, ◌≤?◌, cond_ind, le?}
 use Rattle.table.specs.Field.{desk}
 use Rattle.table.specs.Words.{state}
-use Rattle.table.specs.Numbering.{used, record_of, present_pos, given_present}
+use Rattle.table.specs.Numbering.{used, record_of}
+use Rattle.table.proofs.Numbering.{present_pos, given_present}
 use Rattle.rules.specs.Limits.{last_entry}
 use Rattle.rules.specs.Refusal.{LEDGER_USED_UP}
 use Rattle.rules.specs.Form.{state_held}
@@ -38,10 +39,10 @@ use Rattle.image.specs.Reads.{sent_is, present_sent, to_is}
 use Rattle.image.specs.Outcome as O
 use Rattle.image.specs.Outcome.{Outcome}
 use Rattle.image.proofs.Tables.{model_of, size_of}
-use Rattle.progress.specs.Answers.{release_answers}
+use Rattle.progress.proofs.Answers.{release_answers}
 use Rattle.testers.specs.Ledgers.{count_ledger}
 use Rattle.demand.specs.Demanded.{table_inv, table_outcome, follows}
-use Rattle.demand.specs.Beyond.{ledger_cites}
+use Rattle.demand.proofs.Beyond.{ledger_cites}
 use Rattle.paper.specs.Ready.{Ready, model_in, state_of_message, there_ok, ready_kept, done_outcome, ready}
 use Rattle.paper.specs.Holding.{same_sending}
 use Rattle.paper.specs.Spreading.{Grown, grown_self, grown_trans, ReadyFrom, grown_kept, grown_next, first, ready_at, grown_from, grown_after, grown_turned}

@@ -4,7 +4,8 @@ use Rattle.std.proofs.Common.{sym, append-nil, arith}
 use Rattle.std.proofs.Math.Path.{ap, subst}
 use Rattle.table.specs.Field.{MessageState}
 use Rattle.table.specs.Words.{state}
-use Rattle.table.specs.Numbering.{used, record_of, present_pos, given_present}
+use Rattle.table.specs.Numbering.{used, record_of}
+use Rattle.table.proofs.Numbering.{present_pos, given_present}
 use Rattle.rules.specs.Step.{Call, asks, step_call}
 use Rattle.rules.specs.declared.Answer.TheVariants.{Done}
 use Rattle.rules.specs.declared.Command.{Command}

@@ -7,7 +7,8 @@ use Rattle.std.proofs.Math.Logic.{inl, inr}
 use Rattle.table.specs.Field.{State, Receiver, Incarnation, desk}
 use Rattle.table.specs.Layout.{controllers}
 use Rattle.table.specs.Words.{state}
-use Rattle.table.specs.Numbering.{last_live, used, record_of, present_pos, given_present}
+use Rattle.table.specs.Numbering.{last_live, used, record_of}
+use Rattle.table.proofs.Numbering.{present_pos, given_present}
 use Rattle.rules.specs.Limits.{house}
 use Rattle.rules.specs.Form.{state_held, state_released}
 use Rattle.rules.specs.Vector.{message_vector, condemned}
@@ -34,7 +35,7 @@ use Rattle.model.proofs.Paper.{useful_live, theorem_3_message}
 use Rattle.base.specs.Ranges.{count, count_le}
 use Rattle.image.specs.Reads.{sent_is, incarnation_is, live_is, present_sent, to_is}
 use Rattle.image.proofs.Tables.{size_of, opening_done}
-use Rattle.progress.specs.Answers.{checkpoint_answers, tell_answers, record_in, receiver_in, deliverable_is, receiver_below, delivery_drops, dropped_condemned, delivery_goes, release_refused, condemned_there, known_there}
+use Rattle.progress.proofs.Answers.{checkpoint_answers, tell_answers, record_in, receiver_in, deliverable_is, receiver_below, delivery_drops, dropped_condemned, delivery_goes, release_refused, condemned_there, known_there}
 use Rattle.demand.specs.Demanded.{table_inv}
 use Rattle.paper.specs.Ready.{Ready, model_in, state_of_message, there_ok, ready, sent_there}
 use Rattle.paper.specs.Crashes.{heard_loss, live_sure}

@@ -1,1 +1,4 @@
 pub mod Tables
+pub mod Held
+pub mod Hears
+pub mod Answers

@@ -7,8 +7,10 @@ use Rattle.base.specs.Cases.{Case, first_of}
 use Rattle.table.specs.Field.{State, OfMessage, Size, Incarnation, LiveCount, StableCount, Cause, MessageState, Sender, SendingNumber, word, same, message_head, Served}
 use Rattle.table.specs.Layout.{controllers, table_words}
 use Rattle.table.specs.Change.{put, put_part}
-use Rattle.table.specs.Words.{state, Agree, agree_words, words}
-use Rattle.table.specs.Numbering.{number_of, last_live, used, record_of, next_message, posted, none_used, posted_used, posted_new, posted_at, number_same, used_agree, record_agree, message_agree, Numbered, numbers_put}
+use Rattle.table.specs.Words.{state, Agree, words}
+use Rattle.table.proofs.Words.{agree_words}
+use Rattle.table.specs.Numbering.{number_of, last_live, used, record_of, next_message, posted, Numbered}
+use Rattle.table.proofs.Numbering.{none_used, posted_used, posted_new, posted_at, number_same, used_agree, record_agree, message_agree, numbers_put}
 use Rattle.rules.specs.Limits.{Limits, house, last_served}
 use Rattle.rules.specs.Vector.{Vector}
 use Rattle.rules.specs.Refusal.{FORM}
@@ -26,7 +28,8 @@ use Rattle.laws.specs.Answering.{Lent}
 use Rattle.keeping.proofs.Steps.{form_kept}
 use Rattle.image.proofs.Tables.{opening_done}
 use Rattle.progress.specs.Causes.{NoneCauses, none_unsent, none_causes_kept, none_unmoved}
-use Rattle.progress.specs.Held.{Leaves, let_out_lem, undone, KeptHeld, was_held, stays_held}
+use Rattle.progress.specs.Held.{Leaves, let_out_lem, undone, KeptHeld}
+use Rattle.progress.proofs.Held.{was_held, stays_held}
 use Rattle.progress.specs.There.{Stays, there_stays, stays_step}
 use Rattle.progress.specs.Unmoved.{Unmoved, unmoved_put}
 use Rattle.keeping.specs.Changes.{kept_served}

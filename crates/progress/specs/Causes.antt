@@ -8,7 +8,8 @@ use Rattle.base.specs.Choice.{◌==◌, ◌≤?◌, cond_ind, le?}
 use Rattle.base.specs.Cases.{Case, first_of}
 use Rattle.table.specs.Field.{Field, State, End, OfPlace, OfMessage, Size, Incarnation, LiveCount, StableCount, SentCount, Cause, MessageState, Sender, SendingNumber, region, alike, word, same, message_head}
 use Rattle.table.specs.Change.{put, put_same, put_other, put_part, clear_places, put_states}
-use Rattle.table.specs.Numbering.{number_of, used, record_of, next_message, message_of, posted, Numbered, numbers_put, numbers_states, none_used, present_pos, message_of_record, record_of_message, posted_used, posted_new, posted_record, posted_kept, posted_size}
+use Rattle.table.specs.Numbering.{number_of, used, record_of, next_message, message_of, posted, Numbered}
+use Rattle.table.proofs.Numbering.{numbers_put, numbers_states, none_used, present_pos, message_of_record, record_of_message, posted_used, posted_new, posted_record, posted_kept, posted_size}
 use Rattle.rules.specs.Limits.{Limits, last_incarnation}
 use Rattle.rules.specs.Vector.{Vector, pair, message_vector, flat, condemned}
 use Rattle.rules.specs.Form.{state_held, state_released, state_delivered, state_dropped, state_published, in_form}

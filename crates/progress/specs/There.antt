@@ -5,7 +5,8 @@ use Rattle.std.proofs.Common.{arith, ne_eqb}
 use Rattle.base.specs.Choice.{◌==◌, cond_ind}
 use Rattle.base.specs.Cases.{first_of}
 use Rattle.table.specs.Field.{Field, State, OfMessage}
-use Rattle.table.specs.Numbering.{used, record_of, posted, posted_used, posted_record, posted_kept}
+use Rattle.table.specs.Numbering.{used, record_of, posted}
+use Rattle.table.proofs.Numbering.{posted_used, posted_record, posted_kept}
 use Rattle.rules.specs.Limits.{Limits}
 use Rattle.rules.specs.Form.{in_form}
 use Rattle.rules.specs.Steps.{After, AfterBoth, refusing, refusing_both, open_refusals, step_open, sent, send_refusals, step_send}

@@ -7,7 +7,8 @@ use Rattle.base.specs.Choice.{◌==◌, ◌<?◌, cond_ind}
 use Rattle.base.specs.Cases.{Case, first_of}
 use Rattle.table.specs.Field.{Field, State, OfHead, OfController, OfPlace, OfMessage, Known, End, Gap, Degree, Incarnation, LiveCount, StableCount, Cause, Flag, word, word_of, message_head}
 use Rattle.table.specs.Change.{put, put_ind, put_part, part_ind}
-use Rattle.table.specs.Numbering.{numbering, Numbered, numbers_kept}
+use Rattle.table.specs.Numbering.{numbering, Numbered}
+use Rattle.table.proofs.Numbering.{numbers_kept}
 use Rattle.rules.specs.Shared.{logged, logged_to, checkpointed, forced, capped}
 use Rattle.rules.specs.Steps.{After, refusing, step_degree, step_log, step_checkpoint, told, step_tell, noted, step_gap}
 

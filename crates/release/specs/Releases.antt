@@ -8,7 +8,8 @@ use Rattle.base.specs.Choice.{◌==◌, ◌≤?◌}
 use Rattle.table.specs.Field.{State, OfMessage, Degree, MessageState, Sender, Receiver, message_head, desk}
 use Rattle.table.specs.Change.{put, put_part}
 use Rattle.table.specs.Layout.{messages, vector_words, table_words, position}
-use Rattle.table.specs.Words.{state, words, words_state, fits_message, lent_part, then_put}
+use Rattle.table.specs.Words.{state, words}
+use Rattle.table.proofs.Words.{words_state, fits_message, lent_part, then_put}
 use Rattle.table.specs.Numbering.{record_of}
 use Rattle.rules.specs.Limits.{house, last_entry}
 use Rattle.rules.specs.Refusal.{LEDGER_USED_UP}

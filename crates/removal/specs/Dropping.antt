@@ -6,7 +6,8 @@ use Rattle.base.specs.Choice.{◌<?◌, le?}
 use Rattle.table.specs.Field.{State, MessageState, SendingNumber}
 use Rattle.table.specs.Change.{put, put_states}
 use Rattle.table.specs.Layout.{messages, table_words}
-use Rattle.table.specs.Words.{state, words, words_state, words_same, agree_trans, agree_put, agree_words, agree_states, states_kept, states_more, put_again}
+use Rattle.table.specs.Words.{state, words}
+use Rattle.table.proofs.Words.{words_state, words_same, agree_trans, agree_put, agree_words, agree_states, states_kept, states_more, put_again}
 use Rattle.table.specs.Numbering.{number_of, used}
 use Rattle.rules.specs.Form.{state_dropped}
 use Rattle.rules.specs.Shared.{orphaned, held_or_dropped, drop_held}

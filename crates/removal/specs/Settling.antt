@@ -9,8 +9,10 @@ use Rattle.base.specs.Ranges.{anyb, anyb_zero, anyb_step}
 use Rattle.table.specs.Field.{Field, State, LiveCount, Cause, MessageState, Receiver, MessagePairIncarnation, MessagePairNumber, word, owner, message_head, desk}
 use Rattle.table.specs.Change.{put, is_state, put_states, states_ind, states_at}
 use Rattle.table.specs.Layout.{messages, table_words}
-use Rattle.table.specs.Words.{state, words, words_state, words_same, Agree, agree_trans, agree_put, agree_states, agree_words, long_of, states_kept, states_more}
-use Rattle.table.specs.Numbering.{used, record_of, message_of, record_of_message, message_of_record, numbers_states, message_agree}
+use Rattle.table.specs.Words.{state, words, Agree}
+use Rattle.table.proofs.Words.{words_state, words_same, agree_trans, agree_put, agree_states, agree_words, long_of, states_kept, states_more}
+use Rattle.table.specs.Numbering.{used, record_of, message_of}
+use Rattle.table.proofs.Numbering.{record_of_message, message_of_record, numbers_states, message_agree}
 use Rattle.rules.specs.Vector.{Vector, message_vector, condemned_pair, condemned}
 use Rattle.rules.specs.Form.{state_released, state_dropped, for_desk}
 use Rattle.rules.specs.Shared.{causing, caused_in, causes_in, causes, offered_again}

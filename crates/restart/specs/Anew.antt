@@ -3,7 +3,8 @@ use Rattle.std.specs.Prelude.{◌≡◌, refl, List, ℕ, ◌+◌, ◌-◌, ◌�
 use Rattle.std.proofs.Common.{sym, ap, ◌∙◌, subst, arith}
 use Rattle.table.specs.Field.{State, Known, OfPlace, Incarnation, LiveCount, StableCount}
 use Rattle.table.specs.Change.{put, put_part, clear_places}
-use Rattle.table.specs.Words.{state, words, agree_words, called, then_put, then_part}
+use Rattle.table.specs.Words.{state, words}
+use Rattle.table.proofs.Words.{agree_words, called, then_put, then_part}
 use Rattle.table.specs.Numbering.{number_of, last_live}
 use Rattle.rules.specs.Limits.{last_number}
 use Rattle.rules.specs.Vector.{Vector, pair, place_vector, filtered}

@@ -4,8 +4,10 @@ use Rattle.std.proofs.Common.{sym, ap, ◌∙◌, true≢false, arith}
 use Rattle.base.specs.Choice.{◌==◌, ◌<?◌, cond_ind}
 use Rattle.table.specs.Field.{Field, State, Known, OfPlace, Incarnation, LiveCount, StableCount, Flag, SendingNumber, region, word}
 use Rattle.table.specs.Change.{put, put_ind, put_part, part_ind, clear_places, clear_ind}
-use Rattle.table.specs.Words.{state, words, agree_words}
-use Rattle.table.specs.Numbering.{used, numbering, numbers_kept, used_agree}
+use Rattle.table.specs.Words.{state, words}
+use Rattle.table.proofs.Words.{agree_words}
+use Rattle.table.specs.Numbering.{used, numbering}
+use Rattle.table.proofs.Numbering.{numbers_kept, used_agree}
 use Rattle.rules.specs.Shared.{logged, logged_to, checkpointed, forced, capped, placed, entered, restarted}
 use Rattle.laws.specs.Chain.{Starts}
 use Rattle.removal.specs.Dropping.{Sent}

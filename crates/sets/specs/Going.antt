@@ -5,9 +5,12 @@ use Rattle.std.proofs.Math.Path.{ap, subst}
 use Rattle.std.proofs.Math.Bool.{true, cond}
 use Rattle.base.specs.Choice.{◌==◌}
 use Rattle.table.specs.Field.{State, OfMessage, Sender, Receiver, Payload, desk, word}
-use Rattle.table.specs.Layout.{message_words, table_words, valid_message_pair}
-use Rattle.table.specs.Words.{state, words, words_state, length_words, words_same, Agree, agree_words}
-use Rattle.table.specs.Numbering.{used, record_of, used_agree, record_agree}
+use Rattle.table.specs.Layout.{message_words, table_words}
+use Rattle.table.proofs.Positions.{valid_message_pair}
+use Rattle.table.specs.Words.{state, words, Agree}
+use Rattle.table.proofs.Words.{words_state, length_words, words_same, agree_words}
+use Rattle.table.specs.Numbering.{used, record_of}
+use Rattle.table.proofs.Numbering.{used_agree, record_agree}
 use Rattle.rules.specs.Limits.{house, last_entry}
 use Rattle.rules.specs.Vector.{Vector, message_vector}
 use Rattle.rules.specs.Form.{for_desk}

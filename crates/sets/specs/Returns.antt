@@ -9,7 +9,8 @@ use Rattle.base.specs.Ranges.{anyb}
 use Rattle.base.specs.Cases.{first_of}
 use Rattle.table.specs.Field.{State, Degree}
 use Rattle.table.specs.Layout.{table_words}
-use Rattle.table.specs.Words.{state, words, words_state}
+use Rattle.table.specs.Words.{state, words}
+use Rattle.table.proofs.Words.{words_state}
 use Rattle.rules.specs.Limits.{house, last_entry}
 use Rattle.rules.specs.Refusal.{LENGTH, FORM, LEDGER_USED_UP}
 use Rattle.rules.specs.Form.{for_desk, in_form}

@@ -4,14 +4,14 @@ use Rattle.std.proofs.Common.{sym, ap, ◌∙◌, arith, eq-eqb, ltb-true}
 use Rattle.base.specs.Choice.{◌<?◌}
 use Rattle.table.specs.Field.{State, MessageState, Receiver, PairNumber}
 use Rattle.table.specs.Layout.{table_words}
-use Rattle.table.specs.Words.{state, word_at, Agree, long_of, agree_words}
-use Rattle.table.specs.Numbering.{used, record_of, record_agree}
+use Rattle.table.specs.Words.{state, Agree}
+use Rattle.table.proofs.Words.{word_at, long_of, agree_words}
+use Rattle.table.specs.Numbering.{used, record_of}
+use Rattle.table.proofs.Numbering.{record_agree}
 use Rattle.rules.specs.Limits.{house}
-use Rattle.rules.specs.Vector.{place_vector, filtered}
 use Rattle.rules.specs.Form.{state_released}
 use Rattle.rules.specs.Ledger.{ledger_words}
-use Rattle.rules.specs.Shared.{newest_place}
-use Rattle.rules.specs.Steps.{After, beside, interval_begins, chain_full}
+use Rattle.rules.specs.Steps.{beside, chain_full}
 use Rattle.rules.specs.Step.{looks_at_form, written_both, lent}
 use Rattle.rules.specs.declared.Command.{Command}
 use Rattle.listing.specs.Run.{steps, goes}
@@ -19,15 +19,10 @@ use Rattle.laws.specs.Facts.{Form, form, released_lt, house_fits}
 use Rattle.laws.specs.Allowed.{room_left}
 use Rattle.laws.specs.Chain.{chain_form}
 use Rattle.keeping.proofs.StepSame.{Same, same_beside, same_written, same_begins, newest_filtered}
-use Rattle.testers.specs.Sample.{sample_run}
+use Rattle.testers.proofs.Sample.{sample_run}
 use Rattle.testers.proofs.Along.{state_at, Stage}
 use Rattle.testers.proofs.Judged.{sample_at, sample_stage}
-
-abbrev pub echoed : State → ℕ → After
-echoed σ m =
-    let r = record_of σ m in
-    let c = σ (Receiver r) in
-    interval_begins σ c m r (filtered σ c (place_vector σ c (newest_place σ c)))
+use Rattle.testers.specs.Echo.{echoed}
 
 -- it too looks only at words of the table
 echoed_same : (σ τ : State) → Agree σ τ → Form house σ → (m : ℕ) → let r = record_of σ m in r < used σ → σ (MessageState r) ≡ state_released →

@@ -23,7 +23,8 @@ use Rattle.history.specs.History.{History, same_interval, changed_at, changed_at
 use Rattle.history.specs.Demand.{Run, step_in, next, runs, just_opened, FromOpening}
 use Rattle.history.specs.Ceiling.{largest_gap, NeverOff}
 use Rattle.history.specs.Examples.{ListingLine, line, all}
-use Rattle.testers.specs.Sample.{asked, answered, calls, all_look, from_opening, run_answered}
+use Rattle.testers.specs.Sample.{asked, answered, calls, all_look}
+use Rattle.testers.proofs.Sample.{from_opening, run_answered}
 use Rattle.testers.proofs.Along.{first_steps, line_at, Answered, head_answered, tail_answered, answer_at, history_at}
 
 -- After the opening of a house of three, all with the degree 1: a crash that replays one interval ..

@@ -7,7 +7,8 @@ use native.Mathlib.Omega.{arith}
 use Rattle.base.specs.Choice.{◌<?◌}
 use Rattle.table.specs.Field.{SentCount, PairNumber, desk}
 use Rattle.table.specs.Layout.{table_words}
-use Rattle.table.specs.Words.{state, word_at}
+use Rattle.table.specs.Words.{state}
+use Rattle.table.proofs.Words.{word_at}
 use Rattle.rules.specs.Limits.{house}
 use Rattle.rules.specs.Ledger.{ledger_words}
 use Rattle.rules.specs.Report.{report}
@@ -19,7 +20,8 @@ use Rattle.history.specs.Citations.{Citation, no_citations, sent_with, let_out_t
 use Rattle.history.specs.Demand.{Run, step_in, just_opened}
 use Rattle.history.specs.Examples.{all, all_cited}
 use Rattle.listing.specs.Run.{steps, opened_form, goes}
-use Rattle.testers.specs.Sample.{sample, asked, calls, sample_run, opened_three, sample_answers}
+use Rattle.testers.specs.Sample.{sample, asked, calls}
+use Rattle.testers.proofs.Sample.{sample_run, opened_three, sample_answers}
 use Rattle.testers.proofs.Along.{first_steps, line_at, answer_at, history_at, citations_after, state_at, StageAt, stage_step, stage_at}
 
 abbrev pub list : List Call

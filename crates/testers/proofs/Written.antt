@@ -3,9 +3,11 @@ use Rattle.std.specs.Prelude.{◌≡◌, refl, ℕ}
 use Rattle.std.proofs.Common.{ap, ◌∙◌}
 use mathlib.Core.List.{List, [], ◌∷◌, ◌++◌, map, flatten}
 use Rattle.std.proofs.lemmas.List.{length-replicate, get_or-replicate}
-use Rattle.table.specs.Layout.{table_words, position, position_lt}
+use Rattle.table.specs.Layout.{table_words, position}
+use Rattle.table.proofs.Positions.{position_lt}
 use Rattle.table.specs.Change.{blank}
-use Rattle.table.specs.Words.{words, words_of}
+use Rattle.table.specs.Words.{words}
+use Rattle.table.proofs.Words.{words_of}
 use Rattle.rules.specs.Limits.{house}
 use Rattle.rules.specs.Ledger.{ledger_words}
 use Rattle.rules.specs.Bytes.{bytes}
@@ -17,7 +19,8 @@ use Rattle.lines.specs.declared.Parsed.TheVariants.{Asks}
 use Rattle.lines.specs.Program.{lines_of, reply_to, reply, replies, first_table, first_ledger, house_writes}
 use Rattle.listing.specs.ListingA as L
 use Rattle.listing.specs.ListingA.{listing_a, listing_A}
-use Rattle.testers.specs.Sample.{calls, answers_from, answers_words}
+use Rattle.testers.specs.Sample.{calls, answers_from}
+use Rattle.testers.proofs.Sample.{answers_words}
 
 -- lines that ask for these steps
 data Asking : List (List ℕ) → List Command → Type 0 where

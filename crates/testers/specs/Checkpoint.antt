@@ -7,7 +7,8 @@ use Rattle.base.specs.Choice.{◌==◌, ◌<?◌, cond_ind}
 use Rattle.base.specs.Cases.{first_of}
 use Rattle.table.specs.Field.{State, Size, LiveCount, StableCount, Flag, same}
 use Rattle.table.specs.Change.{put, put_same}
-use Rattle.table.specs.Words.{Agree, put_again}
+use Rattle.table.specs.Words.{Agree}
+use Rattle.table.proofs.Words.{put_again}
 use Rattle.rules.specs.Limits.{house}
 use Rattle.rules.specs.Form.{in_form}
 use Rattle.rules.specs.Shared.{newest_place, logged, logged_to, checkpointed}

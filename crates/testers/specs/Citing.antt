@@ -11,8 +11,10 @@ use Rattle.base.specs.Choice.{◌==◌, cond_ind, le?}
 use Rattle.base.specs.Cases.{Case, first_of}
 use Rattle.table.specs.Field.{Field, State, OfMessage, Receiver, Payload, MessageState, word, desk, Served}
 use Rattle.table.specs.Layout.{messages, message_words, table_words}
-use Rattle.table.specs.Words.{state, words, Agree, agree_words}
-use Rattle.table.specs.Numbering.{used, next_message, record_of, posted, posted_used, posted_new, posted_record, posted_at, posted_kept, posted_missing, none_used, used_agree, record_agree}
+use Rattle.table.specs.Words.{state, words, Agree}
+use Rattle.table.proofs.Words.{agree_words}
+use Rattle.table.specs.Numbering.{used, next_message, record_of, posted}
+use Rattle.table.proofs.Numbering.{posted_used, posted_new, posted_record, posted_at, posted_kept, posted_missing, none_used, used_agree, record_agree}
 use Rattle.rules.specs.Limits.{house, last_entry}
 use Rattle.rules.specs.Ledger.{count_of, entry_of, appended, blank_ledger}
 use Rattle.rules.specs.Refusal.{LENGTH, FORM, LEDGER_USED_UP}

@@ -7,3 +7,4 @@ pub mod WrongMachines
 pub mod NoneLost
 pub mod Ledgers
 pub mod Citing
+pub mod Echo

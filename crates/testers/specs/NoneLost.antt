@@ -5,7 +5,8 @@ use Rattle.std.proofs.Common.{sym, ap, ◌∙◌, true≢false, arith, eq-eqb, n
 use Rattle.base.specs.Choice.{◌==◌}
 use Rattle.table.specs.Field.{Field, State, OfMessage, MessageState}
 use Rattle.table.specs.Change.{is_state, is_state_lem}
-use Rattle.table.specs.Numbering.{used, posted, posted_ind}
+use Rattle.table.specs.Numbering.{used, posted}
+use Rattle.table.proofs.Numbering.{posted_ind}
 use Rattle.rules.specs.Limits.{Limits}
 use Rattle.rules.specs.Form.{state_lost}
 use Rattle.rules.specs.Steps.{open_house, message_record, sent}

@@ -1,5 +1,5 @@
 -- Each arm leaves what the definition has for its prospect (comes).
-use Rattle.table.specs.Words.{words_state}
+use Rattle.table.proofs.Words.{words_state}
 use Rattle.rules.specs.Steps.{comes_of}
 use Rattle.std.proofs.Common.{sym, ap, ◌∙◌}
 use Rattle.rules.specs.Step.{out}

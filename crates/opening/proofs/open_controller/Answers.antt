@@ -1,5 +1,5 @@
 -- The controller's words, its own known word and its place 0 are written one after the other (begun_at).
-use Rattle.table.specs.Words.{long_of}
+use Rattle.table.proofs.Words.{long_of}
 use Rattle.opening.specs.Opened.{controller_lent, begun_at}
 use Rattle.std.proofs.Common.{refl, rules}
 use Rattle.opening.proofs.open_controller.Goals as goal

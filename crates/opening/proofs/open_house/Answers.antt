@@ -1,4 +1,4 @@
-use Rattle.table.specs.Words.{long_of}
+use Rattle.table.proofs.Words.{long_of}
 use Rattle.interval.specs.LentPlaces.{zero_words}
 use Rattle.opening.specs.Opened.{opened_none, opened_next, opened_all}
 use Rattle.std.proofs.Common.{rules, ap, ◌∙◌, ◌-◌, arith}

@@ -1,5 +1,5 @@
 -- The step's values come back in the part that was lent, and its number is put before them (step_done).
-use Rattle.run.specs.Running.{step_done}
+use Rattle.run.proofs.Running.{step_done}
 use Rattle.run.proofs.answer_step.Goals as goal
 
 pub returns : goal.returns

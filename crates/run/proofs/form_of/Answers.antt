@@ -1,5 +1,5 @@
 -- The two cases of the definition (form_short, form_long).
-use Rattle.run.specs.Running.{form_short, form_long}
+use Rattle.run.proofs.Running.{form_short, form_long}
 use Rattle.std.proofs.Common.{sym, ◌∙◌}
 use Rattle.run.proofs.form_of.Goals as goal
 

@@ -1,6 +1,6 @@
 -- The letter is known, so the step is taken, and its answer's words come back behind those before them (step_answered).
 use Rattle.run.specs.Run.{known}
-use Rattle.run.specs.Running.{step_answered}
+use Rattle.run.proofs.Running.{step_answered}
 use Rattle.std.proofs.Common.{true≢false, sym, ap, ◌∙◌}
 use Rattle.run.proofs.run_step.Goals as goal
 

@@ -1,6 +1,6 @@
 -- A table of another length is refused (too_short) and stays; else what is known of the form is carried on (form_long).
 use Rattle.laws.specs.Answering.{too_short}
-use Rattle.run.specs.Running.{form_short, form_long}
+use Rattle.run.proofs.Running.{form_short, form_long}
 use Rattle.std.proofs.Common.{sym, ◌∙◌}
 use Rattle.run.proofs.step_known.Goals as goal
 

@@ -1,5 +1,5 @@
 -- The test of the code is that of the definition.
-use Rattle.table.specs.Numbering.{record_found, record_missing}
+use Rattle.table.proofs.Numbering.{record_found, record_missing}
 use Rattle.base.specs.Choice.{and_left}
 use borrow.Author.Tests.{leb-true}
 use Rattle.table.proofs.find_record.Goals as goal

@@ -1,5 +1,5 @@
 -- As sizes the word of c and k have room, and they make the number (number_tested).
-use Rattle.table.specs.Numbering.{number_tested}
+use Rattle.table.proofs.Numbering.{number_tested}
 use Rattle.table.proofs.is_number_of.Goals as goal
 
 pub returns : goal.returns

@@ -1,6 +1,6 @@
 -- The word of c and k make the number (number_read), which fits, as is asked.
 use Rattle.std.proofs.Common.{arith}
-use Rattle.table.specs.Numbering.{number_read}
+use Rattle.table.proofs.Numbering.{number_read}
 use Rattle.table.specs.Words.{state}
 use Rattle.table.proofs.number_of.Goals as goal
 

@@ -1,6 +1,6 @@
 -- One word was stored.
 use Rattle.table.specs.Field.{End}
-use Rattle.table.specs.Words.{stored}
+use Rattle.table.proofs.Words.{stored}
 use Rattle.table.proofs.set_end.Goals as goal
 
 pub returns : goal.returns

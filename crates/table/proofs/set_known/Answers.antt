@@ -1,6 +1,6 @@
 -- One word was stored.
 use Rattle.table.specs.Field.{Known}
-use Rattle.table.specs.Words.{stored}
+use Rattle.table.proofs.Words.{stored}
 use Rattle.table.proofs.set_known.Goals as goal
 
 pub returns : goal.returns

@@ -1,6 +1,6 @@
 -- One word was stored.
 use Rattle.table.specs.Field.{Served}
-use Rattle.table.specs.Words.{stored}
+use Rattle.table.proofs.Words.{stored}
 use Rattle.std.proofs.Common.{arith}
 use Rattle.table.proofs.set_served.Goals as goal
 

@@ -1,0 +1,4 @@
+pub mod Agreement
+pub mod Beyond
+pub mod Ceiled
+pub mod Citable

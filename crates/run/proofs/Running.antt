@@ -1,0 +1,105 @@
+-- What the code of a run has to show.
+use Rattle.std.specs.Prelude.{◌≡◌, Bool, true, false, List, [], ◌∷◌, ◌++◌, ℕ, suc, ◌+◌, ◌*◌, ◌/◌, ◌%◌, ◌≤◌, set, drop}
+use Rattle.std.proofs.Math.Path.{refl, sym, ap}
+use Rattle.std.proofs.Common.{◌∙◌, append_assoc, append-nil, add-one, arith, length-append, length-take, drop_of_length-le, take_at, take_all, eq-eqb, ne_eqb, eqb-true}
+use Rattle.std.proofs.Math.ListN.{length, take}
+use Rattle.base.specs.Choice.{◌==◌, and_left, and_right}
+use Rattle.base.specs.Ranges.{allb}
+use Rattle.table.specs.Layout.{table_words}
+use Rattle.table.specs.Words.{state}
+use Rattle.rules.specs.Limits.{house}
+use Rattle.rules.specs.Form.{in_form}
+use Rattle.rules.specs.Report.{report}
+use Rattle.rules.specs.Step.{out_both, step}
+use Rattle.rules.specs.declared.Answer.{Answer}
+use Rattle.rules.specs.declared.Command.{Command}
+use Rattle.reporting.specs.Values.{value_words, value_count}
+use Rattle.lines.specs.declared.Parsed.TheVariants.{Asks}
+use Rattle.run.specs.Call.{unknown_letter, wrong_values, Returned, returned, reported, taken, step_taken, letter_taken}
+use Rattle.run.specs.Run.{step_words, answer_words, no_values, asked_by, known, call_by, ran_all, one_more, ran_to, lengths_fit, run}
+use Rattle.run.specs.Running.{form_of, in_answer}
+
+module _ (t : List ℕ) where
+  pub form_short : (length t ≡ table_words → ⊥) → false ≡ form_of t
+  unfolding form_of
+  form_short ne = sym (rw (ne_eqb (length t) table_words ne))
+
+  pub form_long : length t ≡ table_words → form_of t ≡ in_form house (state t)
+  unfolding form_of
+  form_long e = rw (eq-eqb (length t) table_words e)
+
+-- a step was done; its values came back in a part of the answer's words that was lent, and then its number was stored
+pub step_done : (t g v d : List ℕ) (x : Command) {u h ys : List ℕ} {y : Answer} {number : ℕ} → length d ≡ answer_words → out_both y u h ≡ step t g x →
+    number ≡ (report y).number → ys ≡ value_words y → returned ran_all u h (set (take 1 d ++ (ys ++ drop 6 (drop 1 d))) 0 number) ≡ in_answer (taken t g v (Asks x))
+step_done t g v d x {u} {h} {ys} {number = number} l s n m = ap (returned ran_all u h) (stored d l) ∙ ap in_answer (step_taken t g v x s n m)
+  where
+    stored : (d : List ℕ) → length d ≡ answer_words → set (take 1 d ++ (ys ++ drop 6 (drop 1 d))) 0 number ≡ number ∷ ys
+    stored [] l = absurd (omega arith)
+    stored (a ∷ d) l = ap (λ (r : List ℕ). number ∷ (ys ++ r)) (drop_of_length-le d {i = 6} (omega arith)) ∙ ap (λ (r : List ℕ). number ∷ r) (append-nil ys)
+
+-- an answer has as many words as there is room for
+answer_length : (t g v : List ℕ) (x : Command) → length (in_answer (taken t g v (Asks x))).values ≡ answer_words
+unfolding taken reported
+answer_length t g v x = ap suc (value_count (step t g x).answer)
+
+-- the words of answer i came back: they stand behind those of the answers before it, whatever follows
+behind : (i : ℕ) (answers d rest : List ℕ) → (i + 1) * answer_words ≤ length answers → length d ≡ answer_words →
+    take ((i + 1) * answer_words) (take (i * answer_words) answers ++ (d ++ rest)) ≡ take (i * answer_words) answers ++ d
+behind i answers d rest l e =
+    let before = take (i * answer_words) answers in
+    let long : length (before ++ d) ≡ (i + 1) * answer_words = simp (length-append, length-take) (omega arith) in
+    ap (take ((i + 1) * answer_words)) (sym (append_assoc before d rest)) ∙ take_at (before ++ d) rest _ long
+
+module _ (steps : List ℕ) (i : ℕ) where
+  -- step i was taken, and its answer's words came back
+  pub step_answered : (t g answers rest : List ℕ) (x : Command) {u h d : List ℕ} → (i + 1) * answer_words ≤ length answers → asked_by steps i ≡ Asks x →
+      returned ran_all u h d ≡ in_answer (taken t g no_values (Asks x)) →
+      returned ran_all u h (take ((i + 1) * answer_words) (take (i * answer_words) answers ++ (d ++ rest))) ≡ one_more steps (returned ran_all t g (take (i * answer_words) answers)) i
+  unfolding one_more
+  step_answered t g answers rest x {u} {h} {d} l q e =
+      let before = take (i * answer_words) answers in
+      let long : length d ≡ answer_words = ap (λ (r : Returned). length r.values) e ∙ answer_length t g no_values x in
+      let called : taken t g no_values (Asks x) ≡ call_by t g steps i = letter_taken t g no_values _ _ _ _ _ refl q refl in
+      ap (returned ran_all u h) (behind i answers d rest l long)
+      ∙ ap (λ (r : Returned). returned ran_all r.table r.ledger (before ++ r.values)) (e ∙ ap in_answer called)
+
+  -- after i steps, one more
+  pub ran_more : (t g : List ℕ) {s u : Returned} → s ≡ ran_to t g steps i → u ≡ one_more steps s i → u ≡ ran_to t g steps (i + 1)
+  unfolding ran_to
+  ran_more t g e q = q ∙ ap (λ (s : Returned). one_more steps s i) e ∙ sym (ap (ran_to t g steps) (add-one i))
+
+-- before the first step, and after the last
+pub ran_none : (t g steps : List ℕ) → returned ran_all t g [] ≡ ran_to t g steps 0
+unfolding ran_to
+ran_none t g steps = refl
+
+pub ran_end : (t g steps answers : List ℕ) (n i : ℕ) {u h : List ℕ} → i ≤ n → n ≤ i → n * answer_words ≡ length answers → returned ran_all u h (take (i * answer_words) answers) ≡ ran_to t g steps i →
+    returned ran_all u h answers ≡ ran_to t g steps n
+ran_end t g steps answers n i {u} {h} p q l e =
+    let same : i ≡ n = omega arith in
+    ap (returned ran_all u h) (sym (take_all (i * answer_words) answers (omega arith))) ∙ e ∙ ap (ran_to t g steps) same
+
+-- lengths that fit are those of n steps and n answers
+pub fitted : (steps answers : ℕ) → lengths_fit steps answers ≡ true → (steps / step_words * step_words ≤ steps) × (steps / step_words * answer_words ≡ answers)
+fitted steps answers e =
+    let both = and_right (steps % step_words == 0) _ e in
+    let whole : answers % answer_words ≡ 0 = eqb-true _ _ (and_left (answers % answer_words == 0) _ both) in
+    let same : steps / step_words ≡ answers / answer_words = eqb-true _ _ (and_right (answers % answer_words == 0) _ both) in
+    (omega arith, omega arith)
+
+-- the three ends of a run
+module _ (t g steps answers : List ℕ) where
+  abbrev letters : Bool
+  letters = allb (length steps / step_words) (λ (i : ℕ). known (asked_by steps i))
+
+  pub wrong_lengths : lengths_fit (length steps) (length answers) ≡ false → returned wrong_values t g answers ≡ run t g steps answers
+  unfolding run
+  wrong_lengths e = sym (rw e)
+
+  pub unknown_letter_lem : lengths_fit (length steps) (length answers) ≡ true → letters ≡ false → returned unknown_letter t g answers ≡ run t g steps answers
+  unfolding run
+  unknown_letter_lem e q = sym (rw (e, q))
+
+  pub all_ran : {r : Returned} → lengths_fit (length steps) (length answers) ≡ true → letters ≡ true → r ≡ ran_to t g steps (length steps / step_words) → r ≡ run t g steps answers
+  unfolding run
+  all_ran e q h = h ∙ sym (rw (e, q))

@@ -1,0 +1,3 @@
+pub mod Positions
+pub mod Words
+pub mod Numbering
