@@ -18,7 +18,7 @@ use Rattle.laws.specs.Answering.{Lent}
 use Rattle.keeping.proofs.Kept.{kept}
 use Rattle.history.specs.History.{fed_step, fed}
 use Rattle.history.specs.Demand.{Run, call_in, step_in, next, runs, named, LetsGo, alone, together}
-use Rattle.laws.specs.Together.{own_mask, own_named}
+use Rattle.laws.proofs.Together.{own_mask, own_named}
 use Rattle.calls.specs.Dispatch.{Serves, message_at, serves_low, turned, delivery_at, DispatchRun, nobody, somebody, dispatch_run}
 use Rattle.calls.specs.Sets.{releases, releases_more, releases_history, way_answer, set_goes, SetRun, stays, goes_out, set_run, set_runs}
 

@@ -27,8 +27,9 @@ use Rattle.history.specs.Citations.{Citations, let_out_to, cited_step, all_let_o
 use Rattle.history.specs.Demand.{Run, call_in, step_in, next, runs}
 use Rattle.laws.specs.Facts.{house_fits}
 use Rattle.laws.specs.Answering.{Lent}
-use Rattle.laws.specs.Together as T
-use Rattle.laws.specs.Together.{own_mask, Goes, Stays, each_released, SetOutcome, set_outcome}
+use Rattle.laws.proofs.Together as T
+use Rattle.laws.specs.Together.{Goes}
+use Rattle.laws.proofs.Together.{own_mask, Stays, each_released, SetOutcome, set_outcome}
 use Rattle.keeping.proofs.StepSame.{step_words_lem}
 use Rattle.keeping.proofs.Steps.{performed}
 use Rattle.keeping.proofs.Sets.{kept_on_the_way}

@@ -25,7 +25,7 @@ use Rattle.model.proofs.Consequences.{release_covers, release_named, sending_beg
 use Rattle.model.proofs.Blaming.{capped_heard}
 use Rattle.model.proofs.Recovery.{HearsOf}
 use Rattle.laws.specs.Facts.{form, controller_form}
-use Rattle.laws.specs.Together.{named_own, own_may}
+use Rattle.laws.proofs.Together.{named_own, own_may}
 use Rattle.calls.specs.Dispatch as D
 use Rattle.calls.specs.Dispatch.{DispatchIn, dispatch_in}
 use Rattle.calls.specs.Sets.{SetIn, refused, held, goes, set_in, set_goes}

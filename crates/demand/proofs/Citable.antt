@@ -24,7 +24,6 @@ use Rattle.model.specs.Model.{Model}
 use Rattle.model.proofs.Tests.{changed_at_same}
 use Rattle.calls.specs.Made.{part_itself, part_out}
 use Rattle.model.proofs.Runs.{AtStep, in_list, along}
-use Rattle.image.specs.Outcome as O
 use Rattle.image.specs.Outcome.{Outcome}
 use Rattle.image.proofs.Tables.{model_of, size_of}
 use Rattle.testers.specs.Ledgers.{citation_at, count_ledger, message_cited, payload_cited}

@@ -13,9 +13,7 @@ use Rattle.rules.specs.declared.Answer.TheVariants.{Dropped, Crashed, Rolled}
 use Rattle.history.specs.History.{Interval}
 use Rattle.history.specs.Demand.{Run}
 
-use Rattle.calls.specs.Dispatch as D
 
-use Rattle.image.specs.Outcome as O
 
 -- Why a release of message m, in a run, names c: c owns an interval that the sending interval rests on, and that is not "known
 -- stable" to the sender: its number is above the sender's known word for it.

@@ -35,7 +35,7 @@ use Rattle.history.specs.Uses.{orphan_is_not_live}
 use Rattle.history.specs.Examples.{ListingLine}
 use Rattle.image.proofs.Tables.{opening_done}
 use Rattle.laws.specs.Beside.{looks_at_ledger}
-use Rattle.laws.specs.Together.{union_counts}
+use Rattle.laws.proofs.Together.{union_counts}
 use Rattle.keeping.proofs.Unrefused.{sound_let}
 use Rattle.keeping.proofs.Sets.{sound_let_set}
 use Rattle.calls.specs.Sets.{set_goes, not_gone_keeps}

@@ -32,7 +32,7 @@ use Rattle.laws.specs.Facts.{form}
 use Rattle.laws.specs.Allowed.{release_allowed}
 use Rattle.laws.specs.Ledger.{ledger_form}
 use Rattle.laws.specs.Sets.{outs_numbers, outs_receiver, outs_state, own_stays}
-use Rattle.laws.specs.Together.{own_mask, union_none, union_one, stays_named}
+use Rattle.laws.proofs.Together.{own_mask, union_none, union_one, stays_named}
 use Rattle.calls.specs.Sets.{set_goes, set_holds, not_gone_keeps, SetIn, refused, held, goes, set_in}
 
 -- ALL OR NONE, on every table, beside every ledger and for every list.

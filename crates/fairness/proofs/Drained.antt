@@ -33,7 +33,7 @@ use Rattle.laws.specs.Records.{message_vector_of}
 use Rattle.laws.specs.Agree.{message_vector_same}
 use Rattle.laws.specs.Fixed.{Fixed, fixed_step, numbers_fixed}
 use Rattle.laws.specs.Answering.{Lent}
-use Rattle.keeping.specs.Changes.{kept_served}
+use Rattle.keeping.proofs.Changes.{kept_served}
 use Rattle.keeping.proofs.Steps.{form_kept}
 use Rattle.keeping.proofs.Kept.{lent_words}
 use Rattle.laws.specs.Dispatching.{Servable, has_one, record_lt, NobodyHas, Takes, serving, dispatched_cases, let_through}

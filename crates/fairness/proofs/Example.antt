@@ -32,7 +32,7 @@ use Rattle.history.specs.Demand.{Run, call_in, step_in, next, runs, just_opened,
 use Rattle.history.specs.Fair.{size_in, receiver_in, DeliveredOrDropped, delivered, dropped, Has, Serves, dispatches, ServedIn, FairIn, turn_in}
 use Rattle.laws.specs.Facts.{form, house_fits}
 use Rattle.laws.specs.Ledger.{ledger_form}
-use Rattle.keeping.specs.Changes.{kept_served}
+use Rattle.keeping.proofs.Changes.{kept_served}
 use Rattle.keeping.proofs.Opening.{form_open}
 use Rattle.keeping.proofs.Steps.{form_kept}
 use Rattle.keeping.proofs.StepSame.{step_words_lem}

@@ -21,7 +21,7 @@ use Rattle.rules.specs.declared.Command.TheVariants.{Open, SetDegree, Send, Rele
 use Rattle.laws.specs.StepWords.{Writable, every_step}
 use Rattle.laws.specs.Sets.{outs_region}
 use Rattle.calls.specs.Made.{NoDoneOpening}
-use Rattle.laws.specs.Together.{SetOutcome, refused, held, goes, set_outcome}
+use Rattle.laws.proofs.Together.{SetOutcome, refused, held, goes, set_outcome}
 
 -- these two words
 abbrev pub of_round : Field → Bool

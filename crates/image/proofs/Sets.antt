@@ -6,7 +6,8 @@ use Rattle.table.specs.Field.{State, Receiver, desk}
 use Rattle.rules.specs.Limits.{Limits}
 use Rattle.rules.specs.Sets.{nth, record_in, union}
 use Rattle.laws.specs.Facts.{Form}
-use Rattle.laws.specs.Together.{Goes, own_named, own_may, union_few, desk_nobody}
+use Rattle.laws.specs.Together.{Goes}
+use Rattle.laws.proofs.Together.{own_named, own_may, union_few, desk_nobody}
 use Rattle.model.proofs.Steps.{LetUnder}
 use Rattle.image.specs.Image.{image}
 use Rattle.image.specs.Reads.{to_is}

@@ -20,7 +20,7 @@ use Rattle.model.specs.Model.{Model, open_model}
 use Rattle.laws.specs.Facts.{form}
 use Rattle.laws.specs.Allowed.{open_allowed}
 use Rattle.laws.specs.Answering.{Lent, not_done}
-use Rattle.keeping.specs.Changes.{kept_served}
+use Rattle.keeping.proofs.Changes.{kept_served}
 use Rattle.image.specs.Image.{image}
 use Rattle.image.specs.Open.{image_opened}
 use Rattle.image.specs.Controllers.{image_served}

@@ -19,7 +19,7 @@ use Rattle.laws.specs.Allowed.{Room}
 use Rattle.laws.specs.Records.{part_at, part_other, clear_kept, length_place_record, length_filtered}
 use Rattle.keeping.specs.Untouched.{ok_at, Tested, home, form_changed}
 use Rattle.keeping.specs.InRange.{pair_ok_lem, filtered_ok, set_ok, controller_ok_lem, free_ok, place_again, place_new}
-use Rattle.keeping.specs.Changes.{kept_word}
+use Rattle.keeping.proofs.Changes.{kept_word}
 use Rattle.keeping.proofs.Messages.{kept_state}
 
 -- the words of controller c and of its places

@@ -16,7 +16,7 @@ use Rattle.rules.specs.declared.Command.TheVariants.{Deliver}
 use Rattle.laws.specs.Facts.{Fitting, form, house_fits, released_lt}
 use Rattle.laws.specs.Answering.{Lent}
 use Rattle.laws.specs.Dispatching.{Servable, dispatched_cases}
-use Rattle.keeping.specs.Changes.{kept_served}
+use Rattle.keeping.proofs.Changes.{kept_served}
 use Rattle.keeping.proofs.Steps.{performed, form_kept}
 use Rattle.keeping.proofs.Kept.{lent_words}
 use Rattle.keeping.proofs.Unrefused.{Sound, Let, let_deliver, buffers_fit}

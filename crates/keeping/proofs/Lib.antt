@@ -7,3 +7,5 @@ pub mod Unrefused
 pub mod StepSame
 pub mod Sets
 pub mod Dispatch
+pub mod Changes
+pub mod Logging

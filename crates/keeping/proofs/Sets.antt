@@ -32,7 +32,8 @@ use Rattle.laws.specs.Chain.{Releasable, releasable_there}
 use Rattle.laws.specs.Releasing.{degree_agree, desk_agree, own_agree, agree_gone, ledger_out_agree}
 use Rattle.laws.specs.Bits.{bits_same}
 use Rattle.laws.specs.Sets.{SetAllowed, set_allowed, all_here, outs_numbers}
-use Rattle.laws.specs.Together.{Goes, on_the_way, set_ind}
+use Rattle.laws.specs.Together.{Goes}
+use Rattle.laws.proofs.Together.{on_the_way, set_ind}
 use Rattle.keeping.proofs.Steps.{performed, form_kept}
 use Rattle.keeping.proofs.Kept.{in_form_same, lent_words}
 use Rattle.keeping.proofs.Unrefused.{Sound, ledger_kept, Let, let_refusing_both, past_first, buffers_fit}

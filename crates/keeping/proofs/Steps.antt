@@ -32,7 +32,8 @@ use Rattle.laws.specs.Delivering.{deliver_cases}
 use Rattle.laws.specs.Records.{length_merged}
 use Rattle.laws.specs.Answering.{not_done}
 use Rattle.keeping.specs.InRange.{held_ok, dropped_ok, filtered_ok, merged_ok}
-use Rattle.keeping.specs.Changes.{logged_size, kept_gap, kept_degree, kept_word, kept_row, kept_logged, kept_logged_to, kept_checkpointed, kept_capped}
+use Rattle.keeping.proofs.Changes.{logged_size, kept_gap, kept_degree, kept_word, kept_row}
+use Rattle.keeping.proofs.Logging.{kept_logged, kept_logged_to, kept_checkpointed, kept_capped}
 use Rattle.keeping.proofs.Messages.{kept_state, kept_causes, kept_drop_held, kept_let_out, kept_posted}
 use Rattle.keeping.proofs.Chains.{kept_added, kept_restarted}
 use Rattle.keeping.proofs.Opening.{form_open}

@@ -1,3 +1,2 @@
 pub mod Untouched
 pub mod InRange
-pub mod Changes

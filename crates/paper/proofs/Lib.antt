@@ -3,3 +3,4 @@ pub mod Eventually
 pub mod Emptied
 pub mod Fates
 pub mod Theorems
+pub mod AllButK

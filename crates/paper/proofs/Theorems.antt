@@ -32,7 +32,8 @@ use Rattle.demand.specs.Claims.{at_most_K_named}
 use Rattle.paper.specs.Ready.{model_in, ready}
 use Rattle.paper.specs.Crashes.{can_hear, live_sure}
 use Rattle.paper.specs.Interleaved.{telling_knows}
-use Rattle.paper.specs.Whenever.{checkpoint_is_done, tell_is_done, mask_asked, useful_goes, mask_all_but_K, masks_shrink, unstable_named, named_with_cause, dropped_exactly, useful_arrives, mask_arrives}
+use Rattle.paper.specs.Whenever.{checkpoint_is_done, tell_is_done, mask_asked, useful_goes, masks_shrink, unstable_named, named_with_cause, dropped_exactly, useful_arrives, mask_arrives}
+use Rattle.paper.proofs.AllButK.{mask_all_but_K}
 use Rattle.paper.proofs.Eventually.{brought_out, brought_in}
 use Rattle.paper.proofs.Fates.{fate}
 use Rattle.paper.specs.Extremes.{never_revoked, never_held, heard_once}

@@ -22,7 +22,7 @@ use Rattle.laws.specs.Allowed.{no_place_number}
 use Rattle.history.specs.History.{Interval, History, newest}
 use Rattle.history.specs.Demand.{Run, step_in, named, RestsOnLost, FromOpening, up_to, end}
 use Rattle.history.specs.Progress.{Orphan, Drops, SentIn, SendingLive, HeldIn, LetOutIn, NotLetOut, HasHeard, Deliverable}
-use Rattle.history.specs.Asked.{Secures, SecuredIn, Asked, AllAsked, Cleared, held_without, out_without, was_asked, AllCleared, Names, Unlearned, GoesOut, GoesOutWithin, NotHeld, Begins, Arrives}
+use Rattle.history.specs.Asked.{Secures, SecuredIn, AllAsked, Cleared, out_without, was_asked, AllCleared, Names, Unlearned, GoesOut, GoesOutWithin, NotHeld, Begins, Arrives}
 use Rattle.fairness.specs.Settling.{Unhindered, drops, known}
 use Rattle.history.specs.Uses.{mask_cleared}
 use Rattle.model.specs.Model.{Model, full, filtered, released_vec}
@@ -50,7 +50,7 @@ loss_orphan : {h : History} {b : ℕ} {y : Interval} → RestsOnLost h h b y →
 loss_orphan o = record { on = o.on; crash = o.crash; rests = o.rests; lost = o.lost }
 
 -- a test by its two cases
-either : {A : Type 0} (b : Bool) → (b ≡ true → A) → (b ≡ false → A) → A
+pub either : {A : Type 0} (b : Bool) → (b ≡ true → A) → (b ≡ false → A) → A
 either true f g = f refl
 either false f g = g refl
 
@@ -99,7 +99,7 @@ module _ (t g : List ℕ) (n k : ℕ) (l : List Call) (O : FromOpening t g n k l
       tell_answers u r.ledger s.sound a b (subst (λ j. a < j) (sym size) p) (subst (λ j. b < j) (sym size) q) ne
 
   -- a message that was held, by its release or in a set, is there at the end
-  held_there : (m mask : ℕ) → HeldIn t g n k l m mask → record_of (state u) m < used (state u)
+  pub held_there : (m mask : ℕ) → HeldIn t g n k l m mask → record_of (state u) m < used (state u)
   held_there m mask held =
       let rest = held.call ∷ held.after in
       let q = up_to t g n k held.before in
@@ -144,7 +144,7 @@ module _ (t g : List ℕ) (n k : ℕ) (l : List Call) (O : FromOpening t g n k l
     -- ALL BUT K
     -- Not every controller need be cleared: where those that are left are no more than the sender's degree, a message to a controller is let out,
     -- and names only those.
-    all_but : record_of (state u) m < used (state u) → HasHeard t g n k l sender → h.receiver m ≢ desk → (left : ℕ → Bool) → count controllers left ≤ h.degree sender →
+    pub all_but : record_of (state u) m < used (state u) → HasHeard t g n k l sender → h.receiver m ≢ desk → (left : ℕ → Bool) → count controllers left ≤ h.degree sender →
         ((c : ℕ) → c < n → left c ≡ false → Cleared t g n k l m sender c) → NotHeld t g n k l m ⊎ GoesOutWithin t g n k l m left
     unfolding released_vec
     all_but here heard away left few cleared =
@@ -174,13 +174,6 @@ module _ (t g : List ℕ) (n k : ℕ) (l : List Call) (O : FromOpening t g n k l
               answer = go.goes (λ e. away (message.receiver_is ∙ e)) (omega (arith, count_le controllers (named go.mask) left within, few, release_degree v m pos sent));
               within = within;
             }
-
-    -- By the mask: of the controllers that a held release of m names all but K need be asked.
-    pub mask_all_but_K : (mask : ℕ) → HeldIn t g n k l m mask → HasHeard t g n k l sender → h.receiver m ≢ desk → (left : ℕ → Bool) → count controllers left ≤ h.degree sender →
-        ((c : ℕ) → c < n → named mask c ≡ true → left c ≡ false → Asked t g n k l m sender c) → NotHeld t g n k l m ⊎ GoesOutWithin t g n k l m left
-    mask_all_but_K mask held heard away left few asked =
-        all_but (held_there m mask held) heard away left few (λ c below e. either (named mask c) (λ d. was_asked (asked c below d e))
-        (λ d. held_without mask held d refl))
 
     -- MASKS
     -- A controller that a held release of m didn't name is named by no later release of m.

@@ -32,7 +32,7 @@ use Rattle.progress.specs.Held.{Leaves, let_out_lem, undone, KeptHeld}
 use Rattle.progress.proofs.Held.{was_held, stays_held}
 use Rattle.progress.specs.There.{Stays, there_stays, stays_step}
 use Rattle.progress.specs.Unmoved.{Unmoved, unmoved_put}
-use Rattle.keeping.specs.Changes.{kept_served}
+use Rattle.keeping.proofs.Changes.{kept_served}
 
 -- STATES WITH THE SAME WORDS
 module _ (σ τ : State) (e : Agree σ τ) (f : Form house τ) where

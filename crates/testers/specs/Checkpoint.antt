@@ -17,7 +17,7 @@ use Rattle.rules.specs.Step.{perform, step_on}
 use Rattle.rules.specs.declared.Command.TheVariants.{Checkpoint}
 use Rattle.laws.specs.Facts.{house_fits}
 use Rattle.laws.specs.Allowed.{checkpoint_allowed}
-use Rattle.keeping.specs.Changes.{kept_checkpointed}
+use Rattle.keeping.proofs.Logging.{kept_checkpointed}
 use Rattle.keeping.proofs.StepSame.{SameBoth, same_refl}
 
 module _ (σ : State) (c : ℕ) where

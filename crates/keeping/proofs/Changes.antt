@@ -3,7 +3,6 @@ use Rattle.std.specs.Prelude.{◌≡◌, true, false, List, ℕ, ◌+◌, ◌*�
 use Rattle.std.proofs.Math.Path.{refl, sym, ap, subst}
 use Rattle.std.proofs.Common.{◌∙◌, arith}
 use Rattle.std.proofs.Math.Bool.{true≢false}
-use borrow.Author.Tests.{ltb-true}
 use Rattle.base.specs.Choice.{◌<?◌, cond_ind}
 use Rattle.base.specs.Ranges.{allb}
 use Rattle.table.specs.Field.{Field, State, Known, End, Size, Gap, Served, Degree, LiveCount, StableCount, Flag, PairIncarnation, PairNumber, place_head, word, same}
@@ -11,9 +10,8 @@ use Rattle.table.specs.Change.{put, put_ind, put_same, put_other, put_part, part
 use Rattle.table.proofs.Numbering.{numbers_put}
 use Rattle.rules.specs.Limits.{Limits, last_gap, last_served}
 use Rattle.rules.specs.Form.{zeros, vector_ok, highest, row_ok, head_zeros, in_form}
-use Rattle.rules.specs.Shared.{newest_place, logged, logged_to, checkpointed, forced, capped}
-use Rattle.laws.specs.Facts.{Fitting, Form, form, below_8, controller_form, place_form, known_top, end_top, live_number}
-use Rattle.laws.specs.Chain.{logged_word}
+use Rattle.rules.specs.Shared.{logged, logged_to}
+use Rattle.laws.specs.Facts.{Form, form, below_8, controller_form, place_form, known_top, end_top}
 use Rattle.laws.specs.Records.{place_vector_of}
 use Rattle.keeping.specs.Untouched.{ok_at, home, at_one_home, looked, form_put, form_part}
 use Rattle.keeping.specs.InRange.{head_ok_lem, controller_ok_lem, highest_is, row_ok_lem, place_ok_lem}
@@ -112,32 +110,3 @@ module _ (L : Limits) where
       (subst (λ v. vector_ok L (σ Size) v ≡ true)
       (place_vector_of σ τ c p (λ owner _. (sym (put_other σ (Flag c p) (PairIncarnation c p owner) 1 (λ q. let w : place_head + 2 * owner ≡ word (Flag c p) = cc in omega arith)), sym (put_other σ (Flag c p) (PairNumber c p owner) 1 (λ q. let w : place_head + 2 * owner + 1 ≡ word (Flag c p) = cc in omega arith)))))
       w.vector_ok_lem)) e
-
-  -- LOGGING AND CHECKPOINTS
-  module _ (fit : Fitting L) (σ : State) (c : ℕ) (h : c < σ Size) where
-    -- the k oldest
-    pub kept_logged : (k : ℕ) → 1 ≤ k → k ≤ σ (LiveCount c) → in_form L σ ≡ true → in_form L (logged σ c k) ≡ true
-    unfolding logged put same
-    kept_logged k p l e =
-        let w = controller_form (form L σ e) c h in
-        kept_word (put σ (StableCount c) k) c c h h (Known c c _) _ refl refl (live_number (form L σ e) fit c h k l) (kept_stable σ c h k p l e)
-
-    -- if any of them are not stable
-    pub kept_logged_to : (k : ℕ) → k ≤ σ (LiveCount c) → in_form L σ ≡ true → in_form L (logged_to σ c k) ≡ true
-    unfolding logged_to
-    kept_logged_to k l e =
-        cond_ind (λ (τ : State). in_form L τ ≡ true) (σ (StableCount c) <? k) (λ q. let u = ltb-true (σ (StableCount c)) k q in kept_logged k (omega arith) l e) (λ _. e)
-
-    -- all, and the newest is flagged
-    pub kept_checkpointed : in_form L σ ≡ true → in_form L (checkpointed σ c) ≡ true
-    unfolding checkpointed
-    kept_checkpointed e =
-        let w = controller_form (form L σ e) c h in
-        let τ = logged_to σ c (σ (LiveCount c)) in
-        kept_flag τ c (newest_place σ c) (subst (λ n. c < n) (sym (logged_size σ c _)) h)
-        (subst (λ n. newest_place σ c < n) (sym (logged_word σ c _ (word (LiveCount c)) refl)) (omega (arith, w.live_pos))) (kept_logged_to (σ (LiveCount c)) (omega arith) e)
-
-    -- if the gap asks for it
-    pub kept_capped : in_form L σ ≡ true → in_form L (capped σ c) ≡ true
-    unfolding capped
-    kept_capped e = cond_ind (λ (τ : State). in_form L τ ≡ true) (forced σ c) (λ _. kept_checkpointed e) (λ _. e)
