@@ -39,7 +39,7 @@ use Rattle.image.proofs.Tables.{opening_done}
 use Rattle.testers.specs.Citing.{RunCites, cites_next, cites_opened, cites_served}
 use Rattle.demand.specs.Demanded.{fed_refused, found, outcome, follows}
 use Rattle.demand.specs.InForm.{sound_after}
-use Rattle.demand.specs.Beyond.{Reason, Undoes, CrashAccepted}
+use Rattle.demand.specs.Beyond.{Reason, Undoes, answers_rolled, answers_dropped, CrashAccepted, answers_crashed}
 
 -- "The list starts from the table that a done opening left, whatever stood in it before", and from the ledger that it left: the table
 -- depends on n and k alone, the ledger on nothing

@@ -1,11 +1,9 @@
 -- The history and the table tell the same of each controller, after every step of a list: its degree, its incarnation, which numbers are
 -- live, and which of them are stable and flagged; and of Q.
 use Rattle.std.specs.Prelude.{◌≡◌, true, ◌↔◌, ℕ, ◌≤◌}
-
 use Rattle.table.specs.Field.{State, Gap, Degree, Incarnation, StableCount, Flag}
 use Rattle.table.specs.Words.{state}
 use Rattle.table.specs.Numbering.{number_of, last_live, place_of}
-
 use Rattle.history.specs.History.{Interval, interval, newest, member}
 use Rattle.history.specs.Demand.{Run}
 

@@ -6,14 +6,10 @@ use Rattle.std.specs.Prelude.{true}
 use Prim.Native.Nat.{ℕ, ◌<◌}
 use Rattle.table.specs.Field.{Known}
 use Rattle.table.specs.Words.{state}
-
 use Rattle.rules.specs.declared.Answer.{Answer}
 use Rattle.rules.specs.declared.Answer.TheVariants.{Dropped, Crashed, Rolled}
-
 use Rattle.history.specs.History.{Interval}
 use Rattle.history.specs.Demand.{Run}
-
-
 
 -- Why a release of message m, in a run, names c: c owns an interval that the sending interval rests on, and that is not "known
 -- stable" to the sender: its number is above the sender's known word for it.

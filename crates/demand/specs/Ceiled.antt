@@ -3,11 +3,9 @@
 use Rattle.std.specs.Prelude.{refl, ℕ, ◌≤◌, ◌<◌}
 use Rattle.std.proofs.Common.{sym, arith}
 use Rattle.std.proofs.Math.Path.{subst}
-
 use Rattle.rules.specs.declared.Answer.{Answer}
 use Rattle.rules.specs.declared.Command.{Command}
 use Rattle.history.specs.History.{History}
-
 use Rattle.model.specs.Model.{Model, put_controller, put_message, degree_controller, log_controller, gap_model, tell_controller, end_controller, note_controller, send_message, release_message}
 use Rattle.model.proofs.Invariant.{Inv}
 use Rattle.model.specs.Close.{Close}

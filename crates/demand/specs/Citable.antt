@@ -3,7 +3,6 @@
 use Rattle.std.proofs.Math.Path.{◌≡◌, refl, subst}
 use Rattle.std.proofs.Common.{sym}
 use Rattle.std.specs.Prelude.{ℕ}
-
 use Rattle.rules.specs.Report.{report}
 use Rattle.rules.specs.declared.Answer.{Answer}
 use Rattle.rules.specs.declared.Answer.TheVariants.{Sent, Released}
@@ -11,12 +10,10 @@ use Rattle.rules.specs.declared.Command.{Command}
 use Rattle.rules.specs.declared.Command.TheVariants.{Send, Release}
 use Rattle.history.specs.History.{answers, value_at}
 use Rattle.history.specs.Citations.{Citations, sent_with, let_out_to, cited_step}
-
 use Rattle.model.specs.Model.{Model}
 use Rattle.calls.specs.Made.{NoDoneOpening}
 use Rattle.image.specs.Outcome as O
 use Rattle.image.specs.Outcome.{Outcome}
-
 use Rattle.testers.specs.Citing.{cited_refused}
 
 -- What holds of citations holds after a step that is no done opening, if it does after a send and after a release that lets its message out.

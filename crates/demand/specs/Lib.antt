@@ -6,6 +6,5 @@ pub mod Agreement
 pub mod Ceiled
 pub mod Blamed
 pub mod InForm
-pub mod Claims
 pub mod SetClaims
 pub mod DispatchClaims

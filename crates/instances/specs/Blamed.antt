@@ -27,7 +27,7 @@ use Rattle.testers.specs.Sample.{sample, all_look}
 use Rattle.testers.proofs.Sample.{sample_run}
 use Rattle.testers.proofs.Along.{state_at, ledger_at}
 use Rattle.demand.specs.Blamed.{blame}
-use Rattle.demand.specs.Claims.{hearing_it_undoes_the_sender}
+use Rattle.demand.proofs.Claims.{hearing_it_undoes_the_sender}
 use Rattle.instances.specs.Lists.{calls_of, Computed, branch}
 use Rattle.instances.specs.Shown.{Shown, shown, shown_to, history_of, told, answer_in}
 use Rattle.history.specs.Uses.{drop_named}

@@ -28,7 +28,7 @@ use Rattle.base.specs.Ranges.{count}
 use Rattle.image.proofs.Tables.{model_of}
 use Rattle.demand.specs.Demanded.{table_inv, follows, demand_3}
 use Rattle.demand.proofs.Beyond.{lost_unstable}
-use Rattle.demand.specs.Claims.{at_most_K_named}
+use Rattle.demand.proofs.Claims.{at_most_K_named}
 use Rattle.paper.specs.Ready.{model_in, ready}
 use Rattle.paper.specs.Crashes.{can_hear, live_sure}
 use Rattle.paper.specs.Interleaved.{telling_knows}

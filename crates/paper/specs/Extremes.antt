@@ -30,7 +30,7 @@ use Rattle.image.proofs.Tables.{opening_done}
 use Rattle.progress.proofs.Answers.{release_refused}
 use Rattle.demand.specs.Demanded.{table_inv, table_outcome, follows, demand_3}
 use Rattle.demand.proofs.Beyond.{lost_unstable}
-use Rattle.demand.specs.Claims.{at_most_K_named}
+use Rattle.demand.proofs.Claims.{at_most_K_named}
 use Rattle.paper.specs.Ready.{state_of_message, there_ok, ready}
 use Rattle.model.proofs.Blaming.{restarted_heard}
 use Rattle.paper.specs.Spreading.{first, ready_at}

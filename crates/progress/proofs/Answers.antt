@@ -3,9 +3,7 @@ use Rattle.std.proofs.Math.Path.{◌≡◌, subst}
 use Rattle.std.proofs.Common.{sym, ◌∙◌}
 use Rattle.std.specs.Prelude.{true, cond, ◌&&◌, List, ◌≢◌, ◌⊎◌, ℕ, ◌+◌, ◌<◌, ◌≤◌}
 use Rattle.std.proofs.Math.Bool.{false}
-
 use Rattle.base.specs.Choice.{◌≤?◌}
-
 use Rattle.table.specs.Field.{Incarnation, MessageState, Receiver}
 use Rattle.table.specs.Layout.{controllers}
 use Rattle.table.specs.Words.{state}
@@ -25,9 +23,9 @@ use Rattle.laws.specs.Facts.{form, released_lt}
 use Rattle.keeping.proofs.Unrefused.{Sound}
 use Rattle.model.specs.Model.{full, released_vec, filtered as filtered_for}
 use Rattle.model.specs.Vectors.{Condemned}
-
 use Rattle.image.proofs.Tables.{model_of, size_of}
 use Rattle.progress.proofs.Tables.{answer_is}
+use Rattle.progress.specs.Answers.{deliver_goes, checkpoint_done, tell_done, release_out, not_held_lem, deliverable, released_taken, deliver_drops, drops_condemned, condemned_true, known_true, Goes}
 
 -- TABLES AND LEDGERS OF WORDS
 -- where message m stands in a table, and its receiver

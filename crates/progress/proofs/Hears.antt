@@ -11,7 +11,6 @@ use Rattle.rules.specs.Form.{in_form}
 use Rattle.base.specs.Cases.{none, skip}
 use Rattle.rules.specs.Steps.{After, AfterBoth, noted, lowest_condemned, hear, hear_refusals, step_hear}
 use Rattle.rules.specs.Step.{perform, step_on, step}
-
 use Rattle.rules.specs.declared.Command.TheVariants.{Hear}
 use Rattle.history.specs.Demand.{answers_heard, answers_rolled}
 use Rattle.keeping.proofs.Unrefused.{Sound}

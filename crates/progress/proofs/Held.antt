@@ -30,7 +30,7 @@ use Rattle.laws.specs.Delivering.{deliver_cases}
 use Rattle.laws.specs.Allowed.{message_allowed, crash_allowed, hear_allowed}
 use Rattle.progress.specs.Unmoved.{Unmoved, numbers_unmoved, unmoved_put, unmoved_logged_to, unmoved_capped, unmoved_noted, unmoved_degree, unmoved_log, unmoved_checkpoint, unmoved_tell, unmoved_gap}
 use Rattle.progress.specs.Causes.{NoneCauses, none_unmoved, causes_held, undropped}
-use Rattle.progress.specs.Held.{Anew, Leaves, Spared, KeptHeld}
+use Rattle.progress.specs.Held.{Anew, Leaves, let_out_lem, undone, Spared, KeptHeld}
 
 -- the same with a change of other words before it
 spared_unmoved : (σ ρ τ : State) (r : ℕ) → Unmoved σ ρ → Spared ρ τ r → Spared σ τ r

@@ -35,7 +35,6 @@ use Rattle.image.specs.Image.{vec_of, image}
 use Rattle.image.specs.Vectors.{length_message}
 use Rattle.image.specs.Tests.{spared, condemned_model, filtered_is, released_is}
 use Rattle.image.specs.Reads.{message_vec_is, known_is}
-
 use Rattle.keeping.proofs.Steps.{performed}
 
 -- EMPTY PAIRS
@@ -90,14 +89,14 @@ module _ (L : Limits) (σ : State) (g : List ℕ) (good : in_form L σ ≡ true)
   f = form L σ good
 
   -- C
-  checkpoint_done : (c : ℕ) → c < σ Size → (step_on L σ g (Checkpoint c)).answer ≡ Done
+  pub checkpoint_done : (c : ℕ) → c < σ Size → (step_on L σ g (Checkpoint c)).answer ≡ Done
   unfolding perform step_checkpoint
   checkpoint_done c l =
       ap (λ (o : AfterBoth). o.answer) (performed L σ g good (Checkpoint c))
       ∙ ap (λ (o : After). o.answer) (unrefused (checkpoint_refusals σ c) σ _ (skip _ CONTROLLER 0 _ (lt-leb (σ Size) c l) none))
 
   -- T
-  tell_done : (owner holder : ℕ) → owner < σ Size → holder < σ Size → owner ≢ holder → (step_on L σ g (Tell owner holder)).answer ≡ Done
+  pub tell_done : (owner holder : ℕ) → owner < σ Size → holder < σ Size → owner ≢ holder → (step_on L σ g (Tell owner holder)).answer ≡ Done
   unfolding perform step_tell
   tell_done owner holder ol hl ne =
       ap (λ (o : AfterBoth). o.answer) (performed L σ g good (Tell owner holder))
@@ -113,7 +112,7 @@ module _ (L : Limits) (σ : State) (g : List ℕ) (good : in_form L σ ≡ true)
     c = σ (Receiver r)
 
     -- R: a held message whose filtered vector is empty is let out, unless it is for the desk and the ledger is full
-    release_out : ledger_ok L g ≡ true → r < used σ → σ (MessageState r) ≡ state_held → ((a : ℕ) → full (released_vec (image σ) m a) ≡ false) →
+    pub release_out : ledger_ok L g ≡ true → r < used σ → σ (MessageState r) ≡ state_held → ((a : ℕ) → full (released_vec (image σ) m a) ≡ false) →
         (step_on L σ g (Release m)).answer ≡ cond (for_desk σ r && (L.entries ≤? count_of g)) (Refused LEDGER_USED_UP) (Released m 0)
     unfolding perform step_release release mask own_vector
     release_out ok l e h =
@@ -125,7 +124,7 @@ module _ (L : Limits) (σ : State) (g : List ℕ) (good : in_form L σ ≡ true)
         ∙ rw (nobody, nobody_goes σ r) (chosen (for_desk σ r && (L.entries ≤? count_of g)) _ _)
 
     -- one that is there and not held is refused for its state
-    not_held_lem : ledger_ok L g ≡ true → r < used σ → σ (MessageState r) ≢ state_held → (step_on L σ g (Release m)).answer ≡ Refused STATE
+    pub not_held_lem : ledger_ok L g ≡ true → r < used σ → σ (MessageState r) ≢ state_held → (step_on L σ g (Release m)).answer ≡ Refused STATE
     unfolding perform step_release refusing_both
     not_held_lem ok l ne =
         ap (λ (o : AfterBoth). o.answer) (performed L σ g good (Release m))
@@ -133,7 +132,7 @@ module _ (L : Limits) (σ : State) (g : List ℕ) (good : in_form L σ ≡ true)
         (sym (skip _ LEDGER STATE _ (ap not ok) (message_refused σ r state_held l ne)))
 
     -- D: what is neither refused as unknown nor for its state is a released message
-    deliverable : (step_on L σ g (Deliver m)).answer ≢ Refused MESSAGE → (step_on L σ g (Deliver m)).answer ≢ Refused STATE →
+    pub deliverable : (step_on L σ g (Deliver m)).answer ≢ Refused MESSAGE → (step_on L σ g (Deliver m)).answer ≢ Refused STATE →
         (r < used σ) × (σ (MessageState r) ≡ state_released)
     unfolding perform step_deliver refusing
     deliverable p q =
@@ -164,7 +163,7 @@ module _ (L : Limits) (σ : State) (g : List ℕ) (good : in_form L σ ≡ true)
           ∙ ap (λ (o : After). o.answer) (unrefused (message_refusals σ r state_released) σ _ (message_let σ r state_released l e))
 
       -- the words say of its vector what the model says: where the model has it condemned, so have the words
-      condemned_true : IsCondemned → condemned σ c (message_vector σ r) ≡ true
+      pub condemned_true : IsCondemned → condemned σ c (message_vector σ r) ≡ true
       condemned_true z =
           passes (condemned σ c (message_vector σ r)) (λ q. spared σ c below (message_vector σ r) (message_form f r l).vector (length_message σ r) q
           (subst (Condemned (σ Size) ((image σ).controller c)) (message_vec_is σ m l) z))
@@ -176,7 +175,7 @@ module _ (L : Limits) (σ : State) (g : List ℕ) (good : in_form L σ ≡ true)
           (condemned_model σ c below (message_vector σ r) (message_form f r l).vector (length_message σ r) q)
 
       -- the words have a pair of its vector known stable to the receiver where the model has; pairs beyond the house are empty
-      known_true : (a : ℕ) → a < controllers → (a < σ Size → (((image σ).message m).vec a).number ≤ ((image σ).controller c).known a (((image σ).message m).vec a).incarnation) →
+      pub known_true : (a : ℕ) → a < controllers → (a < σ Size → (((image σ).message m).vec a).number ≤ ((image σ).controller c).known a (((image σ).message m).vec a).incarnation) →
           known_stable σ c a (pair_of (message_vector σ r) a) ≡ true
       unfolding known_stable
       known_true a near knows =
@@ -191,19 +190,19 @@ module _ (L : Limits) (σ : State) (g : List ℕ) (good : in_form L σ ≡ true)
           (λ high. omega (arith, ok.beyond_number a near (omega arith))))
 
       -- a condemned message is dropped
-      deliver_drops : IsCondemned → Drops m (step_on L σ g (Deliver m)).answer
+      pub deliver_drops : IsCondemned → Drops m (step_on L σ g (Deliver m)).answer
       unfolding deliver prospect comes_of
       deliver_drops z = subst (Drops m) (sym delivered) (rw (condemned_true z) (drops _ _))
 
       -- and no other is
-      drops_condemned : Drops m (step_on L σ g (Deliver m)).answer → IsCondemned
+      pub drops_condemned : Drops m (step_on L σ g (Deliver m)).answer → IsCondemned
       unfolding interval_begins
       drops_condemned q =
           is_condemned (deliver_cases L σ r m (λ o. Drops m o.answer → condemned σ c (message_vector σ r) ≡ true) (λ q _. q) (λ _ d. elim d [ ])
           (λ _ d. elim d [ ]) (λ _ _ _ d. elim d [ ]) (subst (Drops m) delivered q))
 
       -- a released message is refused neither as unknown nor for its state
-      released_taken : ((step_on L σ g (Deliver m)).answer ≢ Refused MESSAGE) × ((step_on L σ g (Deliver m)).answer ≢ Refused STATE)
+      pub released_taken : ((step_on L σ g (Deliver m)).answer ≢ Refused MESSAGE) × ((step_on L σ g (Deliver m)).answer ≢ Refused STATE)
       unfolding interval_begins
       released_taken = (taken MESSAGE (λ z. omega arith), taken STATE (λ z. omega arith))
         where
@@ -215,12 +214,12 @@ module _ (L : Limits) (σ : State) (g : List ℕ) (good : in_form L σ ≡ true)
               (λ _ _ _ q. absurd (let z : ◌≡◌ {A = ℕ} 0 1 = cc in omega arith)))
 
       -- the answer of a delivery, or the refusal where the receiver's places are used up
-      abbrev Goes : Answer → Type 0
+      abbrev pub Goes : Answer → Type 0
       Goes a =
           (a ≡ Delivered m (σ (Incarnation c)) (last_live σ c + 1)) ⊎ ((a ≡ Refused PLACES_USED_UP) × (chain_full L σ c ≡ true))
 
       -- so answers D to a message that is not condemned and whose filtered vector is empty
-      deliver_goes : (IsCondemned → ⊥) → ((a : ℕ) → full (filtered_for ((image σ).controller c) ((image σ).message m).vec a) ≡ false) →
+      pub deliver_goes : (IsCondemned → ⊥) → ((a : ℕ) → full (filtered_for ((image σ).controller c) ((image σ).message m).vec a) ≡ false) →
           Goes (step_on L σ g (Deliver m)).answer
       unfolding deliver prospect comes_of interval_begins
       deliver_goes kept h =

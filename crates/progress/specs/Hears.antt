@@ -1,9 +1,7 @@
 -- What H answers on a table in form, of a crash that its controller has noted and the hearer hasn't.
 use Rattle.std.specs.Prelude.{◌≡◌, ◌⊎◌, ℕ, ◌≤◌}
-
 use Rattle.rules.specs.Limits.{last_incarnation}
 use Rattle.rules.specs.Refusal.{INCARNATIONS_USED_UP}
-
 use Rattle.rules.specs.declared.Answer.{Answer}
 use Rattle.rules.specs.declared.Answer.TheVariants.{Refused}
 use Rattle.history.specs.Demand.{Accepted}

@@ -1,12 +1,10 @@
 -- What ends the holding of a message: a release lets it out, or its sender starts anew at or below its sending number. No other step does,
 -- and none makes a message held that was there and was not.
 use Rattle.std.specs.Prelude.{◌≡◌, ◌⊎◌, ℕ, ◌+◌, ◌≤◌, ◌<◌}
-
 use Rattle.table.specs.Field.{State, Incarnation, MessageState, Sender, SendingNumber}
 use Rattle.table.specs.Numbering.{last_live, record_of}
 use Rattle.rules.specs.Vector.{mask}
 use Rattle.rules.specs.Form.{state_held}
-
 use Rattle.rules.specs.declared.Answer.{Answer}
 use Rattle.rules.specs.declared.Answer.TheVariants.{Released}
 use Rattle.rules.specs.declared.Command.{Command}

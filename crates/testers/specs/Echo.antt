@@ -1,11 +1,8 @@
 -- A delivery that echoes: it begins the interval with the receiver's own vector, whatever the message brings.
 use Rattle.std.specs.Prelude.{ℕ}
-
 use Rattle.table.specs.Field.{State, Receiver}
-
 use Rattle.table.specs.Numbering.{record_of}
 use Rattle.rules.specs.Vector.{place_vector, filtered}
-
 use Rattle.rules.specs.Shared.{newest_place}
 use Rattle.rules.specs.Steps.{After, interval_begins}
 

@@ -27,39 +27,38 @@ module _ (σ : State) where
   later_word : (r i x : ℕ) → 1 ≤ i → Before (OfMessage r i) x
   later_word r i x l = other (OfMessage r i) x (rw (ne_eqb i 0 (omega arith)))
 
-  -- no rule puts it
-  writable : Writable Before
-  writable =
-      record {
-        gap = λ x. other _ x refl;
-        controller = λ c k x. other _ x refl;
-        known = λ holder owner i x. other _ x refl;
-        end = λ holder owner i x. other _ x refl;
-        place = λ c p k x. other _ x refl;
-        vector = λ r k x l. later_word r k x (omega arith);
-        released = λ r. other (MessageState r) _ refl;
-        delivered = λ r. other (MessageState r) _ refl;
-        dropped = λ r. other (MessageState r) _ refl;
-        published = λ r. other (MessageState r) _ refl;
-      }
-
-  -- O leaves every state 0, and S puts held
-  none_open : (n k : ℕ) → Every Before writable (open_house n k)
-  unfolding open_house
-  none_open n k g s l = absurd (true≢false (sym (eq-eqb _ _ (ap (open_house n k) (sym (is_state_lem g s)) ∙ l))))
-
-  none_posted : (w : List ℕ) → (get_or w 0 0 == state_lost) ≡ false → Every Before writable (posted σ w)
-  none_posted w e =
-      posted_ind σ w Before (λ k _. word k) (λ k y _. other _ y refl) (λ g _ s l. l)
-    where
-      word : (k : ℕ) → Before (OfMessage (used σ) k) (get_or w k 0)
-      word zero = other (MessageState (used σ)) (get_or w 0 0) e
-      word (suc k) = later_word (used σ) (suc k) (get_or w (suc k) 0) (omega arith)
-
-  none_sent : (sender receiver payload : ℕ) → Every Before writable (sent σ sender receiver payload)
-  unfolding sent message_record
-  none_sent sender receiver payload = none_posted _ refl
-
   -- every step, in a house of any limits: each message that is lost then was lost before
   pub none_lost : (L : Limits) (g : List ℕ) (x : Command) (f : Field) → Before f ((step_on L σ g x).left f)
+  unfolding open_house sent message_record
   none_lost L g x = every_step Before writable σ (λ f s l. l) L g x (λ n k _. none_open n k) (λ s r p _. none_sent s r p)
+    where
+      -- no rule puts it
+      writable : Writable Before
+      writable =
+          record {
+            gap = λ x. other _ x refl;
+            controller = λ c k x. other _ x refl;
+            known = λ holder owner i x. other _ x refl;
+            end = λ holder owner i x. other _ x refl;
+            place = λ c p k x. other _ x refl;
+            vector = λ r k x l. later_word r k x (omega arith);
+            released = λ r. other (MessageState r) _ refl;
+            delivered = λ r. other (MessageState r) _ refl;
+            dropped = λ r. other (MessageState r) _ refl;
+            published = λ r. other (MessageState r) _ refl;
+          }
+
+      -- O leaves every state 0, and S puts held
+      none_open : (n k : ℕ) → Every Before writable (open_house n k)
+      none_open n k g s l = absurd (true≢false (sym (eq-eqb _ _ (ap (open_house n k) (sym (is_state_lem g s)) ∙ l))))
+
+      none_posted : (w : List ℕ) → (get_or w 0 0 == state_lost) ≡ false → Every Before writable (posted σ w)
+      none_posted w e =
+          posted_ind σ w Before (λ k _. word k) (λ k y _. other _ y refl) (λ g _ s l. l)
+        where
+          word : (k : ℕ) → Before (OfMessage (used σ) k) (get_or w k 0)
+          word zero = other (MessageState (used σ)) (get_or w 0 0) e
+          word (suc k) = later_word (used σ) (suc k) (get_or w (suc k) 0) (omega arith)
+
+      none_sent : (sender receiver payload : ℕ) → Every Before writable (sent σ sender receiver payload)
+      none_sent sender receiver payload = none_posted _ refl

@@ -1,14 +1,11 @@
 -- A short run on tables and ledgers of words of which demand 3 speaks, with its answers.
 use Rattle.std.specs.Prelude.{Bool, true, ◌&&◌, List, [], ◌∷◌, map, ℕ}
-
 use Rattle.table.specs.Field.{desk}
-
 use Rattle.rules.specs.Step.{looks_at_form, Call, asks, release_set, dispatch, step_call}
 use Rattle.rules.specs.declared.Answer.{Answer}
 use Rattle.rules.specs.declared.Answer.TheVariants.{Sent, Released, Delivered, Crashed, Heard, Rolled}
 use Rattle.rules.specs.declared.Command.{Command}
 use Rattle.rules.specs.declared.Command.TheVariants.{Send, Release, Deliver, Crash, Hear}
-
 use Rattle.history.specs.Examples.{ListingLine, line}
 
 -- after the opening of a house of three, all with the degree 1

@@ -2,7 +2,6 @@
 -- `step` on every table and ledger and for every command. Here is each wrong machine, with a table and a ledger of the sample run
 -- (Sample.antt) and a step on them where it gives something else, and one claim over them all.
 use Rattle.std.specs.Prelude.{List, ℕ, zero, suc, ◌+◌}
-
 use Rattle.rules.specs.Refusal.{NO_SUCH_CRASH}
 use Rattle.rules.specs.Steps.{beside}
 use Rattle.rules.specs.Step.{OutBoth, out_both, lent, step}
@@ -11,7 +10,6 @@ use Rattle.rules.specs.declared.Answer.{Answer}
 use Rattle.rules.specs.declared.Answer.TheVariants.{Done, Sent, Released, Held, Delivered, Dropped, Waits, Crashed, Heard, Rolled, Refused, SetReleased, SetHeld, Idle}
 use Rattle.rules.specs.declared.Command.{Command}
 use Rattle.rules.specs.declared.Command.TheVariants.{Open, SetDegree, Send, Release, Deliver, Log, Checkpoint, Tell, Crash, Hear, SetGap}
-
 use Rattle.testers.specs.Echo.{echoed}
 
 -- what the step function is too
