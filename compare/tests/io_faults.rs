@@ -16,8 +16,6 @@ use std::os::unix::net::UnixStream;
 use std::os::unix::process::ExitStatusExt;
 use std::path::Path;
 
-const SIGPIPE: i32 = 13;
-
 /// How many words there are with which an answer begins, `bad` among them.
 const ANSWERS: usize = 12;
 
@@ -187,9 +185,9 @@ fn a_full_pipe_ends_it() {
     assert_gave_up(&ended, "write", EAGAIN, &lines::run(&script));
 }
 
-/// As the standard library starts a program, the signal ends it; where that is ignored, an error does.
-/// The output is more than a pipe holds: another test that is just starting its program has a copy of
-/// the closed end until then.
+/// The program ignores the signal of a closed pipe from its start, so that an error ends it, whether
+/// the signal was ignored before or not. The output is more than a pipe holds: another test that is
+/// just starting its program has a copy of the closed end until then.
 #[test]
 fn a_closed_pipe_ends_it_quietly() {
     let script = script().0.repeat(80);
@@ -199,13 +197,15 @@ fn a_closed_pipe_ends_it_quietly() {
         run.command.stdout(output);
         run.end()
     };
-    let by_signal = into_closed(program());
-    assert_eq!(by_signal.status.signal(), Some(SIGPIPE), "{by_signal:?}");
-    assert_eq!(by_signal.complaint, "");
     let ignored = by_shell("trap '' PIPE && exec \"$0\"");
-    for by_error in [into_closed(ignored), under("w2=EPIPE", &script)] {
+    for by_error in [
+        into_closed(program()),
+        into_closed(ignored),
+        under("w2=EPIPE", &script),
+    ] {
         let last = by_error.calls.last().expect("a call");
         assert_eq!(last.answer, Err("EPIPE".to_owned()), "{by_error:?}");
+        assert_eq!(by_error.status.signal(), None, "{by_error:?}");
         assert_eq!(by_error.complaint, "");
     }
 }
