@@ -6,7 +6,7 @@ use Rattle.rules.specs.Step.{Call, asks, dispatch}
 use Rattle.rules.specs.declared.Answer.{Answer}
 use Rattle.rules.specs.declared.Answer.TheVariants.{Dropped, Rolled}
 use Rattle.rules.specs.declared.Command.TheVariants.{Deliver, Hear}
-use Rattle.history.specs.History.{Interval, History, member, newest, answers}
+use Rattle.history.specs.History.{Interval, History, member, newest}
 use Rattle.history.specs.Demand.{Run, step_in, next, RestsOnLost, up_to, call_in}
 
 -- The hearer has heard the crash that ended incarnation i of the crashed controller, and y rests on an interval of that controller that was

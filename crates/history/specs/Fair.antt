@@ -2,7 +2,7 @@
 -- said by what D would answer, and not by the dispatcher's own search.
 use Rattle.std.specs.Prelude.{◌≡◌, true, List, [], ◌∷◌, ◌++◌, ℕ, suc, ◌+◌, ◌%◌, ◌≤◌, ◌<◌, length, set}
 use Rattle.table.specs.Field.{Size, Served, MessageState, Receiver}
-use Rattle.table.specs.Layout.{controllers, messages, table_words, position}
+use Rattle.table.specs.Layout.{messages, table_words, position}
 use Rattle.table.specs.Words.{state}
 use Rattle.table.specs.Numbering.{used, record_of}
 use Rattle.rules.specs.Limits.{house}

@@ -7,14 +7,14 @@ use Rattle.std.proofs.Common.{sym, ◌∙◌, ap, true≢false, append_assoc, in
 use Rattle.std.proofs.Math.Path.{subst}
 use Rattle.std.specs.Int.Count.{ones}
 use Rattle.base.specs.Choice.{holds, fails}
-use Rattle.table.specs.Field.{desk, Served}
+use Rattle.table.specs.Field.{desk}
 use Rattle.rules.specs.Limits.{last_incarnation}
 use Rattle.rules.specs.Sets.{nth}
 use Rattle.rules.specs.Step.{Call, asks, release_set, step_call, dispatch, OutBoth}
 use Rattle.rules.specs.declared.Answer.{Answer}
 use Rattle.rules.specs.declared.Answer.TheVariants.{Done, Sent, Released, Dropped, Waits, Rolled, SetReleased, SetHeld}
 use Rattle.rules.specs.declared.Command.TheVariants.{Send, Release, Deliver, Checkpoint, Tell, Hear}
-use Rattle.history.specs.History.{Interval, History, member, newest, answers}
+use Rattle.history.specs.History.{Interval, History, member, newest}
 use Rattle.history.specs.Demand.{call_in, step_in, next, Accepted, RestsOnLost, named, LetsGo, alone, together, up_to, end, Demand3, Run}
 use Rattle.history.specs.Blame.{DropsNaming, by_delivery, by_dispatcher, OrphanBy, Blame, DroppedFor}
 use Rattle.history.specs.Progress.{SentIn, HoldsBack, held_together, HeldIn, LetOutIn, Deliverable, CrashIn, HasHeard, CanHear}

@@ -8,7 +8,7 @@ use Prim.Native.Nat.{ℕ, ◌+◌, ◌≤◌, ◌<◌}
 use native.Mathlib.Omega.{arith}
 use Rattle.base.specs.Choice.{◌==◌, ◌<?◌, cond_ind, le?}
 use Rattle.base.specs.Cases.{first_of}
-use Rattle.table.specs.Field.{State, Known, End, Size, Gap, Degree, Incarnation, LiveCount, StableCount, PlaceIncarnation, Flag, Sender, Receiver, SendingIncarnation, SendingNumber, word, same}
+use Rattle.table.specs.Field.{State, Known, End, Size, Gap, Degree, Incarnation, LiveCount, StableCount, PlaceIncarnation, Flag, Sender, Receiver, SendingIncarnation, SendingNumber, word}
 use Rattle.table.specs.Layout.{controllers, places, messages}
 use Rattle.table.specs.Words.{Agree}
 use Rattle.table.specs.Numbering.{number_of, last_live, place_of, used, record_of}

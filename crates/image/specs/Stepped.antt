@@ -1,5 +1,5 @@
 -- Every step on a state and a ledger is one of the outcomes, in a house of any limits.
-use Rattle.std.specs.Prelude.{◌≡◌, true, List, ℕ, ◌-◌, ◌≤◌, ◌<◌}
+use Rattle.std.specs.Prelude.{◌≡◌, true, List, ℕ, ◌≤◌}
 use Rattle.std.proofs.Math.Path.{refl, sym}
 use Rattle.std.proofs.Common.{subst}
 use native.Mathlib.Omega.{arith}
@@ -9,24 +9,17 @@ use Rattle.base.specs.Choice.{◌==◌, ◌<?◌, cond_ind}
 use Rattle.base.specs.Cases.{Case, first_of}
 use Rattle.table.specs.Field.{State, Size, Degree, LiveCount, StableCount, Sender, Receiver, desk, same}
 use Rattle.table.specs.Change.{put}
-
 use Rattle.rules.specs.Limits.{Limits}
-
 use Rattle.rules.specs.Form.{for_desk}
 use Rattle.rules.specs.Shared.{logged, logged_to, checkpointed, forced, capped}
 use Rattle.rules.specs.Steps.{After, after, refusing, AfterBoth, refusing_both, open_house, open_refusals, step_open, may_go}
 use Rattle.rules.specs.declared.Answer.{Answer}
 use Rattle.rules.specs.declared.Command.{Command}
 use Rattle.rules.specs.declared.Command.TheVariants.{Open}
-
 use Rattle.model.specs.Model as M
-
 use Rattle.laws.specs.Allowed.{open_allowed}
-
 use Rattle.image.specs.Image.{image}
-
 use Rattle.image.specs.Open.{image_opened}
-
 use Rattle.image.specs.Outcome as O
 use Rattle.image.specs.Outcome.{Outcome}
 

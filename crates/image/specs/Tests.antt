@@ -8,7 +8,7 @@ use Rattle.table.specs.Layout.{controllers}
 use Rattle.table.specs.Numbering.{number_of, last_live, place_of, used, record_of, Numbered}
 use Rattle.table.proofs.Numbering.{number_from_lem, place_lt, place_next, place_ge}
 use Rattle.rules.specs.Limits.{Limits}
-use Rattle.rules.specs.Vector.{Vector, incarnation, number, pair_of, place_vector, message_vector, filtered, condemned_pair, condemned, condemning, conflict}
+use Rattle.rules.specs.Vector.{Vector, incarnation, pair_of, place_vector, message_vector, filtered, condemned_pair, condemned, condemning, conflict}
 use Rattle.rules.specs.Steps.{noted, lowest_condemned}
 use Rattle.history.specs.History.{Interval}
 use Rattle.model.specs.Model.{Pair, Controller, released_vec, filtered as filtered_for}

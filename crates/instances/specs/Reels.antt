@@ -24,7 +24,7 @@ use Rattle.rules.specs.declared.Answer.TheVariants.{Done, Sent, Released, Crashe
 use Rattle.rules.specs.declared.Command.TheVariants.{SetDegree, Send, Release, Crash}
 use Rattle.history.specs.History.{Interval, interval, History, same_interval, changed_at, changed_at_interval, newest, member, those, degree_set, sent_from, joined, leaving, stabilized, hearing, losing, opening, forced_at, capping, beginning, delivering, restarting, crashing, answers, value_at, fed_step, fed}
 use Rattle.history.specs.Citations.{Citation, no_citations, sent_with, let_out_to, cited_step, cited, ledger_of}
-use Rattle.history.specs.Demand.{Run, call_in, next, runs, just_opened, named, LetsGo, together, FromOpening, up_to, end}
+use Rattle.history.specs.Demand.{Run, call_in, runs, just_opened, named, LetsGo, together, FromOpening, up_to, end}
 use Rattle.history.specs.Examples.{ListingLine, line, all, all_cited}
 use Rattle.laws.specs.Ledger.{appended_sound}
 use Rattle.listing.specs.Run as states

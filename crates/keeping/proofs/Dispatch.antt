@@ -1,5 +1,5 @@
 -- The dispatcher and the form: a call keeps it, and is not refused for a table that is in form.
-use Rattle.std.specs.Prelude.{◌≡◌, refl, true, not, List, [], ◌≢◌, ℕ, ◌≤◌, length}
+use Rattle.std.specs.Prelude.{◌≡◌, refl, true, List, [], ◌≢◌, ℕ, ◌≤◌, length}
 use Rattle.std.proofs.Common.{sym, ap, ◌∙◌, subst, arith, eq-eqb}
 use Rattle.table.specs.Field.{State, Served}
 use Rattle.table.specs.Change.{put}

@@ -7,7 +7,7 @@ use Rattle.table.specs.Field.{State}
 use Rattle.rules.specs.Limits.{Limits}
 use Rattle.rules.specs.Ledger.{count_of}
 use Rattle.rules.specs.Sets.{union, desks, set_may_go}
-use Rattle.laws.specs.Sets.{SetAllowed, entries}
+use Rattle.laws.specs.Sets.{SetAllowed}
 
 -- A SET THAT GOES
 pub record Goes (L : Limits) (σ : State) (g l : List ℕ) : Type 0 where

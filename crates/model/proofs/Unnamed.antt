@@ -1,5 +1,5 @@
 -- What a release let out that named nobody is never lost, and never undone.
-use Rattle.std.specs.Prelude.{◌≡◌, refl, false, ◌⊎◌, ℕ, ◌≤◌}
+use Rattle.std.specs.Prelude.{◌≡◌, refl, false, ℕ, ◌≤◌}
 use Rattle.std.proofs.Common.{⊎_elim}
 use Rattle.history.specs.History.{Interval, History, member}
 use Rattle.model.specs.Model.{Model, full, released_vec}

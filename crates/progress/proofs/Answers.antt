@@ -10,7 +10,7 @@ use Rattle.table.specs.Words.{state}
 use Rattle.table.specs.Numbering.{last_live, used, record_of}
 use Rattle.rules.specs.Limits.{house}
 use Rattle.rules.specs.Refusal.{MESSAGE, STATE, PLACES_USED_UP, LEDGER_USED_UP}
-use Rattle.rules.specs.Vector.{pair_of, message_vector, condemned, known_stable, number, incarnation}
+use Rattle.rules.specs.Vector.{pair_of, message_vector, condemned, known_stable}
 use Rattle.rules.specs.Form.{state_held, state_released, for_desk, in_form}
 use Rattle.rules.specs.Ledger.{count_of}
 use Rattle.rules.specs.Steps.{chain_full}

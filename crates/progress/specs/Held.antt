@@ -3,7 +3,6 @@
 use Rattle.std.specs.Prelude.{◌≡◌, ◌⊎◌, ℕ, ◌+◌, ◌≤◌, ◌<◌}
 use Rattle.table.specs.Field.{State, Incarnation, MessageState, Sender, SendingNumber}
 use Rattle.table.specs.Numbering.{last_live, record_of}
-use Rattle.rules.specs.Vector.{mask}
 use Rattle.rules.specs.Form.{state_held}
 use Rattle.rules.specs.declared.Answer.{Answer}
 use Rattle.rules.specs.declared.Answer.TheVariants.{Released}

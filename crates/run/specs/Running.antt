@@ -1,13 +1,11 @@
 -- What the code of a run has to show.
 use Rattle.std.specs.Prelude.{Bool, false, cond, List, ◌∷◌, ℕ}
-
 use Rattle.std.proofs.Math.ListN.{length}
 use Rattle.base.specs.Choice.{◌==◌}
 use Rattle.table.specs.Layout.{table_words}
 use Rattle.table.specs.Words.{state}
 use Rattle.rules.specs.Limits.{house}
 use Rattle.rules.specs.Form.{in_form}
-
 use Rattle.run.specs.Call.{Returned, returned}
 use Rattle.run.specs.Run.{ran_all}
 

@@ -5,7 +5,6 @@ use Rattle.std.specs.Prelude.{List, ℕ, zero, suc, ◌+◌}
 use Rattle.rules.specs.Refusal.{NO_SUCH_CRASH}
 use Rattle.rules.specs.Steps.{beside}
 use Rattle.rules.specs.Step.{OutBoth, out_both, lent, step}
-use Rattle.rules.proofs.Starred.{answer}
 use Rattle.rules.specs.declared.Answer.{Answer}
 use Rattle.rules.specs.declared.Answer.TheVariants.{Done, Sent, Released, Held, Delivered, Dropped, Waits, Crashed, Heard, Rolled, Refused, SetReleased, SetHeld, Idle}
 use Rattle.rules.specs.declared.Command.{Command}

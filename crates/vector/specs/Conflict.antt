@@ -8,7 +8,7 @@ use Rattle.base.specs.Ranges.{anyb_at, anyb_none}
 use Rattle.base.specs.Lists.{get_d_tab}
 use Rattle.table.specs.Field.{State}
 use Rattle.table.specs.Layout.{controllers}
-use Rattle.rules.specs.Vector.{Pair, Vector, number, empty, pair_of, place_vector, filter_pair, filtered, conflict_pair, conflict}
+use Rattle.rules.specs.Vector.{Pair, Vector, number, pair_of, place_vector, filter_pair, filtered, conflict_pair, conflict}
 
 -- an empty pair conflicts with none
 pub conflict_empty : (c owner : ℕ) (p q : Pair) → number q ≡ 0 → false ≡ conflict_pair c owner p q

@@ -1,6 +1,6 @@
 use Rattle.rules.specs.Steps.{told_row}
 use Rattle.base.specs.Lists.{filled_none, filled_more, filled_done}
-use Rattle.std.proofs.Common.{max, ◌-◌, refl, ap₂, ◌∙◌}
+use Rattle.std.proofs.Common.{max, refl, ap₂, ◌∙◌}
 use Rattle.controller.proofs.told_row.Goals as goal
 
 pub loop-i-init : goal.loop-i-init

@@ -1,6 +1,6 @@
 use Rattle.dispatch.specs.Searching.{passed_none, passed_more, next_here, next_none}
 use Rattle.dispatch.specs.Returns.{record_low}
-use Rattle.std.proofs.Common.{◌-◌, arith}
+use Rattle.std.proofs.Common.{arith}
 use Rattle.dispatch.proofs.next_released.Goals as goal
 
 pub loop-r-init : goal.loop-r-init

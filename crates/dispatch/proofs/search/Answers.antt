@@ -1,7 +1,7 @@
 use Rattle.dispatch.specs.Searching.{best_none, best_passed, chosen_all, chosen_first}
 use Rattle.laws.specs.Facts.{form}
 use Rattle.rules.specs.Limits.{house}
-use Rattle.std.proofs.Common.{◌-◌, refl, arith}
+use Rattle.std.proofs.Common.{refl, arith}
 use Rattle.dispatch.proofs.search.Goals as goal
 
 pub loop-r-init : goal.loop-r-init

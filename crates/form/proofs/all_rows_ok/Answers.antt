@@ -1,5 +1,5 @@
 use Rattle.base.specs.Ranges.{allb_zero, allb_next, allb_stops, allb_end}
-use Rattle.std.proofs.Common.{rules, true, ◌-◌, ap, not}
+use Rattle.std.proofs.Common.{rules, ap, not}
 use Rattle.form.proofs.all_rows_ok.Goals as goal
 
 pub loop-holder-init : goal.loop-holder-init

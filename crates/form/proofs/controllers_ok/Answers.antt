@@ -1,6 +1,5 @@
 use Rattle.base.specs.Ranges.{allb_zero, allb_next, allb_stops, allb_end}
-use Rattle.rules.specs.Form.{controller_ok}
-use Rattle.std.proofs.Common.{rules, true, ◌-◌, ap, not}
+use Rattle.std.proofs.Common.{rules, ap, not}
 use Rattle.form.proofs.controllers_ok.Goals as goal
 
 pub loop-c-init : goal.loop-c-init

@@ -1,7 +1,6 @@
 use Rattle.base.specs.Ranges.{allb_zero, allb_next, allb_stops, allb_end}
-use Rattle.rules.specs.Form.{message_ok}
 use Rattle.form.specs.Runs.{all_messages}
-use Rattle.std.proofs.Common.{rules, true, ◌-◌, arith, ap, not}
+use Rattle.std.proofs.Common.{rules, arith, ap, not}
 use Rattle.form.proofs.messages_ok.Goals as goal
 
 pub loop-r-init : goal.loop-r-init

@@ -1,7 +1,6 @@
 use Rattle.base.specs.Ranges.{allb_zero, allb_next, allb_stops, allb_end}
-use Rattle.rules.specs.Form.{place_ok}
 use Rattle.form.specs.Runs.{all_places}
-use Rattle.std.proofs.Common.{rules, true, ◌-◌, arith, ap, not}
+use Rattle.std.proofs.Common.{rules, arith, ap, not}
 use Rattle.form.proofs.places_ok.Goals as goal
 
 pub loop-p-init : goal.loop-p-init

@@ -1,11 +1,6 @@
 -- The newest interval of a chain is live, so that its vector is near (newest_near); what was read is put for the words (newest_filtered).
 use Rattle.message.specs.Ready.{newest_near}
 use Rattle.message.specs.Writes.{newest_filtered}
-use Rattle.message.proofs.newest_vector.Reads as reads
-use Rattle.message.proofs.newest_vector.Lts as lts
-use Rattle.table.proofs.live_count.Reads as live-count-reads
-use Rattle.vector.proofs.filter_vector.Reads as filter-vector-reads
-use Rattle.vector.proofs.place_vector.Reads as place-vector-reads
 use Rattle.message.proofs.newest_vector.Goals as goal
 
 pub filter_vector-requires : goal.filter_vector-requires

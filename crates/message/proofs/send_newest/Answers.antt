@@ -1,16 +1,6 @@
 -- The next number fits a word (next_fits), and all that was read before the record is written stands in the message (writes_sent).
 use Rattle.message.specs.Ready.{next_fits}
 use Rattle.message.specs.Writes.{writes_sent}
-use Rattle.message.proofs.send_newest.Reads as reads
-use Rattle.message.proofs.send_newest.Lts as lts
-use Rattle.message.proofs.newest_vector.Reads as newest-vector-reads
-use Rattle.message.proofs.write_held.Reads as write-held-reads
-use Rattle.table.proofs.last_given.Reads as last-given-reads
-use Rattle.table.proofs.live_count.Reads as live-count-reads
-use Rattle.table.proofs.place_incarnation.Reads as place-incarnation-reads
-use Rattle.table.proofs.place_number.Reads as place-number-reads
-use Rattle.table.proofs.records_used.Reads as records-used-reads
-use Rattle.table.proofs.set_sent_count.Reads as set-sent-count-reads
 use Rattle.message.proofs.send_newest.Goals as goal
 
 pub overflow_add-m : goal.overflow_add-m

@@ -1,7 +1,7 @@
 use Rattle.table.proofs.Words.{long_of}
 use Rattle.interval.specs.LentPlaces.{zero_words}
 use Rattle.opening.specs.Opened.{opened_none, opened_next, opened_all}
-use Rattle.std.proofs.Common.{rules, ap, ◌∙◌, ◌-◌, arith}
+use Rattle.std.proofs.Common.{rules, ap, ◌∙◌, arith}
 use Rattle.opening.proofs.open_house.Goals as goal
 
 -- there is a controller

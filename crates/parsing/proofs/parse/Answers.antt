@@ -1,6 +1,6 @@
 use Rattle.parsing.specs.Reading.{line_none, line_start, line_more, line_broken, line_long, line_end, line_less}
 use Rattle.lines.specs.Lines.{with_numbers}
-use Rattle.std.proofs.Common.{sym, ap, ◌∙◌, ◌-◌, arith}
+use Rattle.std.proofs.Common.{sym, ap, ◌∙◌, arith}
 use Rattle.parsing.proofs.parse.Goals as goal
 
 pub returns-then-s : goal.returns-then-s

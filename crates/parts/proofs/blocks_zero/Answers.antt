@@ -1,6 +1,6 @@
 use Rattle.parts.specs.Zeros.{block, zeros_records}
 use Rattle.base.specs.Ranges.{allb_zero, allb_next, allb_stops, allb_end}
-use Rattle.std.proofs.Common.{rules, sym, ◌∙◌, true, ◌-◌, ap, not}
+use Rattle.std.proofs.Common.{rules, sym, ◌∙◌, ap, not}
 use Rattle.parts.proofs.blocks_zero.Goals as goal
 
 pub loop-i-init : goal.loop-i-init

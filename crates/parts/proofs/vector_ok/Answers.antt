@@ -2,7 +2,7 @@ use Rattle.vector.specs.At.{pair_at_lem}
 use Rattle.base.specs.Ranges.{allb_zero, allb_step, allb_end}
 use Rattle.rules.specs.Limits.{house}
 use Rattle.rules.specs.Form.{pair_ok, vector_ok}
-use Rattle.std.proofs.Common.{rules, sym, ap, ◌∙◌, ◌-◌}
+use Rattle.std.proofs.Common.{rules, sym, ap, ◌∙◌}
 use Rattle.parts.proofs.vector_ok.Goals as goal
 
 pub loop-owner-init : goal.loop-owner-init

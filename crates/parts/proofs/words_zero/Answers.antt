@@ -1,7 +1,7 @@
 use Rattle.parts.specs.Zeros.{zeros_from}
 use Rattle.base.specs.Ranges.{allb_zero, allb_step, allb_end}
 use Rattle.rules.specs.Form.{zeros}
-use Rattle.std.proofs.Common.{rules, refl, ◌-◌}
+use Rattle.std.proofs.Common.{rules, refl}
 use Rattle.parts.proofs.words_zero.Goals as goal
 
 pub loop-i-init : goal.loop-i-init

@@ -1,5 +1,5 @@
 use Rattle.printing.proofs.Writing.{spelling_start, spelling_length, spelling_more, spelling_end}
-use Rattle.std.proofs.Common.{◌-◌, arith}
+use Rattle.std.proofs.Common.{arith}
 use Rattle.printing.proofs.write_word.Goals as goal
 
 pub loop-i-init : goal.loop-i-init

@@ -4,7 +4,7 @@ use Rattle.table.specs.Field.{State}
 use Rattle.table.specs.Layout.{incarnations}
 use Rattle.rules.specs.Limits.{house}
 use Rattle.rules.specs.Form.{highest, row_ok}
-use Rattle.std.proofs.Common.{◌≡◌, ap, ◌∙◌, Bool, ◌&&◌, ℕ, ◌-◌, ◌≤◌, rules}
+use Rattle.std.proofs.Common.{◌≡◌, ap, ◌∙◌, ◌&&◌, ℕ, rules}
 use Rattle.records.proofs.row_ok.Invariants.{within}
 use Rattle.records.proofs.row_ok.Goals as goal
 

@@ -1,4 +1,4 @@
-use Rattle.std.proofs.Common.{◌-◌, rules}
+use Rattle.std.proofs.Common.{rules}
 use Rattle.laws.specs.Numbers.{number_fits}
 use Rattle.removal.specs.Dropping.{drop_none, drop_more, drop_all}
 use Rattle.removal.proofs.drop_held.Goals as goal

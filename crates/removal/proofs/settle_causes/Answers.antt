@@ -1,4 +1,4 @@
-use Rattle.std.proofs.Common.{sym, ◌∙◌, ◌-◌}
+use Rattle.std.proofs.Common.{sym, ◌∙◌}
 use Rattle.removal.specs.Settling.{walk_none, walk_asks, walk_more, walk_long, walk_all}
 use Rattle.removal.proofs.settle_causes.Goals as goal
 

@@ -1,6 +1,6 @@
 use Rattle.base.specs.Ranges.{allb_zero, allb_step, allb_end}
-use Rattle.run.specs.Run.{asked_by, known}
-use Rattle.std.proofs.Common.{ap, ◌∙◌, ◌-◌, arith}
+use Rattle.run.specs.Run.{known}
+use Rattle.std.proofs.Common.{ap, ◌∙◌, arith}
 use Rattle.run.proofs.letters_known.Goals as goal
 
 pub loop-i-init : goal.loop-i-init

@@ -1,6 +1,6 @@
 use Rattle.base.specs.Ranges.{allb_get}
 use Rattle.run.proofs.Running.{ran_none, ran_more, ran_end}
-use Rattle.std.proofs.Common.{refl, ◌-◌, arith, rules}
+use Rattle.std.proofs.Common.{refl, arith, rules}
 use Rattle.run.proofs.run_steps.Goals as goal
 
 pub loop-i-init : goal.loop-i-init

@@ -1,4 +1,4 @@
-use Rattle.std.proofs.Common.{rules, refl, ◌-◌, arith}
+use Rattle.std.proofs.Common.{rules, refl, arith}
 use Rattle.session.specs.Taking.{stored_all}
 use Rattle.session.proofs.Buffers.{taken_next, taken_whole, stored_next, stored_whole, behind_later}
 use Rattle.session.proofs.take_bytes.Goals as goal

@@ -1,6 +1,6 @@
 use Rattle.rules.specs.Sets.{desks}
 use Rattle.sets.specs.Reading.{desks_more, desks_all, desks_fit}
-use Rattle.std.proofs.Common.{refl, ◌-◌, arith, rules}
+use Rattle.std.proofs.Common.{refl, arith, rules}
 use Rattle.sets.proofs.desk_count.Goals as goal
 
 pub loop-i-init : goal.loop-i-init

@@ -1,5 +1,5 @@
 use Rattle.sets.specs.Going.{gone_none, gone_long, gone_ledger, gone_asks, gone_more, gone_all, gone_entries, passed_ledger}
-use Rattle.std.proofs.Common.{sym, ◌∙◌, ◌-◌}
+use Rattle.std.proofs.Common.{sym, ◌∙◌}
 use Rattle.sets.proofs.let_all_go.Goals as goal
 
 pub loop-i-init : goal.loop-i-init

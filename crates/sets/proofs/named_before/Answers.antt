@@ -1,6 +1,6 @@
 use Rattle.base.specs.Ranges.{anyb_zero, anyb_step, anyb_end}
 use Rattle.rules.specs.Sets.{named_before}
-use Rattle.std.proofs.Common.{refl, ◌-◌, rules}
+use Rattle.std.proofs.Common.{refl, rules}
 use Rattle.sets.proofs.named_before.Goals as goal
 
 pub loop-j-init : goal.loop-j-init

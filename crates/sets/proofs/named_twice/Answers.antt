@@ -1,6 +1,6 @@
 use Rattle.base.specs.Ranges.{anyb_zero, anyb_step, anyb_end}
 use Rattle.rules.specs.Sets.{named_twice}
-use Rattle.std.proofs.Common.{◌-◌, rules}
+use Rattle.std.proofs.Common.{rules}
 use Rattle.sets.proofs.named_twice.Goals as goal
 
 pub loop-i-init : goal.loop-i-init

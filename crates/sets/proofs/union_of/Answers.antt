@@ -1,5 +1,5 @@
 use Rattle.sets.specs.Gathering.{gathered_none, gathered_more, gathered_all}
-use Rattle.std.proofs.Common.{◌-◌, rules}
+use Rattle.std.proofs.Common.{rules}
 use Rattle.sets.proofs.union_of.Goals as goal
 
 pub loop-i-init : goal.loop-i-init

@@ -1,7 +1,7 @@
-use Rattle.rules.specs.Vector.{condemned_pair, condemning}
+use Rattle.rules.specs.Vector.{condemning}
 use Rattle.base.specs.Ranges.{first_at, first_none}
 use Rattle.table.specs.Layout.{controllers}
-use Rattle.std.proofs.Common.{arith, rules, false, ◌≡◌, sym, ◌∙◌}
+use Rattle.std.proofs.Common.{arith, rules, ◌≡◌, sym, ◌∙◌}
 use borrow.Author.Count.{below_none, below_more}
 use Rattle.vector.proofs.condemning.Goals as goal
 

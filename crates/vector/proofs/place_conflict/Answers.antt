@@ -1,6 +1,6 @@
 use Rattle.vector.specs.Conflict.{conflict_one, conflict_none}
 use Rattle.table.specs.Words.{state}
-use Rattle.std.proofs.Common.{arith, rules, false, sym, ◌∙◌}
+use Rattle.std.proofs.Common.{arith, rules, sym, ◌∙◌}
 use borrow.Author.Count.{below_none, below_more}
 use Rattle.vector.proofs.place_conflict.Goals as goal
 
