@@ -1,15 +1,11 @@
 -- Tests on numbers in infix form, and laws of a choice by a test.
-use Rattle.std.specs.Prelude.{◌≡◌, refl, Bool, true, false, cond, ◌&&◌, ◌||◌, ℕ, ◌≤◌, ◌<◌, eqb, leb, ltb}
+use Rattle.std.specs.Prelude.{◌≡◌, refl, Bool, true, false, cond, ◌&&◌, ◌||◌, ℕ, ◌≤◌, ◌<◌, leb, ltb}
 use Rattle.std.proofs.lemmas.Bool.{false≢true}
 use Rattle.std.proofs.Common.{true≢false, arith}
 use Rattle.std.proofs.Math.Decide.{dec_le}
 
-infix 40 ◌==◌
 infix 40 ◌≤?◌
 infix 40 ◌<?◌
-abbrev pub ◌==◌ : ℕ → ℕ → Bool
-a == b = eqb a b
-
 abbrev pub ◌≤?◌ : ℕ → ℕ → Bool
 a ≤? b = leb a b
 

@@ -1,9 +1,9 @@
 -- A call of the dispatcher in a run: one that serves is the delivery of its message, answer and history included, with its controller put into
 -- the word of the one last served; any other leaves all as it is.
-use Rattle.std.specs.Prelude.{◌≡◌, refl, not, List, ℕ, ◌≤◌, length}
+use Rattle.std.specs.Prelude.{◌≡◌, refl, not, List, ℕ, ◌≤◌, length, ◌==◌}
 use Rattle.std.proofs.Common.{sym, ap, ◌∙◌, subst, eqb-true}
 use Rattle.std.proofs.lemmas.Bool.{not-false}
-use Rattle.base.specs.Choice.{◌==◌, cond_ind}
+use Rattle.base.specs.Choice.{cond_ind}
 use Rattle.table.specs.Field.{Served}
 use Rattle.table.specs.Change.{put}
 use Rattle.table.specs.Layout.{table_words}

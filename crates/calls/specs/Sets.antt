@@ -1,13 +1,13 @@
 -- A set on lent buffers, and in a run: one that goes is the list of its releases, table, ledger, history and citations included; one that doesn't
 -- leaves all as it is.
-use Rattle.std.specs.Prelude.{◌≡◌, refl, not, List, [], ◌∷◌, ◌++◌, map, ◌≢◌, length, take}
+use Rattle.std.specs.Prelude.{◌≡◌, refl, not, List, [], ◌∷◌, ◌++◌, map, ◌≢◌, length, take, ◌==◌}
 use Rattle.std.proofs.Math.Path.{sym, ap}
 use Rattle.std.proofs.Common.{◌∙◌, subst, arith, take-suc, eqb-true}
 use Rattle.std.proofs.lemmas.List.{map-append}
 use Prim.Native.Nat.{ℕ, zero, suc, ◌≤◌, ◌<◌}
 use Rattle.std.proofs.Math.Seq.{take-length}
 use Rattle.std.proofs.lemmas.Bool.{not-false}
-use Rattle.base.specs.Choice.{◌==◌, cond_ind}
+use Rattle.base.specs.Choice.{cond_ind}
 use Rattle.table.specs.Field.{State}
 use Rattle.table.specs.Layout.{table_words}
 use Rattle.table.specs.Words.{state, words}

@@ -2,9 +2,9 @@
 -- D would leave waiting, or refuse because their receiver has no place left.
 use Rattle.std.proofs.Math.Path.{◌≡◌, refl}
 use Rattle.std.proofs.Common.{sym, ap, ◌∙◌, subst, arith}
-use Rattle.std.specs.Prelude.{true, false, not, List, ℕ, ◌<◌, length}
+use Rattle.std.specs.Prelude.{true, false, not, List, ℕ, ◌<◌, length, ◌==◌}
 use borrow.Author.Tests.{eqb-true, not-false}
-use Rattle.base.specs.Choice.{◌==◌, cond_ind}
+use Rattle.base.specs.Choice.{cond_ind}
 use Rattle.base.specs.Cases.{first_of}
 use Rattle.table.specs.Field.{State, MessageState, Receiver}
 use Rattle.table.specs.Layout.{table_words}

@@ -1,8 +1,7 @@
 -- The history and the table tell the same of each controller, after every step of a list: its degree, its incarnation, which numbers are
 -- live, and which of them are stable and flagged; and of Q.
 use Rattle.std.specs.Prelude.{◌≡◌, true, List, ◌++◌, ℕ, ◌<◌}
-use Rattle.std.proofs.Common.{sym, ◌∙◌, ap, arith, eqb-true, eq-eqb}
-use Rattle.base.specs.Choice.{◌==◌}
+use Rattle.std.proofs.Common.{sym, ◌∙◌, ap, arith, eqb-true, eq-eqb, ◌==◌}
 use Rattle.table.specs.Field.{Flag}
 use Rattle.table.specs.Words.{state}
 use Rattle.table.specs.Numbering.{place_of}

@@ -1,13 +1,13 @@
 -- Every entry of the ledger may be cited: along a list, each message that the citations have for the desk was sent so by a send of the list,
 -- and each entry is one of these that a release or a set let out, of which demand 3 says that the interval that sent it stands.
 use Rattle.std.proofs.Math.Path.{◌≡◌, refl, ap, subst}
-use Rattle.std.proofs.Common.{sym, ◌∙◌, arith, length-append, eqb-true}
+use Rattle.std.proofs.Common.{sym, ◌∙◌, arith, length-append, eqb-true, ◌==◌}
 use Rattle.std.specs.Prelude.{Bool, ℕ, ◌+◌, ◌≤◌, ◌<◌, length}
 use Rattle.std.proofs.Math.Bool.{true, false, cond}
 use mathlib.Core.List.{List, [], ◌∷◌, ◌++◌, append-nil}
 use Rattle.std.proofs.Math.ListN.{get_or-append}
 use Rattle.std.proofs.lemmas.List.{get_or_at}
-use Rattle.base.specs.Choice.{◌==◌, cond_ind, le?}
+use Rattle.base.specs.Choice.{cond_ind, le?}
 use Rattle.table.specs.Field.{desk}
 use Rattle.rules.specs.Ledger.{count_of, cited_message, cited_payload}
 use Rattle.rules.specs.Report.{report}

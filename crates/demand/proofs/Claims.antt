@@ -1,10 +1,10 @@
 -- What a tester looks for by name, each claim under the sentence that it answers.
 use Rattle.std.specs.Prelude.{◌≡◌, true, false, List, [], ◌++◌, ◌∷◌, ◌⊎◌, ◌≢◌, ℕ, ◌≤◌, ◌<◌, length, take, drop}
 use Rattle.std.proofs.Math.Path.{refl, subst}
-use Rattle.std.proofs.Common.{sym, ap, ◌∙◌, arith, eqb-true, eq-eqb}
+use Rattle.std.proofs.Common.{sym, ap, ◌∙◌, arith, eqb-true, eq-eqb, ◌==◌}
 use Rattle.std.proofs.Math.Bool.{true≢false}
 use Rattle.std.specs.Int.Count.{ones}
-use Rattle.base.specs.Choice.{◌==◌, cond_ind}
+use Rattle.base.specs.Choice.{cond_ind}
 use Rattle.base.specs.Ranges.{count}
 use Rattle.table.specs.Field.{MessageState, Served}
 use Rattle.table.specs.Layout.{controllers, messages, table_words}

@@ -1,12 +1,12 @@
 -- What a tester looks for of sets, each claim under the sentence that it answers (W5). Demand 3, the ledger and the form speak of lists with sets
 -- in them, and are in Claims.antt; lists in which sets go out are in crates/instances/specs/Reels.antt.
-use Rattle.std.specs.Prelude.{◌≡◌, Bool, not, ◌&&◌, List, [], ◌∷◌, ◌≢◌, ℕ, suc, ◌+◌, ◌≤◌, ◌<◌, length}
+use Rattle.std.specs.Prelude.{◌≡◌, Bool, not, ◌&&◌, List, [], ◌∷◌, ◌≢◌, ℕ, suc, ◌+◌, ◌≤◌, ◌<◌, length, ◌==◌}
 use Rattle.std.proofs.Math.Path.{refl, ap}
 use Rattle.std.proofs.Common.{sym, ap₂, ◌∙◌, arith, eq-eqb, eqb-true, le-ltb, lt-ltb, le-leb}
 use Rattle.std.proofs.Math.Bool.{true, false, cond}
 use Rattle.std.specs.Int.Count.{ones}
 use Rattle.std.proofs.lemmas.Bool.{lt-leb}
-use Rattle.base.specs.Choice.{◌==◌, ◌≤?◌, ◌<?◌, le?}
+use Rattle.base.specs.Choice.{◌≤?◌, ◌<?◌, le?}
 use Rattle.base.specs.Ranges.{anyb}
 use Rattle.base.specs.Cases.{first_of}
 use Rattle.table.specs.Field.{State, Degree, MessageState, Sender, desk}

@@ -2,12 +2,12 @@
 -- message fewer, and one that says idle changes nothing.
 use Rattle.std.specs.Prelude.{◌≡◌, refl, Bool, true, false, cond, ◌&&◌, ◌≢◌, ◌⊎◌, replicate}
 use Rattle.std.proofs.Math.Path.{sym}
-use Rattle.std.proofs.Common.{ap, ◌∙◌, subst, true≢false, inl, inr, ⊎_elim, arith}
+use Rattle.std.proofs.Common.{ap, ◌∙◌, subst, true≢false, inl, inr, ⊎_elim, arith, ◌==◌}
 use Rattle.std.proofs.Math.Bool.{not, and-false}
 use mathlib.Core.List.{List, []}
 use Prim.Native.Nat.{ℕ, zero, suc, ◌+◌, ◌≤◌, ◌<◌}
 use borrow.Author.Tests.{eqb-true, eq-eqb, ne_eqb, lt-ltb, ltb-true}
-use Rattle.base.specs.Choice.{◌==◌, ◌<?◌, fails, and_left, and_right, le?}
+use Rattle.base.specs.Choice.{◌<?◌, fails, and_left, and_right, le?}
 use Rattle.base.specs.Ranges.{count, count_le}
 use Rattle.table.specs.Field.{Field, State, OfMessage, Known, End, Served, MessageState, Receiver, same, word}
 use Rattle.table.specs.Layout.{controllers, messages}

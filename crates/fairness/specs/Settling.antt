@@ -1,10 +1,10 @@
 -- What a delivery leaves: the words of messages but the state of its own, what controllers know of others, and end words. So a call that serves somebody
 -- leaves one released message fewer, and hinders none of the others.
-use Rattle.std.specs.Prelude.{◌≡◌, refl, Bool, true, false, not, ◌&&◌, [], ◌≢◌, ℕ, ◌<◌}
+use Rattle.std.specs.Prelude.{◌≡◌, refl, Bool, true, false, not, ◌&&◌, [], ◌≢◌, ℕ, ◌<◌, ◌==◌}
 use Rattle.std.proofs.Common.{sym, ap, ◌∙◌, true≢false, arith, eq-eqb}
 use Rattle.std.proofs.Math.Bool.{and-false}
 use Rattle.std.proofs.lemmas.Bool.{eqb-false}
-use Rattle.base.specs.Choice.{◌==◌, ◌≤?◌, ◌<?◌, cond_ind}
+use Rattle.base.specs.Choice.{◌≤?◌, ◌<?◌, cond_ind}
 use Rattle.base.specs.Ranges.{anyb_none, anyb_same}
 use Rattle.base.specs.Lists.{get_d_tab}
 use Rattle.base.specs.Cases.{first_of}

@@ -1,7 +1,7 @@
 -- Whether the table that a step leaves is in form, from whether the one that it found is.
-use Rattle.std.specs.Prelude.{◌≡◌, refl, Bool, true, false, List, ℕ, length}
+use Rattle.std.specs.Prelude.{◌≡◌, refl, Bool, true, false, List, ℕ, length, ◌==◌}
 use Rattle.std.proofs.Common.{sym, ap, ◌∙◌, subst, true≢false, eq-eqb}
-use Rattle.base.specs.Choice.{◌==◌, cond_ind}
+use Rattle.base.specs.Choice.{cond_ind}
 use Rattle.base.specs.Cases.{first_of}
 use Rattle.table.specs.Layout.{table_words}
 use Rattle.table.specs.Words.{state}

@@ -1,10 +1,10 @@
 -- What H counts on, and what it leaves.
-use Rattle.std.specs.Prelude.{◌≡◌, refl, Bool, true, false, not, cond, ◌||◌, List, ◌≢◌, ℕ, zero, suc, ◌+◌, ◌-◌, ◌≤◌, ◌<◌, max, length}
+use Rattle.std.specs.Prelude.{◌≡◌, refl, Bool, true, false, not, cond, ◌||◌, List, ◌≢◌, ℕ, zero, suc, ◌+◌, ◌-◌, ◌≤◌, ◌<◌, max, length, ◌==◌}
 use Rattle.std.proofs.Common.{sym, ◌∙◌, arith}
 use Rattle.std.proofs.Math.Path.{ap}
 use Rattle.std.proofs.Math.Bool.{or-true}
 use borrow.Author.Tests.{leb-false, le-leb, lt-leb, lt-ltb, le-ltb, eq-eqb, ne_eqb}
-use Rattle.base.specs.Choice.{◌==◌, ◌≤?◌, ◌<?◌, or_left, or_right}
+use Rattle.base.specs.Choice.{◌≤?◌, ◌<?◌, or_left, or_right}
 use Rattle.base.specs.Cases.{Case, first_of, none, hit, skip}
 use Rattle.table.specs.Field.{Field, State, Known, End, Size, Incarnation, LiveCount, Flag, same}
 use Rattle.table.specs.Change.{put, put_ind, put_other}

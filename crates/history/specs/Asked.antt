@@ -1,8 +1,8 @@
 -- What brings a held message out, and a released one in, wherever these steps stand in a list: an operator asks the controllers that the mask
 -- names (`Asked`: C c, and then T c b). Told by the steps of the list, their answers and the history alone; whatever else stands before,
 -- between and after them is free: sends, deliveries, crashes, hearings, refused steps. Progress.antt has the words for messages and crashes.
-use Rattle.std.specs.Prelude.{◌≡◌, Bool, true, false, cond, ◌&&◌, List, ◌∷◌, ◌++◌, ◌⊎◌, ◌↔◌, ℕ, ◌+◌, ◌<◌, ◌≤◌, length}
-use Rattle.base.specs.Choice.{◌==◌, ◌≤?◌}
+use Rattle.std.specs.Prelude.{◌≡◌, Bool, true, false, cond, ◌&&◌, List, ◌∷◌, ◌++◌, ◌⊎◌, ◌↔◌, ℕ, ◌+◌, ◌<◌, ◌≤◌, length, ◌==◌}
+use Rattle.base.specs.Choice.{◌≤?◌}
 use Rattle.table.specs.Field.{desk}
 use Rattle.rules.specs.Limits.{house, last_entry}
 use Rattle.rules.specs.Refusal.{STATE, PLACES_USED_UP, LEDGER_USED_UP}

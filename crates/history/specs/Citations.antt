@@ -1,8 +1,7 @@
 -- W2: what a house let out to the desk, read off the steps and their answers alone, as the history is; and the ledger that says
 -- just that.
-use Rattle.std.specs.Prelude.{cond, ℕ, length, get_or}
+use Rattle.std.specs.Prelude.{cond, ℕ, length, get_or, ◌==◌}
 use mathlib.Core.List.{List, [], ◌∷◌, ◌++◌, map, flatten}
-use Rattle.base.specs.Choice.{◌==◌}
 use Rattle.base.specs.Lists.{tab}
 use Rattle.table.specs.Field.{desk}
 use Rattle.rules.specs.Limits.{house}

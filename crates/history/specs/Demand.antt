@@ -1,7 +1,6 @@
 -- Demand 3 of the minutes with what requests W2 and W5 add to it, about lists of calls over the words of a lent table and a lent ledger.
-use Rattle.std.specs.Prelude.{◌≡◌, Bool, true, false, List, [], ◌∷◌, ◌++◌, ◌↔◌, ◌≢◌, ℕ, ◌^◌, ◌/◌, ◌%◌, ◌≤◌, ◌<◌, length}
+use Rattle.std.specs.Prelude.{◌≡◌, Bool, true, false, List, [], ◌∷◌, ◌++◌, ◌↔◌, ◌≢◌, ℕ, ◌^◌, ◌/◌, ◌%◌, ◌≤◌, ◌<◌, length, ◌==◌}
 use Rattle.std.specs.Int.Count.{ones}
-use Rattle.base.specs.Choice.{◌==◌}
 use Rattle.table.specs.Field.{desk}
 use Rattle.rules.specs.Sets.{nth}
 use Rattle.rules.specs.Step.{OutBoth, step, Call, asks, release_set, step_call}

@@ -1,6 +1,5 @@
 -- Beyond W7: what many calls of the dispatcher leave, in any table in form, and where all have heard every crash, written and told.
-use Rattle.std.specs.Prelude.{◌≡◌, true, cond, List, [], ◌∷◌, ◌++◌, ◌≢◌, ℕ, zero, suc, ◌<◌, length, replicate}
-use Rattle.base.specs.Choice.{◌==◌}
+use Rattle.std.specs.Prelude.{◌≡◌, true, cond, List, [], ◌∷◌, ◌++◌, ◌≢◌, ℕ, zero, suc, ◌<◌, length, replicate, ◌==◌}
 use Rattle.table.specs.Layout.{messages, table_words}
 use Rattle.table.specs.Words.{state}
 use Rattle.rules.specs.Limits.{house}

@@ -1,7 +1,7 @@
 -- Document 01, "The history of a house": fed each step, in order, with its numbers and its answer, it takes nothing from the
 -- table. There is no vector, no known or end word and no place in it.
-use Rattle.std.specs.Prelude.{Bool, true, false, not, cond, ◌&&◌, ◌||◌, List, [], ◌∷◌, ℕ, ◌+◌, ◌-◌, length, get_or, drop}
-use Rattle.base.specs.Choice.{◌==◌, ◌≤?◌, ◌<?◌}
+use Rattle.std.specs.Prelude.{Bool, true, false, not, cond, ◌&&◌, ◌||◌, List, [], ◌∷◌, ℕ, ◌+◌, ◌-◌, length, get_or, drop, ◌==◌}
+use Rattle.base.specs.Choice.{◌≤?◌, ◌<?◌}
 use Rattle.rules.specs.Report.{report}
 use Rattle.rules.specs.Step.{Call, asks, release_set, dispatch}
 use Rattle.rules.specs.declared.Answer.{Answer}

@@ -1,12 +1,12 @@
 -- Every step on a state and a ledger is one of the outcomes, in a house of any limits.
 use Rattle.std.specs.Prelude.{◌≡◌, true, false, ◌&&◌, List, ℕ, ◌+◌, ◌-◌, ◌≤◌, ◌<◌, set}
 use Rattle.std.proofs.Math.Path.{refl, sym, ap, ap₂}
-use Rattle.std.proofs.Common.{◌∙◌, subst, inl, inr}
+use Rattle.std.proofs.Common.{◌∙◌, subst, inl, inr, ◌==◌}
 use Rattle.std.proofs.Math.Bool.{not}
 use native.Mathlib.Omega.{arith}
 use Rattle.std.specs.Int.Count.{ones}
 use borrow.Author.Tests.{eqb-true, leb-true, leb-false, le-leb, not-false}
-use Rattle.base.specs.Choice.{◌==◌, ◌≤?◌, cond_ind, le?}
+use Rattle.base.specs.Choice.{◌≤?◌, cond_ind, le?}
 use Rattle.base.specs.Cases.{first_of}
 use Rattle.table.specs.Field.{State, OfPlace, Size, Degree, Incarnation, LiveCount, StableCount, Sender, Receiver, desk, same}
 use Rattle.table.specs.Change.{put, put_same, put_part, clear_places, put_states}

@@ -1,7 +1,7 @@
 -- Every step on the lent buffers is one of the outcomes, for the model of the table's words.
 use Rattle.std.specs.Prelude.{◌≡◌, refl, List, ℕ, ◌≤◌, length}
-use Rattle.std.proofs.Common.{sym, ap, ◌∙◌, ⊎_elim, arith, eqb-true}
-use Rattle.base.specs.Choice.{◌==◌, cond_ind}
+use Rattle.std.proofs.Common.{sym, ap, ◌∙◌, ⊎_elim, arith, eqb-true, ◌==◌}
+use Rattle.base.specs.Choice.{cond_ind}
 use Rattle.base.specs.Cases.{first_of}
 use Rattle.table.specs.Field.{State, Size, Served, word}
 use Rattle.table.specs.Change.{put, put_other}

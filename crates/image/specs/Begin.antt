@@ -1,9 +1,8 @@
 -- An interval written to a place, and a delivery that begins one, as a change of the model.
-use Rattle.std.specs.Prelude.{◌≡◌, cond, [], ◌∷◌, ◌≢◌, ℕ, ◌+◌, ◌-◌, ◌≤◌, ◌<◌, length, set}
+use Rattle.std.specs.Prelude.{◌≡◌, cond, [], ◌∷◌, ◌≢◌, ℕ, ◌+◌, ◌-◌, ◌≤◌, ◌<◌, length, set, ◌==◌}
 use Rattle.std.proofs.Math.Path.{refl, ap}
 use Rattle.std.proofs.Common.{sym, ◌∙◌, arith, length-set}
 use Rattle.std.proofs.Math.Bool.{false}
-use Rattle.base.specs.Choice.{◌==◌}
 use Rattle.table.specs.Field.{State, OfPlace, Size, Incarnation, LiveCount, PlaceIncarnation, Flag, PairIncarnation, PairNumber, MessageState, word, place_head, same}
 use Rattle.table.specs.Change.{put, put_same, put_part}
 use Rattle.table.specs.Layout.{controllers}

@@ -1,12 +1,12 @@
 -- A step on a state in form leaves no live count above the places of the table, and no more records in use than it has. So all that the
 -- model sees of what is left stands in its table.
-use Rattle.std.specs.Prelude.{◌≡◌, refl, Bool, true, List, ◌⊎◌}
+use Rattle.std.specs.Prelude.{◌≡◌, refl, Bool, true, List, ◌⊎◌, ◌==◌}
 use Rattle.std.proofs.Math.Path.{sym, ap, fun_ext}
 use Rattle.std.proofs.Common.{◌∙◌, inl, inr, le-ltb}
 use Rattle.std.proofs.Math.Bool.{false, cond}
 use Prim.Native.Nat.{ℕ, ◌+◌, ◌≤◌, ◌<◌}
 use native.Mathlib.Omega.{arith}
-use Rattle.base.specs.Choice.{◌==◌, ◌<?◌, cond_ind, le?}
+use Rattle.base.specs.Choice.{◌<?◌, cond_ind, le?}
 use Rattle.base.specs.Cases.{first_of}
 use Rattle.table.specs.Field.{State, Known, End, Size, Gap, Degree, Incarnation, LiveCount, StableCount, PlaceIncarnation, Flag, Sender, Receiver, SendingIncarnation, SendingNumber, word}
 use Rattle.table.specs.Layout.{controllers, places, messages}

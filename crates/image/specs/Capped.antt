@@ -1,11 +1,11 @@
 -- Flags and how much is replayed, a checkpoint, and W4's ceiling, as the model has them.
-use Rattle.std.specs.Prelude.{◌≡◌, Bool, true, false, ◌&&◌, ◌≢◌}
+use Rattle.std.specs.Prelude.{◌≡◌, Bool, true, false, ◌&&◌, ◌≢◌, ◌==◌}
 use Rattle.std.proofs.Math.Path.{refl, ap, ap₂}
 use Rattle.std.proofs.Common.{sym, ◌∙◌, arith}
 use Rattle.std.proofs.Math.Bool.{not, cond}
 use Prim.Native.Nat.{ℕ, zero, suc, ◌+◌, ◌-◌, ◌≤◌, ◌<◌}
 use Rattle.std.proofs.Math.Numerals.{add-one}
-use Rattle.base.specs.Choice.{◌==◌, ◌≤?◌, ◌<?◌, cond_ind}
+use Rattle.base.specs.Choice.{◌≤?◌, ◌<?◌, cond_ind}
 use Rattle.table.specs.Field.{State, OfPlace, Incarnation, LiveCount, StableCount, Flag, PairIncarnation, PairNumber, same, word, second}
 use Rattle.table.specs.Change.{put, put_same, put_other}
 use Rattle.table.specs.Layout.{controllers}

@@ -1,10 +1,10 @@
 -- Functions on the numbers from 1 to a bound, and on the owners and incarnations of a house.
-use Rattle.std.specs.Prelude.{◌≡◌, refl, Bool, true, false, cond, ◌&&◌, ◌≢◌}
+use Rattle.std.specs.Prelude.{◌≡◌, refl, Bool, true, false, cond, ◌&&◌, ◌≢◌, ◌==◌}
 use Rattle.std.proofs.Math.Path.{sym, ap, fun_ext}
 use Rattle.std.proofs.Common.{◌∙◌, true≢false, arith}
 use Prim.Native.Nat.{ℕ, ◌+◌, ◌≤◌, ◌<◌}
 use borrow.Author.Tests.{eqb-true, eqb-false, leb-true, leb-false, le-leb, ltb-true, ltb-false, lt-ltb}
-use Rattle.base.specs.Choice.{◌==◌, ◌≤?◌, ◌<?◌, and_left, and_right, cond_ind, le?}
+use Rattle.base.specs.Choice.{◌≤?◌, ◌<?◌, and_left, and_right, cond_ind, le?}
 use Rattle.table.specs.Layout.{controllers, incarnations}
 use Rattle.history.specs.History.{changed_at}
 use Rattle.model.specs.Model.{changed_at₂, renewed}

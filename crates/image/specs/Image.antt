@@ -1,9 +1,9 @@
 -- The model of a state: what its words say of each controller and of each message. No limit of a house is in it: how many places and
 -- message records there are, is in the state's own counts.
-use Rattle.std.specs.Prelude.{◌≡◌, refl, true, false, cond, ◌≢◌, ℕ, ◌+◌, ◌≤◌, ◌<◌}
+use Rattle.std.specs.Prelude.{◌≡◌, refl, true, false, cond, ◌≢◌, ℕ, ◌+◌, ◌≤◌, ◌<◌, ◌==◌}
 use Rattle.std.proofs.Common.{sym, ap, ◌∙◌, true≢false, arith, lt-ltb, le-ltb}
 use Rattle.std.proofs.Math.Path.{fun_ext}
-use Rattle.base.specs.Choice.{◌==◌, ◌<?◌, le?}
+use Rattle.base.specs.Choice.{◌<?◌, le?}
 use Rattle.table.specs.Field.{Field, State, OfHead, OfController, Known, End, OfPlace, OfMessage, Gap, Degree, Incarnation, LiveCount, StableCount, PlaceIncarnation, Flag, PairIncarnation, PairNumber, MessageState, Sender, Receiver, SendingIncarnation, SendingNumber, MessagePairIncarnation, MessagePairNumber, word}
 use Rattle.table.specs.Layout.{controllers}
 use Rattle.table.specs.Numbering.{number_of, last_live, place_of, used, last_given, record_of, present, numbering, Numbered}

@@ -1,11 +1,11 @@
 -- The model of a house just opened.
-use Rattle.std.specs.Prelude.{◌≡◌, Bool, ◌&&◌, List, [], ◌∷◌, ℕ, ◌≤◌, ◌<◌, get_or}
+use Rattle.std.specs.Prelude.{◌≡◌, Bool, ◌&&◌, List, [], ◌∷◌, ℕ, ◌≤◌, ◌<◌, get_or, ◌==◌}
 use Rattle.std.proofs.Math.Path.{refl, ap, ap₂, fun_ext}
 use Rattle.std.proofs.Common.{sym, ◌∙◌}
 use Rattle.std.proofs.Math.Bool.{true, false, cond}
 use native.Mathlib.Omega.{arith}
 use borrow.Author.Tests.{eqb-true, eq-eqb, ne_eqb, ltb-true, ltb-false, lt-ltb, le-ltb}
-use Rattle.base.specs.Choice.{◌==◌, ◌<?◌, and_left, and_right, cond_ind}
+use Rattle.base.specs.Choice.{◌<?◌, and_left, and_right, cond_ind}
 use Rattle.base.specs.Lists.{length_tab}
 use Rattle.table.specs.Field.{State, OfController, Known, OfPlace, Degree, Incarnation, LiveCount, StableCount, PlaceIncarnation, Flag, PairIncarnation, PairNumber, place_head, word}
 use Rattle.table.specs.Layout.{controllers}

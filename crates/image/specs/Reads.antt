@@ -1,9 +1,8 @@
 -- What the model of a state says, word by word.
-use Rattle.std.specs.Prelude.{◌≡◌, refl, ℕ, ◌≤◌, ◌<◌}
+use Rattle.std.specs.Prelude.{◌≡◌, refl, ℕ, ◌≤◌, ◌<◌, ◌==◌}
 use Rattle.std.proofs.Common.{sym, ◌∙◌, subst}
 use Rattle.std.proofs.Math.Path.{ap}
 use Rattle.std.proofs.Math.Bool.{false}
-use Rattle.base.specs.Choice.{◌==◌}
 use Rattle.table.specs.Field.{State, Known, End, Gap, Degree, Incarnation, StableCount, Flag, Sender, Receiver, SendingIncarnation, SendingNumber}
 use Rattle.table.specs.Layout.{controllers, incarnations}
 use Rattle.table.specs.Numbering.{number_of, last_live, place_of, used, last_given, record_of}

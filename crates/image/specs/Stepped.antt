@@ -1,11 +1,11 @@
 -- Every step on a state and a ledger is one of the outcomes, in a house of any limits.
-use Rattle.std.specs.Prelude.{◌≡◌, true, List, ℕ, ◌≤◌}
+use Rattle.std.specs.Prelude.{◌≡◌, true, List, ℕ, ◌≤◌, ◌==◌}
 use Rattle.std.proofs.Math.Path.{refl, sym}
 use Rattle.std.proofs.Common.{subst}
 use native.Mathlib.Omega.{arith}
 use Rattle.std.specs.Int.Count.{ones, ones_in}
 use borrow.Author.Tests.{eqb-true, eq-eqb, leb-true}
-use Rattle.base.specs.Choice.{◌==◌, ◌<?◌, cond_ind}
+use Rattle.base.specs.Choice.{◌<?◌, cond_ind}
 use Rattle.base.specs.Cases.{Case, first_of}
 use Rattle.table.specs.Field.{State, Size, Degree, LiveCount, StableCount, Sender, Receiver, desk, same}
 use Rattle.table.specs.Change.{put}

@@ -1,10 +1,10 @@
 -- Vectors of pairs as vectors of the model, and the words of a vector in a record.
-use Rattle.std.specs.Prelude.{◌≡◌, refl, Bool, true, false, cond, List, [], ◌++◌, ℕ, ◌+◌, ◌*◌, ◌≤◌, ◌<◌, length, get_or, set}
+use Rattle.std.specs.Prelude.{◌≡◌, refl, Bool, true, false, cond, List, [], ◌++◌, ℕ, ◌+◌, ◌*◌, ◌≤◌, ◌<◌, length, get_or, set, ◌==◌}
 use Rattle.std.proofs.Common.{sym, ap, ap₂, ◌∙◌, arith, length-append, get_or-set_same, get_or-set_other, eqb-true}
 use Rattle.std.proofs.Math.Path.{fun_ext}
 use Rattle.std.proofs.Math.ListN.{get_or-eq_default}
 use Rattle.std.proofs.lemmas.Bool.{eqb-false}
-use Rattle.base.specs.Choice.{◌==◌, ◌≤?◌, ◌<?◌, cond_ind, le?}
+use Rattle.base.specs.Choice.{◌≤?◌, ◌<?◌, cond_ind, le?}
 use Rattle.base.specs.Lists.{tab, length_tab, get_d_tab}
 use Rattle.table.specs.Field.{Field, State, Known, PairIncarnation, PairNumber, MessagePairIncarnation, MessagePairNumber, word_of}
 use Rattle.table.specs.Change.{put_part}

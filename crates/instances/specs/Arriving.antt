@@ -1,13 +1,13 @@
 -- Instances of the paper's theorems (paper/specs/Theorems.antt), each under its name, on lists with a crash (the sample run, `unheard`, `loss`,
 -- `waiting`): who has heard it, what is undone, what is dropped and what arrives. They hold from every table of 15,152 words and every ledger of
 -- 257. Lists.antt has the lists, Told.antt what their lines tell, GoingOut.antt the other theorems.
-use Rattle.std.specs.Prelude.{◌≡◌, false, ◌&&◌, ◌≢◌, ℕ, ◌+◌, ◌≤◌, ◌<◌, take, drop}
+use Rattle.std.specs.Prelude.{◌≡◌, false, ◌&&◌, ◌≢◌, ℕ, ◌+◌, ◌≤◌, ◌<◌, take, drop, ◌==◌}
 use Rattle.std.proofs.Math.Path.{refl}
 use Rattle.std.proofs.Common.{sym, ◌∙◌, ap, ap₂, subst, true≢false, ⊎_elim, arith}
 use Rattle.std.proofs.Math.Bool.{true}
 use mathlib.Core.List.{List, [], ◌∷◌, ◌++◌}
 use Rattle.std.proofs.Math.ListN.{length}
-use Rattle.base.specs.Choice.{◌==◌, ◌≤?◌, cond_ind}
+use Rattle.base.specs.Choice.{◌≤?◌, cond_ind}
 use Rattle.table.specs.Field.{desk}
 use Rattle.table.specs.Layout.{controllers, table_words}
 use Rattle.table.specs.Words.{state}

@@ -1,13 +1,12 @@
 -- Instances of the paper's theorems (paper/specs/Theorems.antt), each under its name, on the list of messages that are held and go out
 -- (`woven`): all that the theorem asks for is there, and what it says is used. They hold from every table of 15,152 words and every ledger of
 -- 257. Lists.antt has the lists, Told.antt what their lines tell, Arriving.antt the other theorems.
-use Rattle.std.specs.Prelude.{◌≡◌, Bool, ◌≢◌, ℕ, ◌≤◌, ◌<◌, length, take}
+use Rattle.std.specs.Prelude.{◌≡◌, Bool, ◌≢◌, ℕ, ◌≤◌, ◌<◌, length, take, ◌==◌}
 use Rattle.std.proofs.Math.Path.{refl, ap, subst}
 use Rattle.std.proofs.Common.{sym, ◌∙◌, true≢false, arith}
 use Rattle.std.proofs.Math.Bool.{true, false, and-false}
 use mathlib.Core.List.{List, []}
 use Rattle.std.proofs.Math.Logic.{⊎_elim}
-use Rattle.base.specs.Choice.{◌==◌}
 use Rattle.table.specs.Field.{desk}
 use Rattle.table.specs.Layout.{controllers, table_words}
 use Rattle.rules.specs.Limits.{house}

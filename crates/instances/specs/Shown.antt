@@ -1,6 +1,6 @@
 -- A list of lines that gets its answers, from an opening: what it shows of the list of its calls, in the words of history/specs/Progress.antt
 -- and Asked.antt.
-use Rattle.std.specs.Prelude.{◌≡◌, refl, Bool, true, false, not, ◌&&◌, List, [], ◌∷◌, ◌++◌, ℕ, zero, suc, ◌<◌, length}
+use Rattle.std.specs.Prelude.{◌≡◌, refl, Bool, true, false, not, ◌&&◌, List, [], ◌∷◌, ◌++◌, ℕ, zero, suc, ◌<◌, length, ◌==◌}
 use Rattle.std.proofs.Math.Path.{sym, ap, subst}
 use Rattle.std.proofs.Common.{ap₂, ◌∙◌, append_assoc, inl, ⊎_elim, arith, take-append-drop, take_all}
 use Rattle.std.proofs.Math.Bool.{true≢false}
@@ -8,7 +8,7 @@ use Rattle.std.proofs.lemmas.List.{map-append}
 use Rattle.std.proofs.Math.Logic.{inr}
 use Rattle.std.proofs.Math.ListN.{take, drop}
 use borrow.Author.Tests.{eq-eqb}
-use Rattle.base.specs.Choice.{◌==◌, and_left, and_right}
+use Rattle.base.specs.Choice.{and_left, and_right}
 use Rattle.table.specs.Layout.{table_words}
 use Rattle.rules.specs.Limits.{house}
 use Rattle.rules.specs.Refusal.{MESSAGE, STATE}

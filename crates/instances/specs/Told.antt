@@ -1,8 +1,7 @@
 -- What the lines of each list tell, by computing on their history alone.
-use Rattle.std.specs.Prelude.{◌≡◌, refl, true, false, [], ℕ, take}
+use Rattle.std.specs.Prelude.{◌≡◌, refl, true, false, [], ℕ, take, ◌==◌}
 use Rattle.std.proofs.Common.{sym, ◌∙◌, subst, true≢false}
 use Rattle.std.proofs.Math.Bool.{and-false}
-use Rattle.base.specs.Choice.{◌==◌}
 use Rattle.rules.specs.Report.{report}
 use Rattle.history.specs.History.{Interval, interval, History, same_interval, changed_at, changed_at_interval, newest, member, those, oldest, degree_set, sent_from, joined, leaving, stabilized, hearing, losing, flagging, opening, logging, checkpointing, latest_on, forced_at, capping, beginning, delivering, restarting, crashing, rolling_back, answers, value_at, fed_step, fed}
 use Rattle.history.specs.Citations.{no_citations, sent_with, let_out_to, cited_step, cited}

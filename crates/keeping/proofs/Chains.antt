@@ -1,9 +1,9 @@
 -- A chain that gets a new interval keeps the form: the interval that a delivery begins, and the one of a start anew.
 use Rattle.std.specs.Prelude.{◌≡◌, Bool, true, false, List, length, set}
 use Rattle.std.proofs.Math.Path.{refl, subst}
-use Rattle.std.proofs.Common.{sym, ap, ◌∙◌, true≢false, arith, eqb-true, eq-eqb, ne_eqb}
+use Rattle.std.proofs.Common.{sym, ap, ◌∙◌, true≢false, arith, eqb-true, eq-eqb, ne_eqb, ◌==◌}
 use Prim.Native.Nat.{ℕ, ◌+◌, ◌-◌, ◌≤◌, ◌<◌}
-use Rattle.base.specs.Choice.{◌==◌, le?}
+use Rattle.base.specs.Choice.{le?}
 use Rattle.table.specs.Field.{Field, State, OfHead, OfController, Known, End, OfPlace, OfMessage, Size, Incarnation, LiveCount, StableCount, Receiver, desk, same}
 use Rattle.table.specs.Change.{put, put_same, put_other, put_part, clear_places, clear_ind, differs}
 use Rattle.table.specs.Layout.{controllers, place_words}

@@ -1,12 +1,12 @@
 -- Changes of messages keep the form: states, a vector let out, a message sent.
 use Rattle.std.specs.Prelude.{◌≡◌, Bool, false, ◌||◌, ◌≢◌, length, get_or}
 use Rattle.std.proofs.Math.Path.{refl, sym, ap}
-use Rattle.std.proofs.Common.{◌∙◌, subst, true≢false, arith}
+use Rattle.std.proofs.Common.{◌∙◌, subst, true≢false, arith, ◌==◌}
 use Rattle.std.proofs.Math.Bool.{true}
 use mathlib.Core.List.{List, []}
 use Prim.Native.Nat.{ℕ, ◌+◌, ◌-◌, ◌*◌, ◌≤◌, ◌<◌}
 use borrow.Author.Tests.{eqb-true, eqb-false, ltb-true, ne_eqb, not-true}
-use Rattle.base.specs.Choice.{◌==◌, ◌<?◌, and_left, and_right, cond_ind, le?}
+use Rattle.base.specs.Choice.{◌<?◌, and_left, and_right, cond_ind, le?}
 use Rattle.base.specs.Ranges.{allb}
 use Rattle.base.specs.Lists.{get_d_tab}
 use Rattle.table.specs.Field.{Field, State, OfHead, OfController, Known, End, OfPlace, OfMessage, Size, LiveCount, MessageState, Sender, Receiver, SendingIncarnation, SendingNumber, MessagePairIncarnation, MessagePairNumber, message_head, desk, region, word, same}

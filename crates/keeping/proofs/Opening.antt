@@ -1,11 +1,11 @@
 -- A house just opened is in form.
 use Rattle.std.specs.Prelude.{◌≡◌, true, cond, ◌&&◌, [], ℕ, ◌+◌, ◌≤◌, ◌<◌}
 use Rattle.std.proofs.Math.Path.{refl, subst}
-use Rattle.std.proofs.Common.{sym}
+use Rattle.std.proofs.Common.{sym, ◌==◌}
 use native.Mathlib.Omega.{arith}
 use Rattle.std.proofs.Math.ListN.{get_or}
 use borrow.Author.Tests.{eqb-true, ltb-true, lt-ltb, le-ltb, ne_eqb}
-use Rattle.base.specs.Choice.{◌==◌, ◌<?◌, and_left, and_right, cond_ind, le?}
+use Rattle.base.specs.Choice.{◌<?◌, and_left, and_right, cond_ind, le?}
 use Rattle.base.specs.Ranges.{allb}
 use Rattle.base.specs.Lists.{get_d_tab}
 use Rattle.table.specs.Field.{Field, State, OfHead, OfController, Known, End, OfPlace, OfMessage, Degree, Incarnation, LiveCount, StableCount, word}

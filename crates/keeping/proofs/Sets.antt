@@ -2,12 +2,12 @@
 -- at words of the table and at the ledger.
 use Rattle.std.specs.Prelude.{◌≡◌, true, List, ◌≢◌, length}
 use Rattle.std.proofs.Math.Path.{refl, ap, ap₂}
-use Rattle.std.proofs.Common.{sym, ◌∙◌, subst, arith}
+use Rattle.std.proofs.Common.{sym, ◌∙◌, subst, arith, ◌==◌}
 use Rattle.std.proofs.Math.Bool.{not, cond}
 use Prim.Native.Nat.{ℕ, zero, suc, ◌+◌, ◌≤◌, ◌<◌}
 use Rattle.std.specs.Int.Count.{ones}
 use borrow.Author.Tests.{eq-eqb, not-false, ltb-false}
-use Rattle.base.specs.Choice.{◌==◌, ◌≤?◌, ◌<?◌, cond_ind}
+use Rattle.base.specs.Choice.{◌≤?◌, ◌<?◌, cond_ind}
 use Rattle.base.specs.Ranges.{anyb_same}
 use Rattle.base.specs.Cases.{first_of}
 use Rattle.table.specs.Field.{State, Degree, MessageState, Sender}

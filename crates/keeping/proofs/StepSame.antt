@@ -2,11 +2,11 @@
 -- leaves the same words and the same ledger. So what is computed on states by name holds of the step function on tables of words.
 use Rattle.std.specs.Prelude.{◌≡◌, Bool, true, false, cond, ◌&&◌, ◌||◌, List, ◌∷◌, ℕ, ◌+◌, ◌-◌, ◌<◌, length}
 use Rattle.std.proofs.Math.Path.{refl, ap, ap₂, subst}
-use Rattle.std.proofs.Common.{sym, ◌∙◌, arith, eqb-true, eq-eqb, leb-false, lt-ltb}
+use Rattle.std.proofs.Common.{sym, ◌∙◌, arith, eqb-true, eq-eqb, leb-false, lt-ltb, ◌==◌}
 use Rattle.std.proofs.Math.Bool.{not}
 use Rattle.std.specs.Int.Count.{ones}
 use Rattle.std.proofs.lemmas.Bool.{not-false}
-use Rattle.base.specs.Choice.{◌==◌, ◌≤?◌, ◌<?◌, or_left, or_right, le?}
+use Rattle.base.specs.Choice.{◌≤?◌, ◌<?◌, or_left, or_right, le?}
 use Rattle.base.specs.Cases.{Case, ◌⇒◌, first_of, hit}
 use Rattle.table.specs.Field.{State, End, Size, Gap, Degree, Incarnation, LiveCount, StableCount, MessageState, Receiver, desk, same}
 use Rattle.table.specs.Change.{put}

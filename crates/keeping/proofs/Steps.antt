@@ -2,12 +2,12 @@
 -- there, for all limits that fit.
 use Rattle.std.specs.Prelude.{◌≡◌, true, false, not, ◌&&◌, ◌||◌, List}
 use Rattle.std.proofs.Math.Path.{refl, subst}
-use Rattle.std.proofs.Common.{sym, ap, ◌∙◌}
+use Rattle.std.proofs.Common.{sym, ap, ◌∙◌, ◌==◌}
 use Rattle.std.proofs.Math.Bool.{or-true, and-false}
 use Prim.Native.Nat.{ℕ, ◌+◌, ◌≤◌, ◌<◌, max}
 use native.Mathlib.Omega.{arith}
 use borrow.Author.Tests.{eqb-true, leb-false, not-false, lt-ltb, le-leb}
-use Rattle.base.specs.Choice.{◌==◌, ◌≤?◌, ◌<?◌, cond_ind, le?}
+use Rattle.base.specs.Choice.{◌≤?◌, ◌<?◌, cond_ind, le?}
 use Rattle.base.specs.Lists.{length_tab, get_d_tab}
 use Rattle.base.specs.Cases.{Case, first_of}
 use Rattle.table.specs.Field.{State, Known, End, Size, Incarnation, LiveCount, StableCount, Receiver, desk, word, same}

@@ -2,10 +2,10 @@
 -- table's form or the ledger.
 use Rattle.std.specs.Prelude.{◌≡◌, Bool, false, ◌&&◌, ◌||◌, List, [], ◌∷◌, ◌≢◌, ℕ, length}
 use Rattle.std.proofs.Math.Path.{refl}
-use Rattle.std.proofs.Common.{sym, ap, ◌∙◌, subst, eq-eqb, eqb-true}
+use Rattle.std.proofs.Common.{sym, ap, ◌∙◌, subst, eq-eqb, eqb-true, ◌==◌}
 use Rattle.std.proofs.Math.Bool.{true, not}
 use Rattle.std.proofs.lemmas.Bool.{eqb-false, not-true}
-use Rattle.base.specs.Choice.{◌==◌, ◌≤?◌, and_left, and_right, or_left, or_right, cond_ind}
+use Rattle.base.specs.Choice.{◌≤?◌, and_left, and_right, or_left, or_right, cond_ind}
 use Rattle.base.specs.Cases.{Case, ◌⇒◌, first_of}
 use Rattle.table.specs.Field.{State, Incarnation, LiveCount}
 use Rattle.table.specs.Layout.{table_words}

@@ -1,12 +1,12 @@
 -- A record whose words are in their ranges passes its test: the way back of `laws/specs/Facts.antt`. Vectors that the rules make of
 -- vectors in form are in form.
-use Rattle.std.specs.Prelude.{◌≡◌, refl, Bool, false, ◌&&◌, ◌||◌, ℕ, ◌+◌, ◌*◌, ◌≤◌, ◌<◌, length, get_or, set}
+use Rattle.std.specs.Prelude.{◌≡◌, refl, Bool, false, ◌&&◌, ◌||◌, ℕ, ◌+◌, ◌*◌, ◌≤◌, ◌<◌, length, get_or, set, ◌==◌}
 use Rattle.std.proofs.Common.{sym, ◌∙◌, arith, get_or-set_same, get_or-set_other}
 use Rattle.std.proofs.Math.Path.{ap, ap₂, subst}
 use Rattle.std.proofs.Math.Bool.{true, cond, or-true}
 use mathlib.Core.List.{[], ◌∷◌}
 use borrow.Author.Tests.{le-leb, lt-ltb, le-ltb, eq-eqb}
-use Rattle.base.specs.Choice.{◌==◌, ◌<?◌, cond_ind, le?}
+use Rattle.base.specs.Choice.{◌<?◌, cond_ind, le?}
 use Rattle.base.specs.Ranges.{allb_get, allb_all}
 use Rattle.base.specs.Lists.{get_d_tab}
 use Rattle.base.specs.Cases.{all_of}

@@ -2,13 +2,13 @@
 -- union. So what every R that lets a message out keeps, a set keeps (`set_ind`).
 use Rattle.std.specs.Prelude.{◌≡◌, refl, Bool, false, not, ◌&&◌, List, [], ◌∷◌, ◌≢◌, length}
 use Rattle.std.proofs.Math.Path.{sym, ap, subst}
-use Rattle.std.proofs.Common.{◌∙◌, arith}
+use Rattle.std.proofs.Common.{◌∙◌, arith, ◌==◌}
 use Rattle.std.proofs.Math.Bool.{true, cond, true≢false}
 use Prim.Native.Nat.{ℕ, zero, suc, ◌+◌, ◌/◌, ◌%◌, ◌^◌, ◌≤◌, ◌<◌}
 use Rattle.std.specs.Int.Count.{ones, ones_in}
 use Rattle.std.proofs.lemmas.Nat.{shr_le}
 use borrow.Author.Tests.{le-leb, lt-leb, leb-true, eqb-true, eq-eqb, not-true, not-false, ltb-false}
-use Rattle.base.specs.Choice.{◌==◌, ◌≤?◌, ◌<?◌, fails, cond_ind, le?}
+use Rattle.base.specs.Choice.{◌≤?◌, ◌<?◌, fails, cond_ind, le?}
 use Rattle.base.specs.Ranges.{anyb, anyb_at, anyb_some, count, count_same, count_le}
 use Rattle.base.specs.Cases.{first_of, none, skip}
 use Rattle.table.specs.Field.{State, Degree, MessageState, Sender, Receiver, Payload, desk, word}

@@ -1,8 +1,8 @@
 -- What a step may count on where none of its refusals applies, in a house of any limits.
-use Rattle.std.specs.Prelude.{◌≡◌, refl, true, false, List, ◌≢◌, ℕ, ◌+◌, ◌-◌, ◌≤◌, ◌<◌}
+use Rattle.std.specs.Prelude.{◌≡◌, refl, true, false, List, ◌≢◌, ℕ, ◌+◌, ◌-◌, ◌≤◌, ◌<◌, ◌==◌}
 use Rattle.std.proofs.Common.{arith}
 use borrow.Author.Tests.{leb-true, leb-false, ltb-false, eqb-true, eqb-false, not-false}
-use Rattle.base.specs.Choice.{◌==◌, or_left, or_right}
+use Rattle.base.specs.Choice.{or_left, or_right}
 use Rattle.base.specs.Cases.{first_of, cleared}
 use Rattle.table.specs.Field.{State, End, Size, Incarnation, LiveCount, StableCount, MessageState}
 use Rattle.table.specs.Layout.{controllers}

@@ -1,7 +1,6 @@
 -- The steps that don't look at the ledger: they answer and leave the same beside every one, and leave it as it is.
-use Rattle.std.specs.Prelude.{◌≡◌, refl, Bool, true, false, not, cond, ◌&&◌, List, ℕ, length}
+use Rattle.std.specs.Prelude.{◌≡◌, refl, Bool, true, false, not, cond, ◌&&◌, List, ℕ, length, ◌==◌}
 use Rattle.std.proofs.Common.{ap, ◌∙◌, true≢false}
-use Rattle.base.specs.Choice.{◌==◌}
 use Rattle.table.specs.Field.{State}
 use Rattle.table.specs.Layout.{table_words}
 use Rattle.table.specs.Words.{state}

@@ -1,11 +1,11 @@
 -- A number made of bits: which it names, and how many ones it has. A mask is one, by the pairs that are not empty.
-use Rattle.std.specs.Prelude.{◌≡◌, refl, Bool, true, false, not, cond, ℕ, zero, suc, ◌+◌, ◌-◌, ◌*◌, ◌/◌, ◌%◌, ◌^◌, ◌≤◌, ◌<◌}
+use Rattle.std.specs.Prelude.{◌≡◌, refl, Bool, true, false, not, cond, ℕ, zero, suc, ◌+◌, ◌-◌, ◌*◌, ◌/◌, ◌%◌, ◌^◌, ◌≤◌, ◌<◌, ◌==◌}
 use Rattle.std.proofs.Common.{sym, ap, ap₂, ◌∙◌, pow-suc, arith, pow_mono}
 use Rattle.std.proofs.Math.Nat.{div-eq_of_lt}
 use Rattle.std.specs.Int.Count.{ones, ones_in}
 use Rattle.std.proofs.lemmas.Nat.{ones_cat}
 use Rattle.std.proofs.Math.Pow.{high, low, field, mod-mod-pow}
-use Rattle.base.specs.Choice.{◌==◌, le?}
+use Rattle.base.specs.Choice.{le?}
 use Rattle.base.specs.Ranges.{count}
 use Rattle.rules.specs.Vector.{Vector, empty, pair_of, mask_to}
 use Rattle.rules.specs.Sets.{full, bits}

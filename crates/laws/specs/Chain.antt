@@ -1,9 +1,9 @@
 -- A controller of the house, its live chain, and the ranges of their words: what code that goes along the chain counts on. A
 -- change of words that it does not look at keeps it.
-use Rattle.std.specs.Prelude.{◌≡◌, refl, Bool, true, false, ◌||◌, List, ℕ, ◌+◌, ◌≤◌, ◌<◌, set}
+use Rattle.std.specs.Prelude.{◌≡◌, refl, Bool, true, false, ◌||◌, List, ℕ, ◌+◌, ◌≤◌, ◌<◌, set, ◌==◌}
 use Rattle.std.proofs.Common.{sym, ap, ◌∙◌, subst, true≢false, arith, le-leb}
 use Rattle.std.proofs.Math.Bool.{or-true}
-use Rattle.base.specs.Choice.{◌==◌, ◌≤?◌, ◌<?◌, cond_ind}
+use Rattle.base.specs.Choice.{◌≤?◌, ◌<?◌, cond_ind}
 use Rattle.base.specs.Cases.{first_of}
 use Rattle.table.specs.Field.{Field, State, OfHead, OfController, Known, End, OfPlace, OfMessage, Size, Incarnation, LiveCount, StableCount, Flag, Sender, Receiver, SendingNumber, PairIncarnation, PairNumber, MessagePairIncarnation, MessagePairNumber, same, word, message_head}
 use Rattle.table.specs.Change.{put, put_ind, put_same, put_part, put_states, states_ind}

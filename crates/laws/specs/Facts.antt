@@ -1,12 +1,12 @@
 -- What being in form says of each word, in a house of any limits.
-use Rattle.std.specs.Prelude.{◌≡◌, refl, Bool, ◌&&◌, ◌||◌, ℕ, ◌+◌, ◌-◌, ◌≤◌, ◌<◌}
+use Rattle.std.specs.Prelude.{◌≡◌, refl, Bool, ◌&&◌, ◌||◌, ℕ, ◌+◌, ◌-◌, ◌≤◌, ◌<◌, ◌==◌}
 use Rattle.std.proofs.Common.{sym, ◌∙◌, true≢false}
 use Rattle.std.proofs.Math.Path.{ap}
 use Rattle.std.proofs.Math.Bool.{true, false, or-false}
 use mathlib.Core.List.{[]}
 use native.Mathlib.Omega.{arith}
 use borrow.Author.Tests.{leb-true, ltb-true, eqb-true, lt-ltb, le-ltb}
-use Rattle.base.specs.Choice.{◌==◌, ◌≤?◌, ◌<?◌, and_left, and_right, cond_ind, le?}
+use Rattle.base.specs.Choice.{◌≤?◌, ◌<?◌, and_left, and_right, cond_ind, le?}
 use Rattle.base.specs.Ranges.{allb, allb_get}
 use Rattle.base.specs.Lists.{get_d_tab}
 use Rattle.base.specs.Cases.{passed, failed}

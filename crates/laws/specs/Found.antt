@@ -1,10 +1,10 @@
 -- What the tests over ranges say when they have failed or passed: condemned vectors, conflicts, the lowest condemned place; and
 -- what the latest checkpoint is.
-use Rattle.std.specs.Prelude.{◌≡◌, refl, Bool, true, false, not, ◌≢◌, ℕ, zero, suc, ◌+◌, ◌-◌, ◌≤◌, ◌<◌}
+use Rattle.std.specs.Prelude.{◌≡◌, refl, Bool, true, false, not, ◌≢◌, ℕ, zero, suc, ◌+◌, ◌-◌, ◌≤◌, ◌<◌, ◌==◌}
 use Rattle.std.proofs.Common.{ap, ◌∙◌, subst, zero-le, add-one, arith, below_more, ltb-true, ltb-false, eqb-true, ne_eqb}
 use Rattle.std.proofs.Math.Decide.{ℕ_discrete}
 use Rattle.std.proofs.lemmas.Bool.{eqb-false, not-true, not-false}
-use Rattle.base.specs.Choice.{◌==◌, and_left, and_right, cond_ind}
+use Rattle.base.specs.Choice.{and_left, and_right, cond_ind}
 use Rattle.base.specs.Ranges.{anyb_clear, first_le, first_before, first_hit, first_some}
 use Rattle.table.specs.Field.{State, End, LiveCount, Flag}
 use Rattle.table.specs.Layout.{controllers}

@@ -1,5 +1,5 @@
 -- A ledger that is in form: a blank one, and one with an entry more.
-use Rattle.std.specs.Prelude.{◌≡◌, true, List, [], ◌∷◌, length, set}
+use Rattle.std.specs.Prelude.{◌≡◌, true, List, [], ◌∷◌, length, set, ◌==◌}
 use Rattle.std.proofs.Common.{sym, ◌∙◌, length-set, get_or-set_same}
 use Rattle.std.proofs.Math.Path.{ap}
 use Prim.Native.Nat.{ℕ, zero, ◌+◌, ◌-◌, ◌≤◌, ◌<◌}
@@ -7,7 +7,6 @@ use native.Mathlib.Omega.{arith}
 use Rattle.std.proofs.Math.ListN.{get_or, get_or-replicate, length-replicate}
 use Rattle.std.proofs.Math.Seq.{get_or-set_other}
 use borrow.Author.Tests.{eq-eqb, le-leb, eqb-true, leb-true}
-use Rattle.base.specs.Choice.{◌==◌}
 use Rattle.base.specs.Ranges.{allb_get, allb_all}
 use Rattle.base.specs.Cases.{all_of, passed}
 use Rattle.base.specs.Splice.{splice, length_splice, splice_above}

@@ -1,11 +1,11 @@
 -- R, by its cases: what goes to a controller leaves the ledger, what goes to the desk has its entry there. And it looks only at words of the
 -- table.
-use Rattle.std.specs.Prelude.{◌≡◌, Bool, not, ◌&&◌, List, [], ◌∷◌, ℕ, ◌≤◌, ◌<◌}
+use Rattle.std.specs.Prelude.{◌≡◌, Bool, not, ◌&&◌, List, [], ◌∷◌, ℕ, ◌≤◌, ◌<◌, ◌==◌}
 use Rattle.std.proofs.Math.Path.{refl}
 use Rattle.std.proofs.Common.{sym, ap, ◌∙◌, true≢false, arith}
 use Rattle.std.proofs.Math.Bool.{true, false, cond}
 use borrow.Author.Tests.{leb-true, leb-false, not-true, not-false}
-use Rattle.base.specs.Choice.{◌==◌, ◌≤?◌, cond_ind}
+use Rattle.base.specs.Choice.{◌≤?◌, cond_ind}
 use Rattle.table.specs.Field.{State, OfMessage, Degree, MessageState, Sender, Receiver, Payload, desk, message_head}
 use Rattle.table.specs.Words.{Agree}
 use Rattle.table.proofs.Words.{agree_put_to, agree_values}

@@ -1,9 +1,9 @@
 -- Sets: what a set may count on where none of its refusals applies; what stays while its messages go out, one after the other, so that each
 -- goes with the vector that it had at the start; and the ledger on the way.
-use Rattle.std.specs.Prelude.{◌≡◌, refl, Bool, true, false, not, cond, ◌||◌, List, [], ◌∷◌, ◌≢◌, ℕ, zero, suc, ◌+◌, ◌≤◌, ◌<◌, length}
+use Rattle.std.specs.Prelude.{◌≡◌, refl, Bool, true, false, not, cond, ◌||◌, List, [], ◌∷◌, ◌≢◌, ℕ, zero, suc, ◌+◌, ◌≤◌, ◌<◌, length, ◌==◌}
 use Rattle.std.proofs.Common.{sym, ap, ◌∙◌, subst, true≢false, arith, get_or-set_same, leb-false, ltb-false, eqb-true}
 use Rattle.std.proofs.lemmas.Bool.{eqb-false, not-false}
-use Rattle.base.specs.Choice.{◌==◌, ◌≤?◌, le?, or_left, or_right}
+use Rattle.base.specs.Choice.{◌≤?◌, le?, or_left, or_right}
 use Rattle.base.specs.Ranges.{anyb_clear}
 use Rattle.base.specs.Lists.{tab_same}
 use Rattle.base.specs.Cases.{first_of, cleared}

@@ -1,9 +1,9 @@
 -- What a step may write, word by word: a fact of every word and the number in it holds after a step, where it held before and holds
 -- of whatever a rule may put there. The way through all rules is gone once, here.
-use Rattle.std.specs.Prelude.{◌≡◌, refl, ◌&&◌, List, ℕ, ◌+◌, ◌-◌, ◌≤◌, get_or}
+use Rattle.std.specs.Prelude.{◌≡◌, refl, ◌&&◌, List, ℕ, ◌+◌, ◌-◌, ◌≤◌, get_or, ◌==◌}
 use Rattle.std.proofs.Math.Bool.{not}
 use Rattle.std.proofs.Common.{arith}
-use Rattle.base.specs.Choice.{◌==◌, ◌≤?◌, ◌<?◌, cond_ind}
+use Rattle.base.specs.Choice.{◌≤?◌, ◌<?◌, cond_ind}
 use Rattle.base.specs.Cases.{Case, first_of}
 use Rattle.table.specs.Field.{Field, State, OfController, OfPlace, OfMessage, Known, End, Gap, Degree, Incarnation, LiveCount, StableCount, Flag, MessageState, word_of, message_head}
 use Rattle.table.specs.Change.{put, put_part, clear_places, put_states, put_ind, part_ind, clear_ind, states_ind}

@@ -1,9 +1,9 @@
 -- W4: "New steps get a line in `house` only where a request names the letter." It names none for the gap: no letter asks for it, and no
 -- line does.
 use Rattle.std.specs.Prelude.{◌≡◌, refl, Bool, true, false, cond, List, [], ◌∷◌, map, ℕ, length, get_or}
-use Rattle.std.proofs.Common.{sym, ap, ◌∙◌, true≢false}
+use Rattle.std.proofs.Common.{sym, ap, ◌∙◌, true≢false, ◌==◌}
 use Prim.Native.Char.{code}
-use Rattle.base.specs.Choice.{◌==◌, ◌≤?◌, cond_ind}
+use Rattle.base.specs.Choice.{◌≤?◌, cond_ind}
 use Rattle.rules.specs.declared.Command.{Command}
 use Rattle.rules.specs.declared.Command.TheVariants.{Open, SetDegree, Send, Release, Deliver, Log, Checkpoint, Tell, Crash, Hear, SetGap}
 use Rattle.lines.specs.Lines.{longest_line, step_of, numbers_of, with_numbers, command, fields, value_of, are_numbers, asked, parse}

@@ -1,8 +1,8 @@
 -- Document 01, "The program and its lines": what a line asks, and the line of an answer. Bytes are numbers, without the line
 -- feed that ends a line of input.
-use Rattle.std.specs.Prelude.{Bool, true, cond, ◌&&◌, List, [], ◌∷◌, ◌++◌, map, ℕ, zero, suc, ◌+◌, ◌-◌, ◌*◌, ◌/◌, ◌%◌, length, get_or}
+use Rattle.std.specs.Prelude.{Bool, true, cond, ◌&&◌, List, [], ◌∷◌, ◌++◌, map, ℕ, zero, suc, ◌+◌, ◌-◌, ◌*◌, ◌/◌, ◌%◌, length, get_or, ◌==◌}
 use Prim.Native.Char.{code}
-use Rattle.base.specs.Choice.{◌==◌, ◌≤?◌, ◌<?◌}
+use Rattle.base.specs.Choice.{◌≤?◌, ◌<?◌}
 use Rattle.rules.specs.Bytes.{bytes}
 use Rattle.rules.specs.Report.{report}
 use Rattle.rules.specs.declared.Answer.{Answer}

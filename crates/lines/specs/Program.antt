@@ -1,6 +1,5 @@
 -- Document 01, "The program and its lines": all that `house` writes, for all that it reads. Bytes are numbers.
-use Rattle.std.specs.Prelude.{cond, List, [], ◌∷◌, ◌++◌, ℕ, replicate}
-use Rattle.base.specs.Choice.{◌==◌}
+use Rattle.std.specs.Prelude.{cond, List, [], ◌∷◌, ◌++◌, ℕ, replicate, ◌==◌}
 use Rattle.table.specs.Layout.{table_words}
 use Rattle.rules.specs.Limits.{house}
 use Rattle.rules.specs.Ledger.{ledger_words}

@@ -1,12 +1,12 @@
 -- A delivery begins an interval. Its vector tracks it: of another owner's pairs the larger covers both, since full ones have one
 -- incarnation; and what it rests on of its own controller is stable or live, so below its own pair.
 use Rattle.std.specs.Prelude.{◌≡◌, refl, Bool, true, false, ◌||◌, List, [], ◌∷◌, ◌⊎◌, ◌≢◌, ℕ, ◌+◌, ◌≤◌, ◌<◌}
-use Rattle.std.proofs.Common.{sym, ◌∙◌, ap, eqb-true}
+use Rattle.std.proofs.Common.{sym, ◌∙◌, ap, eqb-true, ◌==◌}
 use Rattle.std.proofs.Math.Path.{fun_ext}
 use Rattle.std.proofs.lemmas.Bool.{false≢true, eqb-false}
 use Rattle.std.proofs.Math.Logic.{inl, inr, ⊎_elim}
 use native.Mathlib.Omega.{arith}
-use Rattle.base.specs.Choice.{◌==◌, cond_ind, le?}
+use Rattle.base.specs.Choice.{cond_ind, le?}
 use Rattle.history.specs.History.{Interval, interval, History, changed_at, those, joined, leaving, capping, beginning, delivering}
 use Rattle.model.specs.Model.{Pair, pair, interval_of, Vec, Controller, full, filtered, larger, merged_for, begin_controller}
 use Rattle.model.specs.Tests.{Is}

@@ -1,9 +1,9 @@
 -- W4's ceiling, on models alone: each live number stands less than M above the latest flagged one up to it, where no Q was above M. A
 -- change leaves all numbers but the newest as they were, and a newest one that stands too high is flagged.
 use Rattle.std.specs.Prelude.{◌≡◌, refl, Bool, true, false, not, ℕ, zero, suc, ◌+◌, ◌-◌, ◌≤◌, ◌<◌}
-use Rattle.std.proofs.Common.{sym, ◌∙◌, ap, arith, ne_eqb, le-leb, lt-ltb}
+use Rattle.std.proofs.Common.{sym, ◌∙◌, ap, arith, ne_eqb, le-leb, lt-ltb, ◌==◌}
 use Rattle.std.proofs.Math.Path.{subst}
-use Rattle.base.specs.Choice.{◌==◌, ◌≤?◌, ◌<?◌, cond_ind, le?}
+use Rattle.base.specs.Choice.{◌≤?◌, ◌<?◌, cond_ind, le?}
 use Rattle.model.specs.Model.{Vec, Controller, Model, put_controller, logged_controller, log_controller, flag_controller, checkpoint_controller, latest, above_latest, forced_model, cap_model, begin_controller, anew_controller, open_controller, open_model}
 use Rattle.model.specs.Tests.{Is}
 use Rattle.model.proofs.Tests.{and_both, contrary, not_passes, eq?, changed_at_ind, changed_at_same, changed_at_other}

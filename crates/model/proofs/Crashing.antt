@@ -1,11 +1,11 @@
 -- A controller crashes: the marks that this makes, before the chain is cut. Its live intervals above the stable count are lost.
 use Rattle.std.specs.Prelude.{◌≡◌, Bool, ◌&&◌, ◌⊎◌, ◌≢◌, ℕ, ◌≤◌, ◌<◌}
 use Rattle.std.proofs.Math.Path.{refl, ap, subst}
-use Rattle.std.proofs.Common.{sym, ◌∙◌, arith}
+use Rattle.std.proofs.Common.{sym, ◌∙◌, arith, ◌==◌}
 use Rattle.std.proofs.Math.Bool.{not}
 use Rattle.std.proofs.Math.Logic.{inl, inr, ⊎_elim}
 use borrow.Author.Tests.{eqb-true, eq-eqb, not-true}
-use Rattle.base.specs.Choice.{◌==◌, and_left, and_right, le?}
+use Rattle.base.specs.Choice.{and_left, and_right, le?}
 use Rattle.history.specs.History.{Interval, interval, History, member, hearing, losing}
 use Rattle.model.specs.Model.{Controller, changed_at₂, end_controller}
 use Rattle.model.specs.Tests.{Is}

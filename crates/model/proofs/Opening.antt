@@ -1,12 +1,12 @@
 -- The invariant holds of a house just opened.
 use Rattle.std.specs.Prelude.{◌≡◌, ◌&&◌, ℕ, ◌<◌}
 use Rattle.std.proofs.Math.Path.{refl, sym}
-use Rattle.std.proofs.Common.{◌∙◌}
+use Rattle.std.proofs.Common.{◌∙◌, ◌==◌}
 use Rattle.std.proofs.lemmas.Bool.{false≢true}
 use Rattle.std.proofs.Math.Logic.{inl}
 use native.Mathlib.Omega.{arith}
 use borrow.Author.Tests.{eqb-true, eq-eqb, ltb-true, lt-ltb}
-use Rattle.base.specs.Choice.{◌==◌, ◌<?◌, and_left, and_right, cond_ind}
+use Rattle.base.specs.Choice.{◌<?◌, and_left, and_right, cond_ind}
 use Rattle.history.specs.History.{Interval, interval, History, changed_at, same_interval, opening}
 use Rattle.model.specs.Model.{pair, interval_of, Vec, Controller, full, open_controller, absent_controller, open_model}
 use Rattle.model.specs.Tests.{Is}

@@ -2,11 +2,11 @@
 -- of its own controller is kept, so stable.
 use Rattle.std.specs.Prelude.{◌≡◌, Bool, true, ◌⊎◌, ℕ, ◌+◌, ◌≤◌, ◌<◌}
 use Rattle.std.proofs.Math.Path.{refl, ap}
-use Rattle.std.proofs.Common.{◌∙◌, subst, eqb-true, eq-eqb, le-leb}
+use Rattle.std.proofs.Common.{◌∙◌, subst, eqb-true, eq-eqb, le-leb, ◌==◌}
 use Rattle.std.proofs.Math.Logic.{inl, inr, ⊎_elim}
 use native.Mathlib.Omega.{arith}
 use Rattle.std.proofs.lemmas.Bool.{eqb-false, lt-leb}
-use Rattle.base.specs.Choice.{◌==◌, cond_ind, le?}
+use Rattle.base.specs.Choice.{cond_ind, le?}
 use Rattle.history.specs.History.{Interval, interval, History, newest, those, joined, leaving, capping, beginning, restarting}
 use Rattle.model.specs.Model.{interval_of, Controller, full, filtered, renewed, new_vec, anew_controller}
 use Rattle.model.specs.Tests.{Is}

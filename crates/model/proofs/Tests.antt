@@ -1,11 +1,11 @@
 -- Laws of tests and of functions changed at one place, over variables; the proofs of this crate use them in place of the
 -- definitions.
 use Rattle.std.specs.Prelude.{◌≡◌, refl, Bool, true, false, not, ◌&&◌, ◌||◌, ◌⊎◌, ◌≢◌, ℕ, ◌≤◌, ◌<◌, max}
-use Rattle.std.proofs.Common.{sym, ◌∙◌, subst, inl, inr, arith, eqb-true, eq-eqb, ne_eqb}
+use Rattle.std.proofs.Common.{sym, ◌∙◌, subst, inl, inr, arith, eqb-true, eq-eqb, ne_eqb, ◌==◌}
 use Rattle.std.proofs.Math.Path.{fun_ext}
 use Rattle.std.proofs.lemmas.Bool.{false≢true, eqb-false}
 use Rattle.std.proofs.Math.Decide.{ℕ_discrete}
-use Rattle.base.specs.Choice.{◌==◌, and_left, and_right, cond_ind, le?}
+use Rattle.base.specs.Choice.{and_left, and_right, cond_ind, le?}
 use Rattle.history.specs.History.{Interval, same_interval, changed_at, changed_at_interval}
 use Rattle.model.specs.Model.{changed_at₂}
 use Rattle.model.specs.Tests.{Is}

@@ -2,10 +2,10 @@
 -- on one lost in a crash that the holder has heard, by the pair of its owner.
 use Rattle.std.specs.Prelude.{◌≡◌, refl, ◌⊎◌, ℕ, ◌≤◌, ◌<◌}
 use Rattle.std.proofs.Math.Path.{sym}
-use Rattle.std.proofs.Common.{◌∙◌, subst, inl, inr, ⊎_elim}
+use Rattle.std.proofs.Common.{◌∙◌, subst, inl, inr, ⊎_elim, ◌==◌}
 use native.Mathlib.Omega.{arith}
 use borrow.Author.Tests.{eqb-false, ne_eqb, leb-true, leb-false, ltb-true, ltb-false, not-true}
-use Rattle.base.specs.Choice.{◌==◌, ◌≤?◌, ◌<?◌, cond_ind, le?}
+use Rattle.base.specs.Choice.{◌≤?◌, ◌<?◌, cond_ind, le?}
 use Rattle.history.specs.History.{Interval, interval, History}
 use Rattle.history.specs.Blame.{OrphanBy, orphan_rests, rests_orphan}
 use Rattle.model.specs.Model.{Pair, pair, interval_of, Vec, Controller, full, filtered, larger}

@@ -1,7 +1,7 @@
 -- A house on functions: what the proof of demand 3 looks at, by controller and interval number, without places, words and
 -- limits. Every change that an accepted step makes is a changer here.
-use Rattle.std.specs.Prelude.{Bool, true, false, not, cond, ◌&&◌, ℕ, zero, suc, ◌+◌, ◌-◌, max}
-use Rattle.base.specs.Choice.{◌==◌, ◌≤?◌, ◌<?◌}
+use Rattle.std.specs.Prelude.{Bool, true, false, not, cond, ◌&&◌, ℕ, zero, suc, ◌+◌, ◌-◌, max, ◌==◌}
+use Rattle.base.specs.Choice.{◌≤?◌, ◌<?◌}
 use Rattle.history.specs.History.{Interval, interval, changed_at}
 
 -- a pair of a vector; it is empty where its number is 0

@@ -1,12 +1,12 @@
 -- An opening as the code makes it, controller by controller.
-use Rattle.std.specs.Prelude.{◌≡◌, Bool, true, false, cond, ◌&&◌, ◌≢◌, List, ◌++◌, ℕ, ◌+◌, ◌-◌, ◌≤◌, ◌<◌, get_or, set, take, drop, replicate}
+use Rattle.std.specs.Prelude.{◌≡◌, Bool, true, false, cond, ◌&&◌, ◌≢◌, List, ◌++◌, ℕ, ◌+◌, ◌-◌, ◌≤◌, ◌<◌, get_or, set, take, drop, replicate, ◌==◌}
 use Rattle.std.proofs.Math.Path.{refl, ap}
 use Rattle.std.proofs.Common.{sym, ◌∙◌, zero-le, zero-add, arith, length-set, get_or-set_same, get_or-set_other}
 use Rattle.std.proofs.Math.Bool.{and-false}
 use Rattle.std.proofs.Math.ListN.{length}
 use Rattle.std.proofs.lemmas.List.{get_or-replicate}
 use borrow.Author.Tests.{eqb-true, eqb-false, not-false, eq-eqb, lt-ltb, le-ltb}
-use Rattle.base.specs.Choice.{◌==◌, ◌<?◌, and_left, and_right, cond_ind, le?}
+use Rattle.base.specs.Choice.{◌<?◌, and_left, and_right, cond_ind, le?}
 use Rattle.base.specs.Lists.{tab_of}
 use Rattle.base.specs.Cases.{first_of, cleared}
 use Rattle.table.specs.Field.{Field, State, OfHead, OfController, Known, End, OfPlace, OfMessage, Size, Served, word, same}

@@ -1,8 +1,8 @@
 -- "Eventually sent": from the end of every list, a checkpoint of every controller and a telling of each other one to b bring out what b has sent and
 -- can be brought out, and let in what was released to b. All of these steps are done, and none touches a chain, a message or who has heard what.
 use Rattle.std.specs.Prelude.{◌≡◌, refl, true, List, [], ◌∷◌, ◌++◌, ◌≢◌, ℕ, zero, suc, ◌<◌}
-use Rattle.std.proofs.Common.{sym, ◌∙◌, ap, subst, append_assoc, inl, arith, eq-eqb, ne_eqb}
-use Rattle.base.specs.Choice.{◌==◌, cond_ind}
+use Rattle.std.proofs.Common.{sym, ◌∙◌, ap, subst, append_assoc, inl, arith, eq-eqb, ne_eqb, ◌==◌}
+use Rattle.base.specs.Choice.{cond_ind}
 use Rattle.table.specs.Words.{state}
 use Rattle.table.specs.Numbering.{used, record_of}
 use Rattle.table.proofs.Numbering.{present_pos, given_present}

@@ -1,10 +1,10 @@
 -- Nothing is held for ever, whatever stands between: a held message goes out, and a released one arrives, once each controller that its mask
 -- names has checkpointed after the send and has told the sender, or the receiver, after that, wherever these steps stand in the list.
-use Rattle.std.specs.Prelude.{◌≡◌, ◌&&◌, List, ◌∷◌, ◌++◌, ◌≢◌, ℕ, ◌≤◌, ◌<◌}
+use Rattle.std.specs.Prelude.{◌≡◌, ◌&&◌, List, ◌∷◌, ◌++◌, ◌≢◌, ℕ, ◌≤◌, ◌<◌, ◌==◌}
 use Rattle.std.proofs.Math.Path.{refl, sym, ap, subst}
 use Rattle.std.proofs.Common.{◌∙◌, append_assoc, ⊎_elim, arith}
 use Rattle.std.proofs.Math.Bool.{false, cond}
-use Rattle.base.specs.Choice.{◌==◌, ◌≤?◌, cond_ind, le?}
+use Rattle.base.specs.Choice.{◌≤?◌, cond_ind, le?}
 use Rattle.table.specs.Field.{desk}
 use Rattle.table.specs.Words.{state}
 use Rattle.table.specs.Numbering.{used, record_of}

@@ -1,10 +1,10 @@
 -- Laws of the number at a place of a line, and of the code that reads it digit by digit.
-use Rattle.std.specs.Prelude.{◌≡◌, Bool, true, false, cond, ◌&&◌, ◌||◌, List, [], ◌∷◌, ℕ, suc, ◌+◌, ◌-◌, ◌*◌, ◌≤◌, ◌<◌, ◌^◌, length, get_or, drop}
+use Rattle.std.specs.Prelude.{◌≡◌, Bool, true, false, cond, ◌&&◌, ◌||◌, List, [], ◌∷◌, ℕ, suc, ◌+◌, ◌-◌, ◌*◌, ◌≤◌, ◌<◌, ◌^◌, length, get_or, drop, ◌==◌}
 use Rattle.std.proofs.Common.{sym, ap, ◌∙◌, subst, add-zero, pow-suc, add-one, arith, drop_of_length-le, drop-cons, eq-eqb, ne_eqb, le-leb, le-ltb, ltb-false}
 use Rattle.std.proofs.Math.Bool.{and-false, or-false}
 use Rattle.std.proofs.lemmas.Bool.{false≢true, eqb-false, lt-leb}
 use Rattle.std.proofs.Math.Nat.{pow-le-pow_right}
-use Rattle.base.specs.Choice.{◌==◌, ◌≤?◌, ◌<?◌, or_left, or_right, le?}
+use Rattle.base.specs.Choice.{◌≤?◌, ◌<?◌, or_left, or_right, le?}
 use Rattle.lines.specs.Lines.{space, zero_digit, nine_digit, most_digits, largest, radix, digits, value_from, is_number}
 use Rattle.parsing.specs.Parts.{field, number_from, number_at}
 use Rattle.parsing.specs.declared.Number.{Number}

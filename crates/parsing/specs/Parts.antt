@@ -1,6 +1,5 @@
 -- The number that stands at a place of a line, as the contract of the code that reads it says it.
-use Rattle.std.specs.Prelude.{cond, List, [], ◌∷◌, ℕ, ◌+◌, length, drop}
-use Rattle.base.specs.Choice.{◌==◌}
+use Rattle.std.specs.Prelude.{cond, List, [], ◌∷◌, ℕ, ◌+◌, length, drop, ◌==◌}
 use Rattle.lines.specs.Lines.{space, value_of, is_number}
 use Rattle.parsing.specs.declared.Number.{Number}
 use Rattle.parsing.specs.declared.Number.TheVariants.{Ends, Missing}

@@ -1,12 +1,12 @@
 -- Laws of reading a line from the front: the field that stands next, the number in it, and what is asked by the bytes that are
 -- left, each linked to `fields`; and of the code that does so, number by number.
-use Rattle.std.specs.Prelude.{◌≡◌, refl, Bool, true, false, cond, ◌&&◌, ◌||◌, List, [], ◌∷◌, ◌++◌, map, ℕ, suc, ◌+◌, ◌-◌, ◌≤◌, ◌<◌, length, get_or, set, take, drop, replicate}
+use Rattle.std.specs.Prelude.{◌≡◌, refl, Bool, true, false, cond, ◌&&◌, ◌||◌, List, [], ◌∷◌, ◌++◌, map, ℕ, suc, ◌+◌, ◌-◌, ◌≤◌, ◌<◌, length, get_or, set, take, drop, replicate, ◌==◌}
 use Rattle.std.proofs.Math.Path.{sym, ap}
 use Rattle.std.proofs.Common.{◌∙◌, append_assoc, append-nil, not-suc-le-zero, add-one, arith, length-append, length-drop, length-set, drop_of_length-le, drop-drop, get_or-take, get_or-set_other, length-take-le, take-suc-set, ne_eqb, eqb-true, le-leb, le-ltb, ltb-false}
 use Rattle.std.proofs.lemmas.Bool.{false≢true, eqb-false, lt-leb}
 use Rattle.std.proofs.lemmas.List.{get_or-replicate}
 use Rattle.std.proofs.Math.ListN.{get_or-eq_default}
-use Rattle.base.specs.Choice.{◌==◌, ◌<?◌, or_left, or_right, le?}
+use Rattle.base.specs.Choice.{◌<?◌, or_left, or_right, le?}
 use Rattle.rules.specs.declared.Command.{Command}
 use Rattle.rules.specs.declared.Command.TheVariants.{Open, SetDegree, Send, Release, Deliver, Log, Checkpoint, Tell, Crash, Hear, SetGap}
 use Rattle.lines.specs.Lines.{space, longest_line, step_of, numbers_of, most_numbers, with_numbers, command, first_more, fields, value_of, is_number, are_numbers, asked, parse}

@@ -1,8 +1,7 @@
 -- Runs of words that are 0, where they stand in the table.
-use Rattle.std.specs.Prelude.{◌≡◌, refl, Bool, ◌&&◌, List, ℕ, zero, suc, ◌+◌, ◌*◌, ◌-◌, ◌/◌, ◌%◌, get_or}
+use Rattle.std.specs.Prelude.{◌≡◌, refl, Bool, ◌&&◌, List, ℕ, zero, suc, ◌+◌, ◌*◌, ◌-◌, ◌/◌, ◌%◌, get_or, ◌==◌}
 use Rattle.std.proofs.Common.{sym, ap, ◌∙◌, zero-mul, suc-mul, add_assoc, div-add-mod', arith}
 use Rattle.std.proofs.Math.Path.{fun_ext}
-use Rattle.base.specs.Choice.{◌==◌}
 use Rattle.base.specs.Ranges.{allb, allb_split}
 use Rattle.table.specs.Field.{Field, OfHead, OfController, OfPlace, OfMessage}
 use Rattle.table.specs.Layout.{position, controller_words, place_words, message_words}

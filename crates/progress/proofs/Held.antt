@@ -2,9 +2,9 @@
 -- and none makes a message held that was there and was not.
 use Rattle.std.specs.Prelude.{◌≡◌, true, ◌&&◌, List, ◌≢◌, ◌⊎◌, ℕ, ◌+◌, ◌-◌, ◌≤◌, ◌<◌}
 use Rattle.std.proofs.Math.Path.{refl}
-use Rattle.std.proofs.Common.{sym, ap, ◌∙◌, subst, inl, inr, ⊎_elim, arith, eqb-true, ltb-true, eq-eqb, ne_eqb}
+use Rattle.std.proofs.Common.{sym, ap, ◌∙◌, subst, inl, inr, ⊎_elim, arith, eqb-true, ltb-true, eq-eqb, ne_eqb, ◌==◌}
 use Rattle.std.proofs.Math.Bool.{not}
-use Rattle.base.specs.Choice.{◌==◌, ◌≤?◌, ◌<?◌, cond_ind, and_left, and_right}
+use Rattle.base.specs.Choice.{◌≤?◌, ◌<?◌, cond_ind, and_left, and_right}
 use Rattle.base.specs.Ranges.{anyb_some}
 use Rattle.base.specs.Cases.{Case, first_of}
 use Rattle.table.specs.Field.{State, End, OfMessage, Size, Incarnation, LiveCount, Cause, MessageState, Sender, SendingNumber, same, message_head}

@@ -1,8 +1,8 @@
 -- The same of tables of words: what a step on a lent table leaves are the words of what it leaves on the state.
 use Rattle.std.specs.Prelude.{◌≡◌, not, cond, List, ◌≢◌, ◌⊎◌, ℕ, ◌≤◌, ◌<◌, length}
 use Rattle.std.proofs.Math.Path.{refl}
-use Rattle.std.proofs.Common.{sym, ap, ◌∙◌, subst, inl, inr, ⊎_elim, arith, eq-eqb, ltb-true}
-use Rattle.base.specs.Choice.{◌==◌, ◌<?◌, cond_ind, and_right}
+use Rattle.std.proofs.Common.{sym, ap, ◌∙◌, subst, inl, inr, ⊎_elim, arith, eq-eqb, ltb-true, ◌==◌}
+use Rattle.base.specs.Choice.{◌<?◌, cond_ind, and_right}
 use Rattle.base.specs.Cases.{Case, first_of}
 use Rattle.table.specs.Field.{State, OfMessage, Size, Incarnation, LiveCount, StableCount, Cause, MessageState, Sender, SendingNumber, word, same, message_head, Served}
 use Rattle.table.specs.Layout.{controllers, table_words}

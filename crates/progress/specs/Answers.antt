@@ -1,12 +1,12 @@
 -- What C, T, R and D answer on a table and a ledger in form, in terms of the model.
 use Rattle.std.proofs.Math.Path.{◌≡◌, refl, ap, subst}
 use Rattle.std.proofs.Common.{sym, ◌∙◌, arith}
-use Rattle.std.specs.Prelude.{Bool, true, cond, ◌&&◌, List, ◌≢◌, ◌⊎◌, ℕ, zero, suc, ◌+◌, ◌<◌, ◌≤◌}
+use Rattle.std.specs.Prelude.{Bool, true, cond, ◌&&◌, List, ◌≢◌, ◌⊎◌, ℕ, zero, suc, ◌+◌, ◌<◌, ◌≤◌, ◌==◌}
 use Rattle.std.proofs.Math.Bool.{false, not, and-false}
 use Rattle.std.proofs.Math.Logic.{inl, inr}
 use Rattle.std.specs.Int.Count.{ones, ones_in}
 use borrow.Author.Tests.{eq-eqb, ne_eqb, le-leb, lt-leb, not-false}
-use Rattle.base.specs.Choice.{◌==◌, ◌≤?◌, cond_ind, le?}
+use Rattle.base.specs.Choice.{◌≤?◌, cond_ind, le?}
 use Rattle.base.specs.Ranges.{anyb_none}
 use Rattle.base.specs.Cases.{Case, first_of, none, hit, skip}
 use Rattle.table.specs.Field.{State, Size, Degree, Incarnation, LiveCount, MessageState, Sender, Receiver, Known}

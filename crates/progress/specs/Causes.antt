@@ -1,10 +1,10 @@
 -- No held message is the cause of a live interval: it is so in a house just opened, and every step keeps it.
-use Rattle.std.specs.Prelude.{◌≡◌, true, false, not, ◌&&◌, List, ◌≢◌, ◌⊎◌, ℕ, ◌+◌, ◌≤◌, ◌<◌, set}
+use Rattle.std.specs.Prelude.{◌≡◌, true, false, not, ◌&&◌, List, ◌≢◌, ◌⊎◌, ℕ, ◌+◌, ◌≤◌, ◌<◌, set, ◌==◌}
 use Rattle.std.proofs.Math.Path.{refl}
 use Rattle.std.proofs.Common.{sym, ap, ◌∙◌, subst, inl, inr, ⊎_elim, arith}
 use Rattle.std.proofs.Math.Decide.{ℕ_discrete}
 use borrow.Author.Tests.{eqb-true, leb-false, ltb-false, eq-eqb, ne_eqb, le-ltb}
-use Rattle.base.specs.Choice.{◌==◌, ◌≤?◌, cond_ind, le?}
+use Rattle.base.specs.Choice.{◌≤?◌, cond_ind, le?}
 use Rattle.base.specs.Cases.{Case, first_of}
 use Rattle.table.specs.Field.{Field, State, End, OfPlace, OfMessage, Size, Incarnation, LiveCount, StableCount, SentCount, Cause, MessageState, Sender, SendingNumber, region, alike, word, same, message_head}
 use Rattle.table.specs.Change.{put, put_same, put_other, put_part, clear_places, put_states}

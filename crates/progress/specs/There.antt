@@ -1,8 +1,8 @@
 -- A message that is there stays there: every step but an opening that is done leaves it in its record, with what its send put between state
 -- and vector.
-use Rattle.std.specs.Prelude.{◌≡◌, refl, true, not, List, ◌≢◌, ℕ, ◌≤◌, ◌<◌}
+use Rattle.std.specs.Prelude.{◌≡◌, refl, true, not, List, ◌≢◌, ℕ, ◌≤◌, ◌<◌, ◌==◌}
 use Rattle.std.proofs.Common.{arith, ne_eqb}
-use Rattle.base.specs.Choice.{◌==◌, cond_ind}
+use Rattle.base.specs.Choice.{cond_ind}
 use Rattle.base.specs.Cases.{first_of}
 use Rattle.table.specs.Field.{Field, State, OfMessage}
 use Rattle.table.specs.Numbering.{used, record_of, posted}

@@ -1,9 +1,9 @@
 -- The words that say which messages are held and which are causes of live intervals, and the steps that leave all of them: K, L, C, T and
 -- the gap.
-use Rattle.std.specs.Prelude.{◌≡◌, Bool, true, false, ◌||◌, List, ℕ, ◌+◌}
+use Rattle.std.specs.Prelude.{◌≡◌, Bool, true, false, ◌||◌, List, ℕ, ◌+◌, ◌==◌}
 use Rattle.std.proofs.Math.Path.{refl}
 use Rattle.std.proofs.Common.{sym, ◌∙◌, true≢false}
-use Rattle.base.specs.Choice.{◌==◌, ◌<?◌, cond_ind}
+use Rattle.base.specs.Choice.{◌<?◌, cond_ind}
 use Rattle.base.specs.Cases.{Case, first_of}
 use Rattle.table.specs.Field.{Field, State, OfHead, OfController, OfPlace, OfMessage, Known, End, Gap, Degree, Incarnation, LiveCount, StableCount, Cause, Flag, word, word_of, message_head}
 use Rattle.table.specs.Change.{put, put_ind, put_part, part_ind}

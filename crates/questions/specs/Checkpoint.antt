@@ -1,10 +1,9 @@
 -- What code that tells whether the newest live interval of a controller is a checkpoint may count on, and has to show.
-use Rattle.std.specs.Prelude.{◌≡◌, Bool, List, ℕ, ◌-◌, ◌≤◌, ◌<◌, length}
+use Rattle.std.specs.Prelude.{◌≡◌, Bool, List, ℕ, ◌-◌, ◌≤◌, ◌<◌, length, ◌==◌}
 use Rattle.std.proofs.Math.Path.{refl, sym}
 use Rattle.std.proofs.Common.{◌∙◌, arith}
 use Rattle.std.proofs.Math.Bool.{true, false, cond}
 use borrow.Author.Tests.{eqb-true, eq-eqb, ne_eqb, lt-ltb, le-ltb}
-use Rattle.base.specs.Choice.{◌==◌}
 use Rattle.table.specs.Field.{Size, LiveCount, Flag}
 use Rattle.table.specs.Layout.{controllers, places, table_words}
 use Rattle.table.specs.Words.{state}

@@ -1,6 +1,6 @@
 -- What can be asked of a lent table, answered by a number.
-use Rattle.std.specs.Prelude.{cond, ◌&&◌, List, ℕ, length}
-use Rattle.base.specs.Choice.{◌==◌, ◌<?◌}
+use Rattle.std.specs.Prelude.{cond, ◌&&◌, List, ℕ, length, ◌==◌}
+use Rattle.base.specs.Choice.{◌<?◌}
 use Rattle.table.specs.Field.{Size, Flag}
 use Rattle.table.specs.Layout.{table_words}
 use Rattle.table.specs.Words.{state}

@@ -1,10 +1,10 @@
 -- What each function of a release leaves, from what it has read and what its calls have left.
-use Rattle.std.specs.Prelude.{◌≡◌, Bool, true, false, not, ◌&&◌, List, ◌++◌, ℕ, ◌+◌, ◌-◌, ◌<◌, length, take, drop}
+use Rattle.std.specs.Prelude.{◌≡◌, Bool, true, false, not, ◌&&◌, List, ◌++◌, ℕ, ◌+◌, ◌-◌, ◌<◌, length, take, drop, ◌==◌}
 use Rattle.std.proofs.Common.{sym, ap, ◌∙◌, arith}
 use Rattle.std.specs.Int.Count.{ones}
 use borrow.Author.Tests.{leb-false, eq-eqb, ne_eqb}
 use Rattle.base.specs.Cases.{first_of}
-use Rattle.base.specs.Choice.{◌==◌, ◌≤?◌}
+use Rattle.base.specs.Choice.{◌≤?◌}
 use Rattle.table.specs.Field.{State, OfMessage, Degree, MessageState, Sender, Receiver, message_head, desk}
 use Rattle.table.specs.Change.{put, put_part}
 use Rattle.table.specs.Layout.{messages, vector_words, table_words, position}

@@ -1,10 +1,10 @@
 -- The walk along the places of removed intervals that gives their causes a state.
-use Rattle.std.specs.Prelude.{◌≡◌, refl, Bool, true, false, not, cond, ◌&&◌, ◌||◌, List, ◌≢◌, ℕ, ◌+◌, ◌-◌, ◌≤◌, ◌<◌, length}
+use Rattle.std.specs.Prelude.{◌≡◌, refl, Bool, true, false, not, cond, ◌&&◌, ◌||◌, List, ◌≢◌, ℕ, ◌+◌, ◌-◌, ◌≤◌, ◌<◌, length, ◌==◌}
 use Rattle.std.proofs.Math.Path.{sym, ap}
 use Rattle.std.proofs.Common.{◌∙◌, true≢false, arith}
 use Rattle.std.proofs.Math.Bool.{and-false, and-or_distrib_left}
 use borrow.Author.Tests.{ltb-true, lt-ltb, le-ltb, eq-eqb, ne_eqb}
-use Rattle.base.specs.Choice.{◌==◌, ◌<?◌, and_left}
+use Rattle.base.specs.Choice.{◌<?◌, and_left}
 use Rattle.base.specs.Ranges.{anyb, anyb_zero, anyb_step}
 use Rattle.table.specs.Field.{Field, State, LiveCount, Cause, MessageState, Receiver, MessagePairIncarnation, MessagePairNumber, word, owner, message_head, desk}
 use Rattle.table.specs.Change.{put, is_state, put_states, states_ind, states_at}

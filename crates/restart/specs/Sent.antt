@@ -1,7 +1,7 @@
 -- A start leaves which records of messages are in use, and that no message stands in the others.
-use Rattle.std.specs.Prelude.{◌≡◌, refl, Bool, true, false, ◌&&◌, ◌||◌, List, ℕ}
+use Rattle.std.specs.Prelude.{◌≡◌, refl, Bool, true, false, ◌&&◌, ◌||◌, List, ℕ, ◌==◌}
 use Rattle.std.proofs.Common.{sym, ap, ◌∙◌, true≢false, arith}
-use Rattle.base.specs.Choice.{◌==◌, ◌<?◌, cond_ind}
+use Rattle.base.specs.Choice.{◌<?◌, cond_ind}
 use Rattle.table.specs.Field.{Field, State, Known, OfPlace, Incarnation, LiveCount, StableCount, Flag, SendingNumber, region, word}
 use Rattle.table.specs.Change.{put, put_ind, put_part, part_ind, clear_places, clear_ind}
 use Rattle.table.specs.Words.{state, words}

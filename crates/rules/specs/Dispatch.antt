@@ -1,6 +1,6 @@
 -- W7: "A dispatcher is wanted above the step function." A call of it on a state in form; its refusals, LENGTH and FORM, stand in Step.antt.
-use Rattle.std.specs.Prelude.{Bool, true, false, cond, [], ◌∷◌, ℕ, ◌+◌, ◌%◌}
-use Rattle.base.specs.Choice.{◌==◌, ◌<?◌}
+use Rattle.std.specs.Prelude.{Bool, true, false, cond, [], ◌∷◌, ℕ, ◌+◌, ◌%◌, ◌==◌}
+use Rattle.base.specs.Choice.{◌<?◌}
 use Rattle.base.specs.Ranges.{anyb, first}
 use Rattle.base.specs.Cases.{all_of}
 use Rattle.table.specs.Field.{State, Size, Served, MessageState, Receiver}

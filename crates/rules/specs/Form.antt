@@ -1,6 +1,6 @@
 -- "A table is in form when every word is in its range", with the limits as a parameter.
-use Rattle.std.specs.Prelude.{Bool, cond, ◌&&◌, ◌||◌, [], ◌∷◌, ℕ, ◌+◌, ◌-◌}
-use Rattle.base.specs.Choice.{◌==◌, ◌≤?◌, ◌<?◌}
+use Rattle.std.specs.Prelude.{Bool, cond, ◌&&◌, ◌||◌, [], ◌∷◌, ℕ, ◌+◌, ◌-◌, ◌==◌}
+use Rattle.base.specs.Choice.{◌≤?◌, ◌<?◌}
 use Rattle.base.specs.Ranges.{allb}
 use Rattle.base.specs.Cases.{all_of}
 use Rattle.table.specs.Field.{State, OfHead, OfController, Known, End, OfPlace, OfMessage, Size, Degree, Incarnation, LiveCount, StableCount, PlaceIncarnation, PlaceNumber, Cause, Flag, MessageState, Sender, Receiver, SendingIncarnation, SendingNumber, Gap, Served, word, desk, spare_from, spare_again}

@@ -1,8 +1,8 @@
 -- W2: "A second lent buffer, the ledger, has 257 words: a count, then 128 pairs of message number and payload, in the order of
 -- publishing. Unused pairs are 0." Its words are a list; the limit, how many entries it has, is a parameter. These are the only
 -- positions in it; crates/ledger has the same as constants of the code.
-use Rattle.std.specs.Prelude.{Bool, List, [], ◌∷◌, ℕ, ◌+◌, ◌-◌, ◌*◌, length, get_or, set, replicate}
-use Rattle.base.specs.Choice.{◌==◌, ◌≤?◌}
+use Rattle.std.specs.Prelude.{Bool, List, [], ◌∷◌, ℕ, ◌+◌, ◌-◌, ◌*◌, length, get_or, set, replicate, ◌==◌}
+use Rattle.base.specs.Choice.{◌≤?◌}
 use Rattle.base.specs.Cases.{all_of}
 use Rattle.base.specs.Splice.{splice}
 use Rattle.table.specs.Field.{State, Payload}

@@ -1,6 +1,6 @@
 -- "Where several apply, the lowest number is given": each step's own refusals come after the host's, in the papers' order.
-use Rattle.std.specs.Prelude.{◌≡◌, refl, Bool, true, ◌&&◌, List, [], ◌∷◌, ℕ, length, get_or}
-use Rattle.base.specs.Choice.{◌==◌, ◌<?◌}
+use Rattle.std.specs.Prelude.{◌≡◌, refl, Bool, true, ◌&&◌, List, [], ◌∷◌, ℕ, length, get_or, ◌==◌}
+use Rattle.base.specs.Choice.{◌<?◌}
 use Rattle.base.specs.Ranges.{first}
 use Rattle.base.specs.Cases.{Case}
 use Rattle.table.specs.Field.{State}

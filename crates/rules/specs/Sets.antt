@@ -2,9 +2,9 @@
 -- state and a ledger; l has the message numbers. Its refusals in their order (the test is in Order.antt):
 --
 --   LENGTH FORM   LEDGER MESSAGE SAME_CONTROLLER STATE SENDERS, and, where it publishes, LEDGER_USED_UP
-use Rattle.std.specs.Prelude.{Bool, not, cond, ◌||◌, List, [], ◌∷◌, ℕ, zero, suc, ◌+◌, ◌^◌, length, get_or}
+use Rattle.std.specs.Prelude.{Bool, not, cond, ◌||◌, List, [], ◌∷◌, ℕ, zero, suc, ◌+◌, ◌^◌, length, get_or, ◌==◌}
 use Rattle.std.specs.Int.Count.{ones}
-use Rattle.base.specs.Choice.{◌==◌, ◌≤?◌, ◌<?◌}
+use Rattle.base.specs.Choice.{◌≤?◌, ◌<?◌}
 use Rattle.base.specs.Ranges.{anyb}
 use Rattle.base.specs.Cases.{Case, ◌⇒◌}
 use Rattle.table.specs.Field.{State, Degree, MessageState, Sender}

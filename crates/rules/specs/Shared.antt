@@ -1,7 +1,7 @@
 -- Document 01, "Rules used by several steps", but for those on vectors, which stand in Vector.antt; and W4's, which is applied
 -- wherever an interval begins.
-use Rattle.std.specs.Prelude.{Bool, not, cond, ◌&&◌, List, [], ◌∷◌, ◌++◌, ℕ, zero, suc, ◌+◌, ◌-◌, set}
-use Rattle.base.specs.Choice.{◌==◌, ◌≤?◌, ◌<?◌}
+use Rattle.std.specs.Prelude.{Bool, not, cond, ◌&&◌, List, [], ◌∷◌, ◌++◌, ℕ, zero, suc, ◌+◌, ◌-◌, set, ◌==◌}
+use Rattle.base.specs.Choice.{◌≤?◌, ◌<?◌}
 use Rattle.base.specs.Ranges.{anyb}
 use Rattle.table.specs.Field.{State, OfPlace, Known, Gap, Incarnation, LiveCount, StableCount, Cause, Flag, MessageState, Sender, SendingNumber}
 use Rattle.table.specs.Change.{put, put_part, clear_places, put_states}

@@ -1,6 +1,5 @@
 -- One step, and the calls beside it: on a state and a ledger, and on the words of a lent table and a lent ledger.
-use Rattle.std.specs.Prelude.{Bool, true, false, not, cond, ◌&&◌, List, ℕ, length}
-use Rattle.base.specs.Choice.{◌==◌}
+use Rattle.std.specs.Prelude.{Bool, true, false, not, cond, ◌&&◌, List, ℕ, length, ◌==◌}
 use Rattle.table.specs.Field.{State}
 use Rattle.table.specs.Layout.{table_words}
 use Rattle.table.specs.Words.{state, words}

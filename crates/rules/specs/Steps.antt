@@ -13,9 +13,9 @@
 --   X   LENGTH FORM   CONTROLLER PLACES_USED_UP INCARNATIONS_USED_UP
 --   H   LENGTH FORM   CONTROLLER NO_SUCH_CRASH ALREADY_HEARD, and, where it must undo, INCARNATIONS_USED_UP
 --   Q   LENGTH FORM   DEGREE (the gap, which no letter sets)
-use Rattle.std.specs.Prelude.{Bool, not, cond, ◌&&◌, ◌||◌, List, [], ◌∷◌, ◌++◌, ℕ, ◌+◌, ◌-◌, max, length, get_or, set}
+use Rattle.std.specs.Prelude.{Bool, not, cond, ◌&&◌, ◌||◌, List, [], ◌∷◌, ◌++◌, ℕ, ◌+◌, ◌-◌, max, length, get_or, set, ◌==◌}
 use Rattle.std.specs.Int.Count.{ones}
-use Rattle.base.specs.Choice.{◌==◌, ◌≤?◌, ◌<?◌}
+use Rattle.base.specs.Choice.{◌≤?◌, ◌<?◌}
 use Rattle.base.specs.Ranges.{first}
 use Rattle.base.specs.Lists.{tab}
 use Rattle.base.specs.Cases.{Case, ◌⇒◌, first_of}

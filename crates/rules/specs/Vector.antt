@@ -1,7 +1,7 @@
 -- "A vector has eight pairs, one for each controller: incarnation and number. The empty pair is 0, 0."
 -- A dependency vector of the paper. Pairs and vectors are lists, as the code's [u32; 2] and [[u32; 2]; 8] are.
-use Rattle.std.specs.Prelude.{Bool, not, cond, ◌&&◌, List, [], ◌∷◌, ℕ, zero, suc, ◌+◌, ◌^◌, ◌/◌, ◌%◌, get_or}
-use Rattle.base.specs.Choice.{◌==◌, ◌≤?◌, ◌<?◌}
+use Rattle.std.specs.Prelude.{Bool, not, cond, ◌&&◌, List, [], ◌∷◌, ℕ, zero, suc, ◌+◌, ◌^◌, ◌/◌, ◌%◌, get_or, ◌==◌}
+use Rattle.base.specs.Choice.{◌≤?◌, ◌<?◌}
 use Rattle.base.specs.Ranges.{anyb, first}
 use Rattle.base.specs.Lists.{tab}
 use Rattle.table.specs.Field.{State, Known, End, PairIncarnation, PairNumber, MessagePairIncarnation, MessagePairNumber}

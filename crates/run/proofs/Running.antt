@@ -1,9 +1,9 @@
 -- What the code of a run has to show.
 use Rattle.std.specs.Prelude.{◌≡◌, Bool, true, false, List, [], ◌∷◌, ◌++◌, ℕ, suc, ◌+◌, ◌*◌, ◌/◌, ◌%◌, ◌≤◌, set, drop}
 use Rattle.std.proofs.Math.Path.{refl, sym, ap}
-use Rattle.std.proofs.Common.{◌∙◌, append_assoc, append-nil, add-one, arith, length-append, length-take, drop_of_length-le, take_at, take_all, eq-eqb, ne_eqb, eqb-true}
+use Rattle.std.proofs.Common.{◌∙◌, append_assoc, append-nil, add-one, arith, length-append, length-take, drop_of_length-le, take_at, take_all, eq-eqb, ne_eqb, eqb-true, ◌==◌}
 use Rattle.std.proofs.Math.ListN.{length, take}
-use Rattle.base.specs.Choice.{◌==◌, and_left, and_right}
+use Rattle.base.specs.Choice.{and_left, and_right}
 use Rattle.base.specs.Ranges.{allb}
 use Rattle.table.specs.Layout.{table_words}
 use Rattle.table.specs.Words.{state}

@@ -1,9 +1,8 @@
 -- A call of the C interface that asks for a step by its letter: which step it is, what it returns, and what stands in the three
 -- buffers after it.
-use Rattle.std.specs.Prelude.{◌≡◌, cond, List, ℕ, length}
+use Rattle.std.specs.Prelude.{◌≡◌, cond, List, ℕ, length, ◌==◌}
 use Rattle.std.proofs.Math.Path.{sym}
 use Rattle.std.proofs.Common.{ap, ◌∙◌, eq-eqb, ne_eqb}
-use Rattle.base.specs.Choice.{◌==◌}
 use Rattle.rules.specs.Report.{report}
 use Rattle.rules.specs.Step.{OutBoth, out_both, step}
 use Rattle.rules.specs.declared.Answer.{Answer}

@@ -1,6 +1,5 @@
 -- Many steps in one call: a list of steps, and the answers to them. They are the same steps done one by one, by `call`.
-use Rattle.std.specs.Prelude.{◌≡◌, refl, Bool, true, false, cond, ◌&&◌, List, [], ◌∷◌, ◌++◌, ℕ, zero, suc, ◌+◌, ◌*◌, ◌/◌, ◌%◌, length, get_or, replicate}
-use Rattle.base.specs.Choice.{◌==◌}
+use Rattle.std.specs.Prelude.{◌≡◌, refl, Bool, true, false, cond, ◌&&◌, List, [], ◌∷◌, ◌++◌, ℕ, zero, suc, ◌+◌, ◌*◌, ◌/◌, ◌%◌, length, get_or, replicate, ◌==◌}
 use Rattle.base.specs.Ranges.{allb}
 use Rattle.rules.specs.Report.{report}
 use Rattle.rules.specs.declared.Answer.TheVariants.{Done}

@@ -1,7 +1,6 @@
 -- What the code of a run has to show.
-use Rattle.std.specs.Prelude.{Bool, false, cond, List, ◌∷◌, ℕ}
+use Rattle.std.specs.Prelude.{Bool, false, cond, List, ◌∷◌, ℕ, ◌==◌}
 use Rattle.std.proofs.Math.ListN.{length}
-use Rattle.base.specs.Choice.{◌==◌}
 use Rattle.table.specs.Layout.{table_words}
 use Rattle.table.specs.Words.{state}
 use Rattle.rules.specs.Limits.{house}

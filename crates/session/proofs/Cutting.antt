@@ -1,9 +1,9 @@
 -- Laws of taking bytes one by one: what is owed in the end is what the lines of the input ask for.
 use Rattle.std.specs.Prelude.{◌≡◌, refl, Bool, true, false, cond, List, [], ◌∷◌, ◌++◌, ℕ, length, take}
-use Rattle.std.proofs.Common.{sym, ap, ◌∙◌, append_assoc, append-nil, arith, take_all, take-take, length-take-le, ne_eqb}
+use Rattle.std.proofs.Common.{sym, ap, ◌∙◌, append_assoc, append-nil, arith, take_all, take-take, length-take-le, ne_eqb, ◌==◌}
 use Rattle.std.proofs.lemmas.List.{take-append-le}
 use Rattle.std.proofs.lemmas.Bool.{lt-leb}
-use Rattle.base.specs.Choice.{◌==◌, le?}
+use Rattle.base.specs.Choice.{le?}
 use Rattle.lines.specs.Lines.{line_feed, longest_line, first_more, parse}
 use Rattle.lines.specs.Program.{lines_of, Reply, reply_to, reply, replies, house_writes, first_table, first_ledger}
 use Rattle.session.specs.Taking.{Session, session, begun, line_room, ended, taken, taken_all, finished, paid}

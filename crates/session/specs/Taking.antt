@@ -1,8 +1,7 @@
 -- The same taken byte by byte, as it is read: what the contracts of the code cite. Whole.antt proves that it writes what
 -- `house_writes` says, wherever the input is cut into reads.
-use Rattle.std.specs.Prelude.{cond, ℕ, ◌+◌, length, set, take}
+use Rattle.std.specs.Prelude.{cond, ℕ, ◌+◌, length, set, take, ◌==◌}
 use mathlib.Core.List.{List, [], ◌∷◌, ◌++◌, foldl}
-use Rattle.base.specs.Choice.{◌==◌}
 use Rattle.lines.specs.Lines.{line_feed, longest_line}
 use Rattle.lines.specs.Program.{reply, first_table, first_ledger}
 

@@ -1,9 +1,8 @@
 -- The messages of a set going out one after the other, on the words of the table: each is on the way what it was at the start.
-use Rattle.std.specs.Prelude.{◌≡◌, refl, List, [], ◌∷◌, ◌≢◌, ℕ, suc, ◌+◌, ◌≤◌, ◌<◌, length}
+use Rattle.std.specs.Prelude.{◌≡◌, refl, List, [], ◌∷◌, ◌≢◌, ℕ, suc, ◌+◌, ◌≤◌, ◌<◌, length, ◌==◌}
 use Rattle.std.proofs.Common.{sym, ◌∙◌, add-one, arith}
 use Rattle.std.proofs.Math.Path.{ap, subst}
 use Rattle.std.proofs.Math.Bool.{true, cond}
-use Rattle.base.specs.Choice.{◌==◌}
 use Rattle.table.specs.Field.{State, OfMessage, Sender, Receiver, Payload, desk, word}
 use Rattle.table.specs.Layout.{message_words, table_words}
 use Rattle.table.proofs.Positions.{valid_message_pair}

@@ -1,7 +1,7 @@
 -- What each function has read of a message: r is the record that was found for it.
-use Rattle.std.specs.Prelude.{◌≡◌, Bool, true, false, not, cond, List, ℕ, zero, suc, ◌+◌, ◌≤◌, ◌<◌, length}
+use Rattle.std.specs.Prelude.{◌≡◌, Bool, true, false, not, cond, List, ℕ, zero, suc, ◌+◌, ◌≤◌, ◌<◌, length, ◌==◌}
 use Rattle.std.proofs.Common.{sym, ap, ◌∙◌, subst, add-one, arith, eq-eqb, ne_eqb}
-use Rattle.base.specs.Choice.{◌==◌, ◌≤?◌}
+use Rattle.base.specs.Choice.{◌≤?◌}
 use Rattle.table.specs.Field.{State, MessageState, Sender, Receiver, desk}
 use Rattle.table.specs.Layout.{controllers}
 use Rattle.table.specs.Numbering.{used, record_of}

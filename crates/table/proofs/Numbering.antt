@@ -2,11 +2,11 @@
 -- made here, and so is the way back. Rules, code and theorem use the laws below and not the text of these definitions.
 use Rattle.std.specs.Prelude.{◌≡◌, ◌&&◌, List, ◌≢◌, ℕ, ◌+◌, ◌-◌, ◌≤◌, ◌<◌, length, get_or}
 use Rattle.std.proofs.Math.Path.{refl, ap, subst}
-use Rattle.std.proofs.Common.{sym, ◌∙◌, true≢false}
+use Rattle.std.proofs.Common.{sym, ◌∙◌, true≢false, ◌==◌}
 use Rattle.std.proofs.Math.Bool.{true, false, cond}
 use native.Mathlib.Omega.{arith}
 use borrow.Author.Tests.{leb-true, ltb-true, le-leb, lt-ltb, le-ltb, ne_eqb}
-use Rattle.base.specs.Choice.{◌==◌, ◌≤?◌, ◌<?◌, and_left, and_right, cond_ind, le?}
+use Rattle.base.specs.Choice.{◌≤?◌, ◌<?◌, and_left, and_right, cond_ind, le?}
 use Rattle.table.specs.Field.{Field, State, OfHead, OfMessage, Size, SentCount, Discarded, Gap, Served, region, word, word_of, alike, alike_word, same, message_head}
 use Rattle.table.specs.Change.{put, put_ind, put_same, put_other, put_part, part_ind, clear_places, clear_ind, put_states, states_ind}
 use Rattle.table.specs.Layout.{controllers, messages, head_words}

@@ -1,7 +1,7 @@
 -- Changes of a state, each with the law of its cases: what is known of the words it writes, and of the others.
-use Rattle.std.specs.Prelude.{◌≡◌, refl, Bool, true, false, cond, ◌&&◌, ◌≢◌, List, ℕ, ◌+◌, ◌-◌, ◌≤◌, ◌<◌, length, get_or}
+use Rattle.std.specs.Prelude.{◌≡◌, refl, Bool, true, false, cond, ◌&&◌, ◌≢◌, List, ℕ, ◌+◌, ◌-◌, ◌≤◌, ◌<◌, length, get_or, ◌==◌}
 use Rattle.std.proofs.Common.{sym, ap, ◌∙◌, subst, true≢false, arith, eqb-true, eq-eqb, leb-true, ltb-true, le-leb, lt-ltb}
-use Rattle.base.specs.Choice.{◌==◌, ◌≤?◌, ◌<?◌, and_left, and_right, cond_ind}
+use Rattle.base.specs.Choice.{◌≤?◌, ◌<?◌, and_left, and_right, cond_ind}
 use Rattle.table.specs.Field.{Field, State, OfPlace, MessageState, region, word, owner, second, word_of, alike, same, word_of_lem, made_alike, message_state, alike_true, alike_word, same_true, same_refl}
 
 -- every word is 0

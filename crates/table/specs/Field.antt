@@ -1,7 +1,7 @@
 -- The words of a house by name, and a state: the number that stands in each. No word position is named here.
-use Rattle.std.specs.Prelude.{◌≡◌, refl, Bool, true, ◌&&◌, ◌||◌, ℕ, zero, suc, ◌+◌, ◌*◌}
+use Rattle.std.specs.Prelude.{◌≡◌, refl, Bool, true, ◌&&◌, ◌||◌, ℕ, zero, suc, ◌+◌, ◌*◌, ◌==◌}
 use Rattle.std.proofs.Common.{sym, ◌∙◌, eqb-true, eq-eqb}
-use Rattle.base.specs.Choice.{◌==◌, and_left, and_right}
+use Rattle.base.specs.Choice.{and_left, and_right}
 
 -- One constructor for each region of the table, with the coordinates and then the word inside the record.
 pub data Field : Type 0 where

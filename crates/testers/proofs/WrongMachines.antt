@@ -2,8 +2,7 @@
 -- `step` on every table and ledger and for every command. Here is each wrong machine, with a table and a ledger of the sample run
 -- (Sample.antt) and a step on them where it gives something else, and one claim over them all.
 use Rattle.std.specs.Prelude.{◌≡◌, refl, false, List, [], ◌∷◌, ◌≢◌, ℕ, length, get_or}
-use Rattle.std.proofs.Common.{sym, ap, ◌∙◌, true≢false, eq-eqb}
-use Rattle.base.specs.Choice.{◌==◌}
+use Rattle.std.proofs.Common.{sym, ap, ◌∙◌, true≢false, eq-eqb, ◌==◌}
 use Rattle.table.specs.Field.{Field, SentCount, PairNumber}
 use Rattle.table.specs.Layout.{table_words}
 use Rattle.table.specs.Words.{state}

@@ -1,9 +1,9 @@
 -- A second checkpoint finds a table in form, nothing to log, and its flag: it leaves the words that it found, and the ledger.
-use Rattle.std.specs.Prelude.{◌≡◌, refl, false, not, List, ℕ, ◌-◌}
+use Rattle.std.specs.Prelude.{◌≡◌, refl, false, not, List, ℕ, ◌-◌, ◌==◌}
 use Rattle.std.proofs.Common.{sym, ◌∙◌, arith, eqb-true, eq-eqb, le-ltb}
 use Rattle.std.proofs.Math.Path.{ap}
 use Rattle.std.proofs.lemmas.Bool.{lt-leb, not-false}
-use Rattle.base.specs.Choice.{◌==◌, ◌<?◌, cond_ind}
+use Rattle.base.specs.Choice.{◌<?◌, cond_ind}
 use Rattle.base.specs.Cases.{first_of}
 use Rattle.table.specs.Field.{State, Size, LiveCount, StableCount, Flag, same}
 use Rattle.table.specs.Change.{put, put_same}

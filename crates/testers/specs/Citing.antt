@@ -1,13 +1,13 @@
 -- The ledger of a house just opened says what the steps say: each call keeps that the table has the receivers and payloads that
 -- the sends named, and that the ledger has what the releases let out to the desk.
-use Rattle.std.specs.Prelude.{◌≡◌, Bool, ◌&&◌, ◌≢◌, ℕ, ◌≤◌, ◌<◌, get_or}
+use Rattle.std.specs.Prelude.{◌≡◌, Bool, ◌&&◌, ◌≢◌, ℕ, ◌≤◌, ◌<◌, get_or, ◌==◌}
 use Rattle.std.proofs.Math.Path.{refl, ap, ap₂, subst}
 use Rattle.std.proofs.Common.{sym, ◌∙◌, true≢false, arith, eqb-true, ne_eqb}
 use Rattle.std.proofs.Math.Bool.{true, false, not, cond}
 use mathlib.Core.List.{List, [], ◌∷◌, ◌++◌, append-nil}
 use Rattle.std.proofs.Math.ListN.{length, length-append}
 use Rattle.std.proofs.lemmas.Bool.{eqb-false}
-use Rattle.base.specs.Choice.{◌==◌, cond_ind, le?}
+use Rattle.base.specs.Choice.{cond_ind, le?}
 use Rattle.base.specs.Cases.{Case, first_of}
 use Rattle.table.specs.Field.{Field, State, OfMessage, Receiver, Payload, MessageState, word, desk, Served}
 use Rattle.table.specs.Layout.{messages, message_words, table_words}

@@ -1,8 +1,8 @@
 -- The mask of a release, let out or held, is that of a vector of eight pairs, so that its ones are the controllers named.
-use Rattle.std.specs.Prelude.{◌≡◌, not, List, ℕ, length}
+use Rattle.std.specs.Prelude.{◌≡◌, not, List, ℕ, length, ◌==◌}
 use Rattle.std.proofs.Common.{subst, arith}
 use Rattle.std.specs.Int.Count.{ones}
-use Rattle.base.specs.Choice.{◌==◌, cond_ind}
+use Rattle.base.specs.Choice.{cond_ind}
 use Rattle.base.specs.Ranges.{count}
 use Rattle.base.specs.Cases.{first_of}
 use Rattle.table.specs.Field.{State, Sender}

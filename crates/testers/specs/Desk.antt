@@ -1,8 +1,8 @@
 -- W2, of one step: what publishing does, which steps write to the ledger, and which don't look at it.
-use Rattle.std.specs.Prelude.{◌≡◌, refl, true, false, not, List, ◌⊎◌, ◌≢◌, ℕ, length}
+use Rattle.std.specs.Prelude.{◌≡◌, refl, true, false, not, List, ◌⊎◌, ◌≢◌, ℕ, length, ◌==◌}
 use Rattle.std.proofs.Common.{sym, ap, ◌∙◌, true≢false, eqb-true}
 use Rattle.std.proofs.Math.Logic.{inl, inr}
-use Rattle.base.specs.Choice.{◌==◌, cond_ind}
+use Rattle.base.specs.Choice.{cond_ind}
 use Rattle.base.specs.Cases.{first_of}
 use Rattle.table.specs.Field.{State}
 use Rattle.table.specs.Layout.{table_words}

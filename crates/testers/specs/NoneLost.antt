@@ -1,8 +1,7 @@
 -- No step gives the state 4, lost: every rule puts another state into a message's record, or leaves the one that it finds.
-use Rattle.std.specs.Prelude.{◌≡◌, true, false, ◌&&◌, List, ℕ, zero, suc, ◌≤◌, get_or}
+use Rattle.std.specs.Prelude.{◌≡◌, true, false, ◌&&◌, List, ℕ, zero, suc, ◌≤◌, get_or, ◌==◌}
 use Rattle.std.proofs.Math.Path.{refl}
 use Rattle.std.proofs.Common.{sym, ap, ◌∙◌, true≢false, arith, eq-eqb, ne_eqb}
-use Rattle.base.specs.Choice.{◌==◌}
 use Rattle.table.specs.Field.{Field, State, OfMessage, MessageState}
 use Rattle.table.specs.Change.{is_state, is_state_lem}
 use Rattle.table.specs.Numbering.{used, posted}

@@ -1,8 +1,8 @@
 -- A refused step leaves the state and the ledger that it found: every rule that refuses gives back what it got.
-use Rattle.std.specs.Prelude.{◌≡◌, refl, false, ◌&&◌, List, ◌≢◌, ℕ}
+use Rattle.std.specs.Prelude.{◌≡◌, refl, false, ◌&&◌, List, ◌≢◌, ℕ, ◌==◌}
 use Rattle.std.proofs.Common.{sym, ap, ◌∙◌, true≢false, eq-eqb}
 use Rattle.std.proofs.Math.Bool.{not}
-use Rattle.base.specs.Choice.{◌==◌, ◌≤?◌, cond_ind}
+use Rattle.base.specs.Choice.{◌≤?◌, cond_ind}
 use Rattle.base.specs.Cases.{Case, first_of}
 use Rattle.table.specs.Field.{State, Incarnation, LiveCount}
 use Rattle.rules.specs.Limits.{house, last_incarnation}

@@ -1,7 +1,6 @@
-use Rattle.base.specs.Choice.{◌==◌}
 use Rattle.parsing.specs.Parts.{field}
 use Rattle.parsing.specs.Digits.{Digit, reader_start, reader_more, reader_fails, reader_none, reader_some, reader_room, field_none, field_space, digit_tests, value_fits, number_none, number_letter}
-use Rattle.std.proofs.Common.{◌≡◌, [], ◌+◌, ◌-◌, get_or, drop, arith}
+use Rattle.std.proofs.Common.{◌≡◌, [], ◌+◌, ◌-◌, get_or, drop, arith, ◌==◌}
 use Rattle.parsing.proofs.number_at.Goals as goal
 use Rattle.parsing.proofs.number_at.Goals.{Else-b-i, Left-loop-i, else-loop-i-test, then-loop-i-test+then-b-eq-SPACE}
 

@@ -1,7 +1,7 @@
 -- The two tests are those of the definition, and the choice is made without a branch.
-use Rattle.std.proofs.Common.{◌≡◌, refl, Bool, true, false, not, cond, ◌&&◌, ◌||◌}
+use Rattle.std.proofs.Common.{◌≡◌, refl, Bool, true, false, not, cond, ◌&&◌, ◌||◌, ◌==◌}
 use mathlib.Core.Bool.{or-false}
-use Rattle.base.specs.Choice.{◌==◌, ◌≤?◌}
+use Rattle.base.specs.Choice.{◌≤?◌}
 use Rattle.rules.specs.Form.{state_held, state_dropped, state_published, state_ok}
 use Rattle.parts.proofs.state_ok.Goals as goal
 

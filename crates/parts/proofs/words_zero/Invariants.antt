@@ -1,7 +1,6 @@
 -- The flag gathers the tests of the words before i (allb_step).
 use Rattle.base.specs.Ranges.{allb}
-use Rattle.base.specs.Choice.{◌==◌}
-use Rattle.std.proofs.Common.{◌≡◌, ℕ, ◌+◌, ◌-◌, ◌≤◌, get_or}
+use Rattle.std.proofs.Common.{◌≡◌, ℕ, ◌+◌, ◌-◌, ◌≤◌, get_or, ◌==◌}
 use Rattle.parts.proofs.words_zero.Given as goal
 
 abbrev pub invariant-loop-i : goal.invariant-loop-i

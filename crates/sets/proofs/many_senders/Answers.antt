@@ -1,7 +1,6 @@
-use Rattle.base.specs.Choice.{◌==◌}
 use Rattle.base.specs.Ranges.{anyb_zero, anyb_step, anyb_end}
 use Rattle.rules.specs.Sets.{many_senders}
-use Rattle.std.proofs.Common.{not, ap₂, ℕ, rules}
+use Rattle.std.proofs.Common.{not, ap₂, ℕ, rules, ◌==◌}
 use Rattle.sets.proofs.many_senders.Goals as goal
 
 pub sender_of-sender-requires : goal.sender_of-sender-requires

@@ -1,9 +1,8 @@
 -- The flag gathers the tests of the messages before i (anyb_step).
-use Rattle.base.specs.Choice.{◌==◌}
 use Rattle.base.specs.Ranges.{anyb}
 use Rattle.table.specs.Words.{state}
 use Rattle.rules.specs.Sets.{nth, sender_of}
-use Rattle.std.proofs.Common.{not, ◌≡◌, ℕ, ◌-◌, ◌≤◌, length}
+use Rattle.std.proofs.Common.{not, ◌≡◌, ℕ, ◌-◌, ◌≤◌, length, ◌==◌}
 use Rattle.sets.proofs.many_senders.Given as goal
 
 abbrev pub invariant-loop-i : goal.invariant-loop-i

@@ -1,8 +1,7 @@
 -- The flag gathers the tests of the messages before j (anyb_step).
-use Rattle.base.specs.Choice.{◌==◌}
 use Rattle.base.specs.Ranges.{anyb}
 use Rattle.rules.specs.Sets.{nth}
-use Rattle.std.proofs.Common.{◌≡◌, ℕ, ◌-◌, ◌≤◌}
+use Rattle.std.proofs.Common.{◌≡◌, ℕ, ◌-◌, ◌≤◌, ◌==◌}
 use Rattle.sets.proofs.named_before.Given as goal
 
 abbrev pub invariant-loop-j : goal.invariant-loop-j
