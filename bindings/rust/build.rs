@@ -11,7 +11,7 @@ fn main() {
     let archive = directory.join("libgoulvizad.a");
     if !archive.exists() {
         let archive = archive.display();
-        println!("cargo:warning=no {archive}: `rt staticlib goulvizad` makes it");
+        println!("cargo:warning=no {archive}: `tools/build` makes it");
     }
     println!("cargo:rerun-if-env-changed=GOULVIZAD_LIB");
     println!("cargo:rerun-if-changed={}", archive.display());

@@ -1,4 +1,4 @@
--- Instances of the paper's theorems (paper/specs/Theorems.antt), each under its name, on lists with a crash (the sample run, `unheard`, `loss`,
+-- Instances of the paper's theorems (paper/proofs/Theorems.antt), each under its name, on lists with a crash (the sample run, `unheard`, `loss`,
 -- `waiting`): who has heard it, what is undone, what is dropped and what arrives. They hold from every table of 15,152 words and every ledger of
 -- 257. Lists.antt has the lists, Told.antt what their lines tell, GoingOut.antt the other theorems.
 use Rattle.std.specs.Prelude.{◌≡◌, false, ◌&&◌, ◌≢◌, ℕ, ◌+◌, ◌≤◌, ◌<◌, take, drop, ◌==◌}

@@ -1,4 +1,4 @@
--- Instances of the paper's theorems (paper/specs/Theorems.antt), each under its name, on the list of messages that are held and go out
+-- Instances of the paper's theorems (paper/proofs/Theorems.antt), each under its name, on the list of messages that are held and go out
 -- (`woven`): all that the theorem asks for is there, and what it says is used. They hold from every table of 15,152 words and every ledger of
 -- 257. Lists.antt has the lists, Told.antt what their lines tell, Arriving.antt the other theorems.
 use Rattle.std.specs.Prelude.{◌≡◌, Bool, ◌≢◌, ℕ, ◌≤◌, ◌<◌, length, take, ◌==◌}

@@ -1,5 +1,5 @@
 -- Short lists of steps in a house of three, run on the definitions by the prover. That each step finds its state in form is not
--- computed: an opening leaves the form, and every step keeps it (keeping/specs/Steps.antt).
+-- computed: an opening leaves the form, and every step keeps it (keeping/proofs/Steps.antt).
 use Rattle.std.specs.Prelude.{◌≡◌, refl, true, false, List, [], ◌∷◌, ℕ, zero, suc, length}
 use Rattle.std.proofs.Common.{ap, ◌∙◌, subst, arith, eq-eqb, ltb-false}
 use Rattle.std.proofs.Math.Bool.{and-false}
