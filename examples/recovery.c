@@ -4,7 +4,7 @@
  * until none is left, told in words. It comes across every answer, and shows two refusals and the two
  * returns that are no answers.
  *
- *     rt staticlib goulvizad
+ *     tools/build
  *     cc examples/recovery.c -Iinclude -Ltarget/staticlib -lgoulvizad -o target/recovery
  */
 #include "goulvizad.h"

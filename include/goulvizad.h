@@ -30,7 +30,7 @@
  * after it leave is in form; but form alone doesn't say that steps have led there.
  *
  * To build, first with Rattle's rt, then with any C compiler:
- *     rt staticlib goulvizad
+ *     tools/build
  *     cc prog.c -Iinclude -Ltarget/staticlib -lgoulvizad
  * The archive, target/staticlib/libgoulvizad.a, is for Linux on x86-64 with glibc 2.34 or newer, as
  * Rattle's kit asks, and links only into x86-64 programs.

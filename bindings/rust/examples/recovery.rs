@@ -3,7 +3,7 @@
 //! is left, told in words: `examples/recovery.c` in Rust. There a caller can also ask for what is no step; here
 //! it can't.
 //!
-//!     rt staticlib goulvizad
+//!     tools/build
 //!     cargo run --example recovery
 
 use goulvizad::{Answer, Citation, Mask, Refusal, Step, Table, DESK};
