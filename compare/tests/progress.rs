@@ -1,5 +1,5 @@
 //! Nothing is held for ever, and what is cited stands: the theorems on messages in `paper/proofs/Theorems.antt`
-//! (theorem-A-1-messages, theorem-A-2 and those under its name), and `AllCitable` in `history/specs/Citable.antt`.
+//! (theorem_A_1_messages, theorem_A_2 and those under its name), and `AllCitable` in `history/specs/Citable.antt`.
 //!
 //! In random lists both machines are held to these at every release, of a set too, and every delivery, by the
 //! dispatcher too, which is idle only where they leave nothing to do. Where a release was held, or let a message out,

@@ -47,8 +47,8 @@ impl Standing {
         self.sure && self.in_the_way == 0
     }
 
-    /// Whether its release may show this mask: it names whoever could revoke the message (theorem-A-3), and nobody else
-    /// but who stands in its way (theorem-A-2-masks, -cause).
+    /// Whether its release may show this mask: it names whoever could revoke the message (theorem_A_3), and nobody else
+    /// but who stands in its way (theorem_A_2_masks, _cause).
     fn may_name(&self, mask: u32) -> bool {
         self.at_risk & !mask == 0 && mask & !self.in_the_way == 0
     }
@@ -80,8 +80,8 @@ impl House {
         }
     }
 
-    /// A message is let out just where it names no more than it may (theorem-A-2-mask, -all-but-K, -useful); and its
-    /// release is refused just where there is nothing to hold (theorem-A-2).
+    /// A message is let out just where it names no more than it may (theorem_A_2_mask, _all_but_K, _useful); and its
+    /// release is refused just where there is nothing to hold (theorem_A_2).
     fn allows_release(&self, message: u32, answer: Answer) -> bool {
         match (self.held(message), answer) {
             (Ok((standing, _)), Answer::Released { mask, .. }) => {
@@ -109,9 +109,9 @@ impl House {
         }
     }
 
-    /// A delivery drops exactly what rests on work lost in a crash that the receiver has heard (theorem-A-1-messages).
-    /// What is left waits only for those who were not asked, or for crashes to be heard (theorem-A-2-delivery,
-    /// -useful-delivery).
+    /// A delivery drops exactly what rests on work lost in a crash that the receiver has heard (theorem_A_1_messages).
+    /// What is left waits only for those who were not asked, or for crashes to be heard (theorem_A_2_delivery,
+    /// _useful_delivery).
     fn allows_delivery(&self, message: u32, answer: Answer) -> bool {
         let (standing, sent) = match self.released(message) {
             Ok(released) => released,

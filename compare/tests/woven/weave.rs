@@ -139,14 +139,14 @@ impl Weave<'_> {
         self.get_done(Command::Checkpoint { controller })
     }
 
-    /// What is asked for can always be done (theorem-A-2-done).
+    /// What is asked for can always be done (theorem_A_2_done).
     fn get_done(&mut self, command: Command) -> Result<(), Broken> {
         let answer = self.house.step(command)?;
         let done = answer == Answer::Done;
         done.then_some(()).ok_or(Broken::Answer(command, answer))
     }
 
-    /// So can a hearing, unless it must undo in the last incarnation (theorem-A-2-hearing).
+    /// So can a hearing, unless it must undo in the last incarnation (theorem_A_2_hearing).
     fn hear(&mut self, crash: Crash) -> Result<(), Broken> {
         let command = Command::Hear {
             hearer: self.aim.holder,

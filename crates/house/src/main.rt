@@ -15,9 +15,12 @@ const READ_ROOM: usize = 512;
 // Each byte that is read may end a line.
 const OUT_ROOM: usize = READ_ROOM * ANSWER_ROOM;
 
-// Says why a call has failed, in the system's words, without the number that the library puts behind them.
+// Says why a call has failed, in the system's words, without the number that the library puts behind them; with it, where there is
+// no memory to take it away.
 fn fail(rt: HostRuntime, what: &str, error: Error) -> io::Result<()> {
-    let text = format!(in rt.alloc(); "{error}")?;
+    let Ok(text) = format!(in rt.alloc(); "{error}") else {
+        return eprintln!(rt; "house: {what}: {error}");
+    };
     let words = match text.find(" (os error ") {
         Some(end) => &text[..end],
         None => text.as_str(),

@@ -1,5 +1,5 @@
--- What follows from the invariant by itself, for demand 3: what left a chain at a hearing, what is live, what a release names, that
--- what nobody can revoke stays, and that nothing is condemned without a crash that was heard.
+-- What follows from the invariant by itself, for demand 3: what left a chain at a hearing, what is live, what a release names,
+-- and that nothing is condemned without a crash that was heard.
 use Rattle.std.specs.Prelude.{◌≡◌, refl, false, ◌⊎◌, ◌↔◌, ℕ, ◌≤◌, ◌<◌}
 use Rattle.std.proofs.Common.{sym, ◌∙◌, ap, subst, inl, inr, ⊎_elim, arith}
 use Rattle.base.specs.Choice.{le?}

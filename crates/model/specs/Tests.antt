@@ -1,5 +1,4 @@
--- Laws of tests and of functions changed at one place, over variables; the proofs of this crate use them in place of the
--- definitions.
+-- A test that passes, as a fact.
 use Rattle.std.specs.Prelude.{◌≡◌, Bool, true}
 
 -- the test b passes

@@ -1,5 +1,5 @@
--- The ways between a place or a record and its number. Every number that a rule makes from a place, a count or a record is
--- made here, and so is the way back. Rules, code and theorem use the laws below and not the text of these definitions.
+-- Laws of the ways between a place or a record and its number (specs/Numbering.antt). Rules, code and theorem use these and not the
+-- text of the definitions.
 use Rattle.std.specs.Prelude.{◌≡◌, ◌&&◌, List, ◌≢◌, ℕ, ◌+◌, ◌-◌, ◌≤◌, ◌<◌, length, get_or}
 use Rattle.std.proofs.Math.Path.{refl, ap, subst}
 use Rattle.std.proofs.Common.{sym, ◌∙◌, true≢false, ◌==◌}

@@ -1,5 +1,4 @@
--- Where each field stands in the lent table. These are the only word positions of the definitions; src/lib.rt has the
--- same numbers as constants of the code.
+-- Laws of the positions of fields in the lent table (specs/Layout.antt).
 use Rattle.std.specs.Prelude.{◌≡◌, refl, ℕ, ◌+◌, ◌-◌, ◌/◌, ◌%◌, ◌<◌}
 use Rattle.std.proofs.Common.{sym, ap, ◌∙◌, arith, ltb-true, ltb-false, lt-ltb, le-ltb}
 use Rattle.base.specs.Choice.{◌<?◌, cond_ind}

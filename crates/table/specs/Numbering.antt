@@ -1,5 +1,6 @@
 -- The ways between a place or a record and its number. Every number that a rule makes from a place, a count or a record is
--- made here, and so is the way back. Rules, code and theorem use the laws below and not the text of these definitions.
+-- made here, and so is the way back. Rules, code and theorem use the laws of proofs/Numbering.antt and not the text of these
+-- definitions.
 use Rattle.std.specs.Prelude.{◌≡◌, Bool, not, ◌&&◌, List, ℕ, ◌+◌, ◌-◌}
 use Rattle.std.proofs.Math.Bool.{false, cond}
 use Rattle.base.specs.Choice.{◌≤?◌, ◌<?◌}

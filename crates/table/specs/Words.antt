@@ -1,4 +1,4 @@
--- The table of a state and the state of a table, and what the table is after each change of a state.
+-- The table of a state and the state of a table.
 use Rattle.std.specs.Prelude.{◌≡◌, List, ℕ, ◌+◌, ◌≤◌, ◌<◌, length, get_or}
 use Rattle.base.specs.Lists.{tab}
 use Rattle.table.specs.Field.{Field, State, word_of}
