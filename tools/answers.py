@@ -1,7 +1,7 @@
 #!/usr/bin/env python3
 """Turns the Proof.antt of each function of a crate, in the older form, to Invariants.antt and Answers.antt.
 
-usage: python3 tools/answers.py CRATE [FUNCTION..]    at the top, after port.py and respell.py
+usage: python3 tools/answers.py MAP CRATE [FUNCTION..]    at the top, after port.py and respell.py; MAP is what respell.py --map wrote
 
 The names of goals and steps are those that `rt check --generated DIR --old-names` lists. An answer that was a bare search is left to the check.
 What it can't turn stays as Proof.antt, and is named.
@@ -13,10 +13,8 @@ import subprocess
 import sys
 import tempfile
 
-sys.path.insert(0, os.path.dirname(os.path.realpath(__file__)))
-import respell
-
-with open("/opt/rattle/rattle/std/proofs/Common.antt", encoding="utf-8") as f:
+KIT = os.path.dirname(subprocess.run(["rt", "doc"], stdout=subprocess.PIPE, text=True, check=True).stdout.strip())
+with open(f"{KIT}/rattle/std/proofs/Common.antt", encoding="utf-8") as f:
     COMMONS = {w.strip() for m in re.finditer(r"\{([^}]*)\}", f.read()) for w in m[1].split(",")}
 TRIVIAL = re.compile(r"^\(λ c(?: κs)?\. search rules\)$")
 WORD = r"[^\s(){}\[\],;:.\"«»`|=]+"
@@ -190,11 +188,6 @@ def turn(path, made, own):
             if len(wanted) != len(params):
                 raise Cannot(f"{word}: {len(params)} parameters for {len(wanted)}")
             sub = dict(zip(params, wanted))
-            if re.search(r"λ \(?(%s)\b" % "|".join(map(re.escape, params)), rest):
-                # a bound variable of the same name hides the parameter: rename it first
-                for p in params:
-                    if re.search(r"λ \(?%s\b" % re.escape(p), rest):
-                        rest = rename_bound(rest, p)
             rest = re.sub(r"(?<![\w.'₀-])(%s)(?![\w'₀-])" % "|".join(map(re.escape, sorted(sub, key=len, reverse=True))), lambda m: sub[m[1]], rest)
             inv += comment + [f"abbrev pub {word}-{loop[1]} : goal.{word}-{loop[1]}", f"{word}-{loop[1]} l = {own_words(rest)}", ""]
     helpers = []
@@ -243,10 +236,6 @@ def turn(path, made, own):
     return head, keep_uses, inv, helpers + ans, sorted(set(named_places))
 
 
-def rename_bound(text, p):
-    return text  # by hand, where the check complains
-
-
 def file_of(head, uses, goal, body):
     text = "\n".join(body)
     words = set(re.findall(WORD, text))
@@ -286,9 +275,10 @@ def file_of(head, uses, goal, body):
 
 
 def main(argv):
-    crate, only = argv[0], set(argv[1:])
+    respelled, crate, only = argv[0], argv[1], set(argv[2:])
     folder = f"crates/{crate}"
-    own = dict(l.split() for l in open("/tmp/map.txt", encoding="utf-8"))
+    with open(respelled, encoding="utf-8") as f:
+        own = dict(l.split() for l in f)
     room = tempfile.mkdtemp()
     subprocess.run(["rt", "check", "--generated", room, "--old-names"], cwd=folder, stdout=subprocess.PIPE, stderr=subprocess.STDOUT)
     made = json.load(open(f"{room}/names.json", encoding="utf-8"))

@@ -1,7 +1,7 @@
 #!/usr/bin/env python3
 """Respells the repository's own definitions and lemmas as today's Rattle does: words in snake case, types and modules in camel case.
 
-usage: python3 tools/respell.py [--map FILE]     at the top, once, after /opt/rattle/port/port.py; --map also writes old and new names
+usage: python3 tools/respell.py [--map FILE]     at the top, once, after the kit's port.py; --map also writes old and new names
 
 What it turns: each lower-case name of two words that a file of specs/ declares, `tableWords` and `stored-words` alike, and each name in
 capitals alone, in specs/, proofs/, ghost lines and clauses of src/, must-fail/ and the pages. Other names that begin with a capital,
