@@ -1,5 +1,5 @@
--- The history and the table tell the same of each controller, after every step of a list: its degree, its incarnation, which numbers are
--- live, and which of them are stable and flagged; and of Q.
+-- What the history and the table are to tell the same of each controller: its degree, its incarnation, which numbers are live, and which
+-- of them are stable and flagged; and of Q.
 use Rattle.std.specs.Prelude.{◌≡◌, true, ◌↔◌, ℕ, ◌≤◌}
 use Rattle.table.specs.Field.{State, Gap, Degree, Incarnation, StableCount, Flag}
 use Rattle.table.specs.Words.{state}

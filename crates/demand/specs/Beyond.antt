@@ -1,6 +1,4 @@
--- Beyond demand 3, also for every list: a done opening forgets what stood in the table and in the ledger, each controller that a
--- release names owns what the sender doesn't know to be stable, the ledger says what was sent to the desk and let out, and where no crash
--- is accepted no call answers `rolled` or `dropped`.
+-- Why a release names a controller, which answers undo or drop, and which say that a crash is accepted.
 use Rattle.std.proofs.Math.Path.{◌≡◌}
 use Rattle.std.specs.Prelude.{true}
 use Prim.Native.Nat.{ℕ, ◌<◌}

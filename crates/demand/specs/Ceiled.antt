@@ -1,5 +1,4 @@
--- W4's ceiling holds of every list: along it each live number stands less than the largest Q set so far above the latest flagged one up
--- to it, and what a crash or a rollback replays are such numbers.
+-- A step keeps W4's ceiling: each live number stands less than the largest Q set so far above the latest flagged one up to it.
 use Rattle.std.specs.Prelude.{refl, ℕ, ◌≤◌, ◌<◌}
 use Rattle.std.proofs.Common.{sym, arith}
 use Rattle.std.proofs.Math.Path.{subst}

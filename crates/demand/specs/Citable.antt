@@ -1,5 +1,4 @@
--- Every entry of the ledger may be cited: along a list, each message that the citations have for the desk was sent so by a send of the list,
--- and each entry is one of these that a release or a set let out, of which demand 3 says that the interval that sent it stands.
+-- How a step keeps a fact of citations.
 use Rattle.std.proofs.Math.Path.{◌≡◌, refl, subst}
 use Rattle.std.proofs.Common.{sym}
 use Rattle.std.specs.Prelude.{ℕ}

@@ -1,5 +1,4 @@
--- A delivery begins an interval. Its vector tracks it: of another owner's pairs the larger covers both, since full ones have one
--- incarnation; and what it rests on of its own controller is stable or live, so below its own pair.
+-- Which vectors a delivery may merge.
 use Rattle.std.specs.Prelude.{◌≡◌, ◌≢◌, ℕ, ◌<◌}
 use Rattle.model.specs.Model.{Vec, full}
 use Rattle.model.specs.Tests.{Is}

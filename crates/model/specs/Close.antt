@@ -1,5 +1,4 @@
--- W4's ceiling, on models alone: each live number stands less than M above the latest flagged one up to it, where no Q was above M. A
--- change leaves all numbers but the newest as they were, and a newest one that stands too high is flagged.
+-- W4's ceiling, on models alone: each live number stands less than M above the latest flagged one up to it.
 use Rattle.std.specs.Prelude.{ℕ, ◌≤◌, ◌<◌}
 use Rattle.model.specs.Model.{Controller, Model, above_latest}
 

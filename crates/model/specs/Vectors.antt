@@ -1,5 +1,4 @@
--- Filtering and merging keep a vector that tracks an interval, and such a vector is condemned exactly where the interval rests
--- on one lost in a crash that the holder has heard, by the pair of its owner.
+-- When a vector is condemned to a controller, and by whose pair.
 use Rattle.std.specs.Prelude.{ℕ, ◌≤◌, ◌<◌}
 use Rattle.model.specs.Model.{Vec, Controller}
 

@@ -1,4 +1,4 @@
--- What C, T, R and D answer on a table and a ledger in form, in terms of the model.
+-- What C, T, R and D answer on a state and a ledger in form, in terms of the model.
 use Rattle.std.proofs.Math.Path.{◌≡◌, refl, ap, subst}
 use Rattle.std.proofs.Common.{sym, ◌∙◌, arith}
 use Rattle.std.specs.Prelude.{Bool, true, cond, ◌&&◌, List, ◌≢◌, ◌⊎◌, ℕ, zero, suc, ◌+◌, ◌<◌, ◌≤◌, ◌==◌}

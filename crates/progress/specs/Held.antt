@@ -1,5 +1,4 @@
--- What ends the holding of a message: a release lets it out, or its sender starts anew at or below its sending number. No other step does,
--- and none makes a message held that was there and was not.
+-- What ends the holding of a message: a release lets it out, or its sender starts anew at or below its sending number.
 use Rattle.std.specs.Prelude.{◌≡◌, ◌⊎◌, ℕ, ◌+◌, ◌≤◌, ◌<◌}
 use Rattle.table.specs.Field.{State, Incarnation, MessageState, Sender, SendingNumber}
 use Rattle.table.specs.Numbering.{last_live, record_of}

@@ -1,6 +1,5 @@
--- Document 01, "To the testers": "Try to satisfy the statements with these". The statement of `machine::step` is an equation with
--- `step` on every table and ledger and for every command. Here is each wrong machine, with a table and a ledger of the sample run
--- (Sample.antt) and a step on them where it gives something else, and one claim over them all.
+-- Each wrong machine with a table and a ledger of the sample run (Sample.antt) and a step on them where it gives something else than
+-- `step`, and one claim over them all.
 use Rattle.std.specs.Prelude.{◌≡◌, refl, false, List, [], ◌∷◌, ◌≢◌, ℕ, length, get_or}
 use Rattle.std.proofs.Common.{sym, ap, ◌∙◌, true≢false, eq-eqb, ◌==◌}
 use Rattle.table.specs.Field.{Field, SentCount, PairNumber}
