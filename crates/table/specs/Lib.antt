@@ -3,3 +3,4 @@ pub mod Change
 pub mod Layout
 pub mod Words
 pub mod Numbering
+pub mod Status

@@ -5,4 +5,4 @@ use Rattle.std.proofs.Common.{arith}
 use Rattle.table.proofs.set_degree.Goals as goal
 
 pub returns : goal.returns
-returns c = stored c.args.t.now (Degree c.args.c) c.args.x c.requires.0 (c.requires.1, omega arith)
+returns c = stored c.args.t.now (Degree c.args.c) c.args.x c.told-t (c.requires, omega arith)

@@ -5,4 +5,4 @@ use Rattle.std.proofs.Common.{arith}
 use Rattle.table.proofs.set_gap.Goals as goal
 
 pub returns : goal.returns
-returns c = stored c.args.t.now Gap c.args.x c.requires (omega arith)
+returns c = stored c.args.t.now Gap c.args.x c.told-t (omega arith)

@@ -4,4 +4,4 @@ use Rattle.table.proofs.Words.{stored}
 use Rattle.table.proofs.set_known.Goals as goal
 
 pub returns : goal.returns
-returns c = stored c.args.t.now (Known c.args.holder c.args.owner c.args.i) c.args.x c.requires.0 (c.requires.1, c.requires.2, c.requires.3)
+returns c = stored c.args.t.now (Known c.args.holder c.args.owner c.args.i) c.args.x c.told-t (c.requires.0, c.requires.1, c.requires.2)

@@ -5,4 +5,4 @@ use Rattle.std.proofs.Common.{arith}
 use Rattle.table.proofs.set_served.Goals as goal
 
 pub returns : goal.returns
-returns c = stored c.args.t.now Served c.args.x c.requires (omega arith)
+returns c = stored c.args.t.now Served c.args.x c.told-t (omega arith)
