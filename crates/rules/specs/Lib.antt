@@ -1,5 +1,6 @@
 pub mod Limits
 pub mod Refusal
+pub mod Refused
 pub mod Bytes
 pub mod Vector
 pub mod Form

@@ -1,7 +1,9 @@
 // What is asked of a house and what it answers. The rules themselves are definitions, in specs/.
 #![tactic(auto)]
 
-pub mod refusal;
+mod refusal;
+
+pub use refusal::Refusal;
 
 // A step, by its letter in document 01; W4 names none for its own.
 #[derive(Clone, Copy)]

@@ -1,39 +1,51 @@
-// The refusals of document 01 and of the requests by name. specs/Refusal.antt, include/goulvizad.h and the second implementation have the same
-// names and numbers.
+// What refuses a step. specs/Refusal.antt, include/goulvizad.h and the second implementation have the same names and numbers.
 
-// The host that lends the table.
-pub const LENGTH: u32 = 1;
+ghost use Rattle.std.specs.Prelude.{◌≡◌};
+ghost use Rattle.rules.specs.Refused.{number, answer_of};
 
-pub const FORM: u32 = 2;
+use crate::Answer;
 
-// The host that lends the ledger.
-pub const LEDGER: u32 = 14;
+#[derive(Clone, Copy, PartialEq, Eq)]
+pub enum Refusal {
+    // The host that lends the table.
+    Length = 1,
+    Form = 2,
+    // The host that lends the ledger.
+    Ledger = 14,
+    // The caller naming things.
+    Controller = 3,
+    Message = 4,
+    Degree = 5,
+    SameController = 6,
+    // The order of steps.
+    State = 7,
+    Senders = 15,
+    LogCount = 8,
+    NoSuchCrash = 9,
+    AlreadyHeard = 10,
+    // Too much used.
+    MessagesUsedUp = 11,
+    PlacesUsedUp = 12,
+    IncarnationsUsedUp = 13,
+    LedgerUsedUp = 18,
+}
 
-// The caller naming things.
-pub const CONTROLLER: u32 = 3;
+impl From<Refusal> for u32 {
+    ghost from_gives = { λ refusal n. n ≡ number refusal };
 
-pub const MESSAGE: u32 = 4;
+    fn from(refusal: Refusal) -> u32 {
+        refusal as u32
+    }
+}
 
-pub const DEGREE: u32 = 5;
+// A step that was refused answers so.
+impl From<Result<Answer, Refusal>> for Answer {
+    ghost from_gives = { λ outcome a. a ≡ answer_of outcome };
 
-pub const SAME_CONTROLLER: u32 = 6;
-
-// The order of steps.
-pub const STATE: u32 = 7;
-
-pub const SENDERS: u32 = 15;
-
-pub const LOG_COUNT: u32 = 8;
-
-pub const NO_SUCH_CRASH: u32 = 9;
-
-pub const ALREADY_HEARD: u32 = 10;
-
-// Too much used.
-pub const MESSAGES_USED_UP: u32 = 11;
-
-pub const PLACES_USED_UP: u32 = 12;
-
-pub const INCARNATIONS_USED_UP: u32 = 13;
-
-pub const LEDGER_USED_UP: u32 = 18;
+    fn from(outcome: Result<Answer, Refusal>) -> Answer {
+        match outcome {
+            Ok(a) => a,
+            Err(refusal) => Answer::Refused(u32::from(refusal)),
+        }
+    }
+}
