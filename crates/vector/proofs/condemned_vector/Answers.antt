@@ -7,7 +7,7 @@ pub loop-owner-init : goal.loop-owner-init
 loop-owner-init c = (search rules, anyb_zero _)
 
 pub condemned_pair-some-requires : goal.condemned_pair-some-requires
-condemned_pair-some-requires c = (search rules, search rules, search rules, c.requires.2 _ c.loop-owner-test.true)
+condemned_pair-some-requires c = (search rules, search rules, c.requires.1 _ c.loop-owner-test.true)
 
 pub loop-owner-preserved : goal.loop-owner-preserved
 loop-owner-preserved c = (search rules, anyb_step _ _ _ _ c.loop-owner.invariant.1 c.condemned_pair-some.ensures)

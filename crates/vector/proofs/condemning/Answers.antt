@@ -1,7 +1,7 @@
 use Rattle.rules.specs.Vector.{condemning}
 use Rattle.base.specs.Ranges.{first_at, first_none}
 use Rattle.table.specs.Layout.{controllers}
-use Rattle.std.proofs.Common.{arith, rules, ◌≡◌, sym, ◌∙◌}
+use Rattle.std.proofs.Common.{arith, rules, sym, ◌∙◌}
 use borrow.Author.Count.{below_none, below_more}
 use Rattle.vector.proofs.condemning.Goals as goal
 
@@ -9,7 +9,7 @@ pub loop-owner-init : goal.loop-owner-init
 loop-owner-init c = (search rules, below_none _)
 
 pub condemned_pair-requires : goal.condemned_pair-requires
-condemned_pair-requires c = (search rules, search rules, search rules, c.requires.2 _ c.loop-owner-test.true)
+condemned_pair-requires c = (search rules, search rules, c.requires.1 _ c.loop-owner-test.true)
 
 pub returns-then-condemned_pair : goal.returns-then-condemned_pair
 unfolding condemning
@@ -20,7 +20,4 @@ loop-owner-preserved c = (search rules, below_more _ _ c.loop-owner.invariant.1 
 
 pub returns : goal.returns
 unfolding condemning
-returns c =
-    let l = c.loop-owner in
-    let all : l.owner ≡ controllers = omega (arith, l.invariant.0, c.loop-owner-test.false) in
-    all ∙ sym (first_none controllers _ (λ k h. l.invariant.1 k (omega (arith, c.loop-owner-test.false))))
+returns c = sym (first_none controllers _ (λ k h. c.loop-owner.invariant.1 k (omega (arith, c.loop-owner-test.false))))

@@ -2,11 +2,8 @@
 use Rattle.rules.specs.Vector.{pair_of, condemned_pair}
 use Rattle.table.specs.Words.{state}
 use Rattle.table.specs.Layout.{controllers}
-use Rattle.std.proofs.Common.{ℕ, ◌-◌, ◌≤◌, ◌<◌, false, ◌≡◌}
+use Rattle.std.proofs.Common.{ℕ, ◌≤◌, ◌<◌, false, ◌≡◌}
 use Rattle.vector.proofs.condemning.Given as goal
 
 abbrev pub invariant-loop-owner : goal.invariant-loop-owner
 invariant-loop-owner l = (l.owner ≤ controllers) × ((k : ℕ) → k < l.owner → condemned_pair (state l.t) l.holder k (pair_of l.v k) ≡ false)
-
-abbrev pub decreases-loop-owner : goal.decreases-loop-owner
-decreases-loop-owner l = controllers - l.owner

@@ -6,11 +6,11 @@ use Rattle.vector.proofs.filter_vector.Goals as goal
 pub loop-owner-init : goal.loop-owner-init
 loop-owner-init c = filled_none _ _ _ _ refl
 
-pub filter_pair-p-requires : goal.filter_pair-p-requires
-filter_pair-p-requires c = (search rules, search rules, search rules, c.requires.2 _ c.loop-owner-test.true)
+pub filter_pair-requires : goal.filter_pair-requires
+filter_pair-requires c = (search rules, search rules, c.requires.1 _ c.loop-owner-test.true)
 
 pub loop-owner-preserved : goal.loop-owner-preserved
-loop-owner-preserved c = filled_more _ _ _ _ _ _ c.loop-owner.invariant c.loop-owner-test.true c.filter_pair-p.ensures
+loop-owner-preserved c = filled_more _ _ _ _ _ _ c.loop-owner.invariant c.loop-owner-test.true c.filter_pair.ensures
 
 pub returns : goal.returns
 unfolding filtered

@@ -1,11 +1,8 @@
 -- Before each turn the mask is that of the pairs before `owner`, and `bit` is 2 to the power of it.
 use Rattle.rules.specs.Vector.{mask_to}
 use Rattle.table.specs.Layout.{controllers}
-use Rattle.std.proofs.Common.{◌^◌, ◌-◌, ◌≤◌, ◌≡◌}
+use Rattle.std.proofs.Common.{◌^◌, ◌≤◌, ◌≡◌}
 use Rattle.vector.proofs.mask_of.Given as goal
 
 abbrev pub invariant-loop-owner : goal.invariant-loop-owner
 invariant-loop-owner l = (l.owner ≤ controllers) × (l.bit ≡ 2 ^ l.owner) × (l.mask ≡ mask_to l.owner l.v)
-
-abbrev pub decreases-loop-owner : goal.decreases-loop-owner
-decreases-loop-owner l = controllers - l.owner

@@ -2,11 +2,8 @@
 use Rattle.vector.specs.Conflict.{at}
 use Rattle.table.specs.Words.{state}
 use Rattle.table.specs.Layout.{controllers}
-use Rattle.std.proofs.Common.{ℕ, ◌-◌, ◌≤◌, ◌<◌, false, ◌≡◌}
+use Rattle.std.proofs.Common.{ℕ, ◌≤◌, ◌<◌, false, ◌≡◌}
 use Rattle.vector.proofs.place_conflict.Given as goal
 
 abbrev pub invariant-loop-owner : goal.invariant-loop-owner
 invariant-loop-owner l = (l.owner ≤ controllers) × ((k : ℕ) → k < l.owner → at (state l.t) l.c l.p l.w k ≡ false)
-
-abbrev pub decreases-loop-owner : goal.decreases-loop-owner
-decreases-loop-owner l = controllers - l.owner

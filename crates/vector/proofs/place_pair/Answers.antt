@@ -5,4 +5,4 @@ use Rattle.std.proofs.Common.{sym, ap, ◌∙◌}
 use Rattle.vector.proofs.place_pair.Goals as goal
 
 pub returns : goal.returns
-returns c = c.pair_at.ensures ∙ sym (pair_at_lem _ _ _ c.requires.3) ∙ ap (λ v. pair_of v c.args.owner) (place_vector_lem c.args.t.now _ _ _ c.place_vector_at.ensures)
+returns c = c.pair_at.ensures ∙ sym (pair_at_lem _ _ _ c.requires.2) ∙ ap (λ v. pair_of v c.args.owner) (place_vector_lem c.args.t.now _ _ _ c.place_vector_at.ensures)

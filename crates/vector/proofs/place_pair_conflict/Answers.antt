@@ -10,7 +10,7 @@ pub returns-then-q-eq0 : goal.returns-then-q-eq0
 returns-then-q-eq0 c = conflict_empty _ _ _ _ c.if-q-eq0.true
 
 pub filter_pair-ours-requires : goal.filter_pair-ours-requires
-filter_pair-ours-requires c = (search rules, search rules, search rules, subst (λ p. incarnation p < incarnations) (sym c.place_pair.ensures) (c.requires.4 _ c.requires.3))
+filter_pair-ours-requires c = (search rules, search rules, subst (λ p. incarnation p < incarnations) (sym c.place_pair.ensures) (c.requires.3 _ c.requires.2))
 
 pub returns : goal.returns
 returns c =

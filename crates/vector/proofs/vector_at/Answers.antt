@@ -7,7 +7,7 @@ pub loop-owner-init : goal.loop-owner-init
 loop-owner-init c = filled_none _ _ _ _ refl
 
 pub loop-owner-preserved : goal.loop-owner-preserved
-loop-owner-preserved c = filled_more _ _ _ _ _ _ c.loop-owner.invariant c.loop-owner-test.true c.pair_at-p.ensures
+loop-owner-preserved c = filled_more _ _ _ _ _ _ c.loop-owner.invariant c.loop-owner-test.true c.pair_at.ensures
 
 pub returns : goal.returns
 unfolding vector_at

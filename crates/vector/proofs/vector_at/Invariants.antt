@@ -2,11 +2,8 @@
 use Rattle.vector.specs.At.{pair_at}
 use Rattle.base.specs.Lists.{Filled}
 use Rattle.table.specs.Layout.{controllers}
-use Rattle.std.proofs.Common.{◌-◌, []}
+use Rattle.std.proofs.Common.{[]}
 use Rattle.vector.proofs.vector_at.Given as goal
 
 abbrev pub invariant-loop-owner : goal.invariant-loop-owner
 invariant-loop-owner l = Filled [] controllers (pair_at l.t l.at) l.owner l.v
-
-abbrev pub decreases-loop-owner : goal.decreases-loop-owner
-decreases-loop-owner l = controllers - l.owner
