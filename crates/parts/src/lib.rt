@@ -10,7 +10,7 @@ ghost use Rattle.rules.specs.Form.{pair_ok, vector_ok, highest, state_ok};
 ghost use Rattle.vector.specs.At.{vector_at};
 ghost use Rattle.parts.specs.Zeros.{block, zeros_from};
 
-use table::layout;
+use table::{Status, layout};
 
 // The words of a block: a long run ends at the first block that isn't 0.
 pub const BLOCK: usize = 64;
@@ -21,10 +21,8 @@ pub fn words_zero(t: &[u32], at: usize, k: usize) -> bool
     ensures { result ≡ zeros_from t.now at k }
 {
     let mut ok = true;
-    let mut i = 0;
-    while i < k {
-        ok = ok & (t[at + i] == 0);
-        i += 1;
+    for x in &t[at..at + k] {
+        ok = ok & (*x == 0);
     }
     ok
 }
@@ -34,12 +32,10 @@ pub fn blocks_zero(t: &[u32], at: usize, m: usize) -> bool
     requires { at + m * block ≤ length t.now }
     ensures { result ≡ zeros_from t.now at (m * block) }
 {
-    let mut i = 0;
-    while i < m {
+    for i in 0..m {
         if !words_zero(t, at + i * BLOCK, BLOCK) {
             return false;
         }
-        i += 1;
     }
     true
 }
@@ -79,10 +75,8 @@ pub fn vector_ok(t: &[u32], n: u32, at: usize) -> bool
     ensures { result ≡ vector_ok house n (vector_at t.now at) }
 {
     let mut ok = true;
-    let mut owner = 0;
-    while owner < layout::CONTROLLERS {
+    for owner in 0..layout::CONTROLLERS {
         ok = ok & pair_ok(n, owner, t[at + 2 * owner], t[at + 2 * owner + 1]);
-        owner += 1;
     }
     ok
 }
@@ -101,8 +95,8 @@ pub fn highest_known(n: u32, holder: usize, owner: usize) -> u32
 pub fn state_ok(desk: bool, state: u32) -> bool
     ensures { result ≡ state_ok desk state }
 {
-    let sent_out = (state == layout::HELD)
-        | ((state == layout::DROPPED) | (state == layout::PUBLISHED));
-    let sent_within = (layout::HELD <= state) & (state <= layout::DROPPED);
+    let sent_out = (state == Status::Held as u32)
+        | ((state == Status::Dropped as u32) | (state == Status::Published as u32));
+    let sent_within = (Status::Held as u32 <= state) & (state <= Status::Dropped as u32);
     (desk & sent_out) | (!desk & sent_within)
 }
