@@ -2,17 +2,16 @@
 // branch on a word that is tested, as in the parts.
 #![tactic(auto)]
 
-ghost use Rattle.std.specs.Prelude.{◌≡◌, ◌<◌, length};
-ghost use Rattle.table.specs.Layout.{controllers, places, messages, table_words};
+ghost use Rattle.std.specs.Prelude.{◌≡◌, ◌<◌};
+ghost use Rattle.table.specs.Layout.{controllers, places, messages};
 ghost use Rattle.table.specs.Words.{state};
 ghost use Rattle.rules.specs.Limits.{house};
 ghost use Rattle.rules.specs.Form.{head_ok, controller_ok, row_ok, place_ok, message_ok};
 
-use table::layout;
+use table::{Table, layout};
 
 // The head: the number of controllers, the records in use, the gap, the controller last served, and zeros for the rest.
-pub fn head_ok(t: &[u32]) -> bool
-    requires { length t.now ≡ table_words }
+pub fn head_ok(t: &Table) -> bool
     ensures { result ≡ head_ok house (state t.now) }
 {
     let n = table::size(t);
@@ -26,8 +25,8 @@ pub fn head_ok(t: &[u32]) -> bool
         & parts::all_zero(t, layout::SPARE_AGAIN, rest)
 }
 
-pub fn controller_ok(t: &[u32], n: u32, c: usize) -> bool
-    requires { (length t.now ≡ table_words) × (c < controllers) }
+pub fn controller_ok(t: &Table, n: u32, c: usize) -> bool
+    requires { c < controllers }
     ensures { result ≡ controller_ok house n (state t.now) c }
 {
     if c < n as usize {
@@ -45,24 +44,22 @@ pub fn controller_ok(t: &[u32], n: u32, c: usize) -> bool
 }
 
 // The known and end words that `holder` has of `owner`.
-pub fn row_ok(t: &[u32], n: u32, holder: usize, owner: usize) -> bool
-    requires { (length t.now ≡ table_words) × (holder < controllers) × (owner < controllers) }
+pub fn row_ok(t: &Table, n: u32, holder: usize, owner: usize) -> bool
+    requires { (holder < controllers) × (owner < controllers) }
     ensures { result ≡ row_ok house n (state t.now) holder owner }
 {
     let most = parts::highest_known(n, holder, owner);
     let mut ok = true;
-    let mut i = 0;
-    while i < layout::INCARNATIONS {
+    for i in 0..layout::INCARNATIONS {
         let known = table::known(t, holder, owner, i);
         let end = table::end(t, holder, owner, i);
         ok = ok & ((known <= most) & (end <= most));
-        i += 1;
     }
     ok
 }
 
-pub fn place_ok(t: &[u32], n: u32, c: usize, p: usize) -> bool
-    requires { (length t.now ≡ table_words) × (c < controllers) × (p < places) }
+pub fn place_ok(t: &Table, n: u32, c: usize, p: usize) -> bool
+    requires { (c < controllers) × (p < places) }
     ensures { result ≡ place_ok house n (state t.now) c p }
 {
     let q = p as u32;
@@ -79,8 +76,8 @@ pub fn place_ok(t: &[u32], n: u32, c: usize, p: usize) -> bool
     }
 }
 
-pub fn message_ok(t: &[u32], n: u32, r: usize) -> bool
-    requires { (length t.now ≡ table_words) × (r < messages) }
+pub fn message_ok(t: &Table, n: u32, r: usize) -> bool
+    requires { r < messages }
     ensures { result ≡ message_ok house n (state t.now) r }
 {
     if (r as u32) < table::records_used(t) {

@@ -4,7 +4,7 @@ use Rattle.table.specs.Field.{State}
 use Rattle.table.specs.Layout.{incarnations}
 use Rattle.rules.specs.Limits.{house}
 use Rattle.rules.specs.Form.{highest, row_ok}
-use Rattle.std.proofs.Common.{◌≡◌, ap, ◌∙◌, ◌&&◌, ℕ, rules}
+use Rattle.std.proofs.Common.{◌≡◌, ap, ◌∙◌, ◌&&◌, ℕ}
 use Rattle.records.proofs.row_ok.Invariants.{within}
 use Rattle.records.proofs.row_ok.Goals as goal
 
@@ -16,10 +16,10 @@ unfolding row_ok
 row_within n σ holder owner most e = ap (λ (most : ℕ). allb incarnations (within σ holder owner most)) e
 
 pub loop-i-init : goal.loop-i-init
-loop-i-init c = (search rules, allb_zero _)
+loop-i-init c = allb_zero _
 
 pub loop-i-preserved : goal.loop-i-preserved
-loop-i-preserved c = (search rules, allb_step _ _ _ _ c.loop-i.invariant.1 (both-within _ c.known-known.ensures c.end-end.ensures))
+loop-i-preserved c = allb_step _ _ _ _ c.loop-i.invariant (both-within _ c.known-known.ensures c.end-end.ensures)
 
 pub returns : goal.returns
-returns c = allb_end _ _ _ _ c.loop-i.invariant.1 c.loop-i.invariant.0 c.loop-i-test.false ∙ row_within _ _ _ _ _ c.highest_known-most.ensures
+returns c = allb_end _ _ _ _ c.loop-i.invariant c.loop-i.auto.i-end c.loop-i-test.false ∙ row_within _ _ _ _ _ c.highest_known-most.ensures
