@@ -1,7 +1,6 @@
--- What the passed refusals of a step say to the function that does it, and the answers of the steps on message m in record r:
--- n is the number that the refusals gave.
-use Rattle.std.specs.Prelude.{◌≡◌, List, ℕ, ◌+◌, ◌-◌, ◌<◌, ◌^◌, length}
-use Rattle.std.proofs.Common.{sym, ◌∙◌, arith}
+-- What the passed refusals of a step say to the function that does it, and the answers of the steps on message m in record r.
+use Rattle.std.specs.Prelude.{◌≡◌, List, ℕ, ◌+◌, ◌-◌, ◌<◌, ◌^◌, length, Result, Err}
+use Rattle.std.proofs.Common.{arith}
 use Rattle.base.specs.Cases.{first_of}
 use Rattle.table.specs.Field.{State, LiveCount}
 use Rattle.table.specs.Layout.{messages, table_words}
@@ -10,23 +9,24 @@ use Rattle.table.specs.Numbering.{used, last_given, record_of}
 use Rattle.table.proofs.Numbering.{given_le}
 use Rattle.rules.specs.Limits.{house}
 use Rattle.rules.specs.Vector.{Vector, place_vector, message_vector}
-use Rattle.rules.specs.Form.{state_released}
 use Rattle.rules.specs.Steps.{After, refusing, send_refusals, message_refusals}
 use Rattle.rules.specs.Step.{out, written}
+use Rattle.rules.specs.Refused.{number, refusal_of}
 use Rattle.rules.specs.declared.Answer.{Answer}
 use Rattle.rules.specs.declared.Answer.TheVariants.{Refused}
+use Rattle.rules.specs.declared.refusal.Refusal.{Refusal}
 use Rattle.laws.specs.Facts.{Near, form}
 use Rattle.laws.specs.Allowed.{send_allowed}
-use Rattle.laws.specs.Answering.{Lent, refused, granted_by}
-use Rattle.laws.specs.Chain.{Chain, chain_of_lem, Taken, taken}
+use Rattle.laws.specs.Answering.{Lent, turned_away, granted}
+use Rattle.laws.specs.Chain.{Chain, chain_of_lem, Taken}
 
 -- S: the sender has its chain, and a record is left
-module _ (t : List ℕ) (l : Lent t) (n sender receiver : ℕ) (z : n ≡ 0) (e : n ≡ first_of (send_refusals house (state t) sender receiver)) where
+module _ (t : List ℕ) (l : Lent t) (sender receiver : ℕ) (e : 0 ≡ first_of (send_refusals house (state t) sender receiver)) where
   pub send_chain : Chain (state t) sender
-  send_chain = chain_of_lem t sender l (send_allowed house (state t) sender receiver (sym z ∙ e)).sender_lt
+  send_chain = chain_of_lem t sender l (send_allowed house (state t) sender receiver e).sender_lt
 
   pub send_room : used (state t) < messages
-  send_room = (send_allowed house (state t) sender receiver (sym z ∙ e)).room
+  send_room = (send_allowed house (state t) sender receiver e).room
 
 -- the newest interval is live, and so its vector is near
 pub newest_near : (σ : State) (c live : ℕ) (v : Vector) → Chain σ c → live ≡ σ (LiveCount c) → v ≡ place_vector σ c (live - 1) → Near v
@@ -40,19 +40,16 @@ next_fits σ c m h e = omega (arith, given_le σ h.used_le)
 pub record_there : (t : List ℕ) (n r : ℕ) → Lent t → n ≡ used (state t) → r < n → r < messages
 record_there t n r l e h = omega (arith, (form house (state t) l.good).used_le)
 
--- D: a message that is not refused is one that it may take
-pub passed_taken : (t : List ℕ) (r n : ℕ) → n ≡ first_of (message_refusals (state t) r state_released) → Lent t → n ≡ 0 → Taken (state t) r
-passed_taken t r n e l z = taken t r l (sym z ∙ e)
+-- the step, by the record r that was found for message m: refused, or done
+module _ (t : List ℕ) (m r wanted : ℕ) (q : r ≡ record_of (state t) m) where
+  pub message_refused : (o : ℕ → After) (found : Result Unit Refusal) (refusal : Refusal) → length t ≡ table_words →
+      refusal_of found ≡ first_of (message_refusals (state t) r wanted) → found ≡ Err refusal →
+      out (Refused (number refusal)) t ≡ written (refusing (message_refusals (state t) (record_of (state t) m) wanted) (state t) (o (record_of (state t) m)))
+  message_refused o found refusal l e w = rw (← q) (turned_away _ t (o r) found refusal l e w)
 
-module _ (t : List ℕ) (m r wanted n : ℕ) (e : n ≡ first_of (message_refusals (state t) r wanted)) where
-  -- the step, by the record that was found: refused, or done
-  pub message_refused : (o : ℕ → After) → length t ≡ table_words → r ≡ record_of (state t) m → (n ≡ 0 → ⊥) →
-      out (Refused n) t ≡ written (refusing (message_refusals (state t) (record_of (state t) m) wanted) (state t) (o (record_of (state t) m)))
-  message_refused o l q ne = rw (← q) (refused _ t n (o r) l e ne)
-
-  pub message_granted : (o : ℕ → After) (a : Answer) (u : List ℕ) → r ≡ record_of (state t) m → n ≡ 0 → out a u ≡ written (o r) →
+  pub message_granted : (o : ℕ → After) (a : Answer) (u : List ℕ) → 0 ≡ first_of (message_refusals (state t) r wanted) → out a u ≡ written (o r) →
       out a u ≡ written (refusing (message_refusals (state t) (record_of (state t) m) wanted) (state t) (o (record_of (state t) m)))
-  message_granted o a u q z h = rw (← q) (granted_by _ (state t) (o r) a u n e z h)
+  message_granted o a u e h = rw (← q) (granted _ (state t) (o r) a u e h)
 
 -- the vector of such a message is near
 pub taken_near : (σ : State) (r : ℕ) (v : Vector) → Taken σ r → v ≡ message_vector σ r → Near v

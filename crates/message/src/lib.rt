@@ -5,8 +5,9 @@ ghost use Rattle.std.specs.Prelude.{◌≡◌, ◌<◌, length};
 ghost use Rattle.base.specs.Cases.{first_of};
 ghost use Rattle.table.specs.Field.{OfMessage};
 ghost use Rattle.table.specs.Change.{put_part};
-ghost use Rattle.table.specs.Layout.{messages, message_words, table_words};
+ghost use Rattle.table.specs.Layout.{messages, message_words};
 ghost use Rattle.table.specs.Words.{state, words};
+ghost use Rattle.table.specs.Status.{word};
 ghost use Rattle.table.specs.Numbering.{used, next_message};
 ghost use Rattle.rules.specs.Limits.{house};
 ghost use Rattle.rules.specs.Vector.{place_vector, filtered};
@@ -14,17 +15,18 @@ ghost use Rattle.rules.specs.Form.{state_held};
 ghost use Rattle.rules.specs.Shared.{newest_place};
 ghost use Rattle.rules.specs.Steps.{after, message_record, sent, records_full, send_refusals, message_refusals, step_send};
 ghost use Rattle.rules.specs.Step.{out, written};
+ghost use Rattle.rules.specs.Refused.{refusal_of, answer_of};
 ghost use Rattle.rules.specs.declared.Answer.TheVariants.{Sent};
 ghost use Rattle.laws.specs.Answering.{Lent};
 ghost use Rattle.laws.specs.Chain.{Chain};
 
-use rules::{Answer, refusal};
-use table::layout;
+use rules::{Answer, Refusal};
+use table::{Status, Table, layout};
 
 // The words of a message record, lent from inside the table.
 pub fn write_message(
     d: &mut [u32],
-    state: u32,
+    state: Status,
     sender: u32,
     receiver: u32,
     i: u32,
@@ -33,9 +35,9 @@ pub fn write_message(
     v: vector::Vector,
 )
     requires { length d.old ≡ message_words }
-    ensures { d.new ≡ message_record state sender receiver i x payload v }
+    ensures { d.new ≡ message_record (word state) sender receiver i x payload v }
 {
-    d[layout::STATE_WORD] = state;
+    d[layout::STATE_WORD] = u32::from(state);
     d[layout::SENDER_WORD] = sender;
     d[layout::RECEIVER_WORD] = receiver;
     d[layout::SENDING_INCARNATION_WORD] = i;
@@ -48,7 +50,7 @@ pub fn write_message(
 
 // The words of record r, of a message that is held.
 pub fn write_held(
-    t: &mut [u32],
+    t: &mut Table,
     r: usize,
     sender: u32,
     receiver: u32,
@@ -57,14 +59,14 @@ pub fn write_held(
     payload: u32,
     v: vector::Vector,
 )
-    requires { (length t.old ≡ table_words) × (r < messages) }
+    requires { r < messages }
     ensures { t.new ≡ words (put_part (state t.old) (OfMessage r 0) 0 (message_record state_held sender receiver i x payload v)) }
 {
     let from = table::message_at(r);
     let to = from + layout::MESSAGE_WORDS;
     write_message(
         &mut t[from..to],
-        layout::HELD,
+        Status::Held,
         sender,
         receiver,
         i,
@@ -75,33 +77,32 @@ pub fn write_held(
 }
 
 // Whether no record is left for a message.
-pub fn records_full(t: &[u32]) -> bool
-    requires { length t.now ≡ table_words }
+pub fn records_full(t: &Table) -> bool
     ensures { result ≡ records_full house (state t.now) }
 {
     layout::MESSAGES as u32 <= table::records_used(t)
 }
 
-pub fn send_refusal(t: &[u32], sender: u32, receiver: u32) -> u32
-    requires { length t.now ≡ table_words }
-    ensures { result ≡ first_of (send_refusals house (state t.now) sender receiver) }
+// What refuses a message from the sender to the receiver.
+pub fn check_send(t: &Table, sender: u32, receiver: u32) -> Result<(), Refusal>
+    ensures { refusal_of result ≡ first_of (send_refusals house (state t.now) sender receiver) }
 {
     let n = table::size(t);
     if (n <= sender) | ((n <= receiver) & (receiver != layout::DESK)) {
-        return refusal::CONTROLLER;
+        return Err(Refusal::Controller);
     }
     if sender == receiver {
-        return refusal::SAME_CONTROLLER;
+        return Err(Refusal::SameController);
     }
     if records_full(t) {
-        return refusal::MESSAGES_USED_UP;
+        return Err(Refusal::MessagesUsedUp);
     }
-    0
+    Ok(())
 }
 
 // The newest vector of c, filtered for c.
-pub fn newest_vector(t: &[u32], c: usize) -> vector::Vector
-    requires { (length t.now ≡ table_words) × Chain (state t.now) c }
+pub fn newest_vector(t: &Table, c: usize) -> vector::Vector
+    requires { Chain (state t.now) c }
     ensures { result ≡ filtered (state t.now) c (place_vector (state t.now) c (newest_place (state t.now) c)) }
 {
     let live = table::live_count(t, c) as usize;
@@ -110,8 +111,8 @@ pub fn newest_vector(t: &[u32], c: usize) -> vector::Vector
 }
 
 // A message of the sender's newest interval goes into the first unused record.
-pub fn send_newest(t: &mut [u32], sender: u32, receiver: u32, payload: u32) -> Answer
-    requires { (length t.old ≡ table_words) × Chain (state t.old) sender × (used (state t.old) < messages) }
+pub fn send_newest(t: &mut Table, sender: u32, receiver: u32, payload: u32) -> Answer
+    requires { Chain (state t.old) sender × (used (state t.old) < messages) }
     ensures { out result t.new ≡ written (after (Sent (next_message (state t.old))) (sent (state t.old) sender receiver payload)) }
 {
     let c = sender as usize;
@@ -127,27 +128,24 @@ pub fn send_newest(t: &mut [u32], sender: u32, receiver: u32, payload: u32) -> A
 }
 
 // S s r p, the sender, the receiver and the payload, on a table in form.
-pub fn send(t: &mut [u32], sender: u32, receiver: u32, payload: u32) -> Answer
+pub fn send(t: &mut Table, sender: u32, receiver: u32, payload: u32) -> Result<Answer, Refusal>
     requires { Lent t.old }
-    ensures { out result t.new ≡ written (step_send house (state t.old) sender receiver payload) }
+    ensures { out (answer_of result) t.new ≡ written (step_send house (state t.old) sender receiver payload) }
 {
-    let no = send_refusal(t, sender, receiver);
-    if no != 0 {
-        return Answer::Refused(no);
-    }
-    send_newest(t, sender, receiver, payload)
+    check_send(t, sender, receiver)?;
+    Ok(send_newest(t, sender, receiver, payload))
 }
 
-// The refusals of a step on the message in record r, which must be in the wanted state.
-pub fn message_refusal(t: &[u32], r: usize, wanted: u32) -> u32
+// What refuses a step on the message in record r, which must be in the wanted state.
+pub fn check_message(t: &Table, r: usize, wanted: Status) -> Result<(), Refusal>
     requires { Lent t.now }
-    ensures { result ≡ first_of (message_refusals (state t.now) r wanted) }
+    ensures { refusal_of result ≡ first_of (message_refusals (state t.now) r (word wanted)) }
 {
     if table::records_used(t) as usize <= r {
-        return refusal::MESSAGE;
+        return Err(Refusal::Message);
     }
-    if table::message_state(t, r) != wanted {
-        return refusal::STATE;
+    if table::message_state(t, r) != u32::from(wanted) {
+        return Err(Refusal::State);
     }
-    0
+    Ok(())
 }

@@ -1,7 +1,7 @@
 -- The tests stand in the order of the cases; what was read is put for the words, and each test has its outcome.
 use Rattle.base.specs.Cases.{first_of}
 use borrow.Author.Tests.{eq-eqb, ne_eqb}
-use Rattle.message.proofs.send_refusal.Goals as goal
+use Rattle.message.proofs.check_send.Goals as goal
 
 pub returns-then-n-sender : goal.returns-then-n-sender
 unfolding first_of
