@@ -1,8 +1,7 @@
 -- What lent places come back as.
 use Rattle.std.specs.Prelude.{◌≡◌, refl, List, ◌++◌, ℕ, zero, suc, ◌+◌, ◌-◌, ◌≤◌, ◌<◌, length, get_or, take, drop, replicate}
-use Rattle.std.proofs.Common.{sym, ap, ◌∙◌, arith}
+use Rattle.std.proofs.Common.{ap, ◌∙◌, arith}
 use Rattle.std.proofs.lemmas.List.{length-replicate}
-use Rattle.base.specs.Lists.{tab_of, Filled, filled_done}
 use Rattle.table.specs.Field.{OfPlace}
 use Rattle.table.specs.Change.{put_part, clear_places}
 use Rattle.table.specs.Layout.{controllers, places, place_words, table_words, position}
@@ -25,10 +24,6 @@ zero_at (suc n) (suc i) = zero_at n i
 pub length_zero : (n : ℕ) → length (zero_words n) ≡ n
 unfolding zero_words
 length_zero n = length-replicate n 0
-
--- a loop has stored 0 in every word
-pub zero_filled : (n i : ℕ) (d : List ℕ) → Filled 0 n (λ (j : ℕ). 0) i d → n ≤ i → d ≡ zero_words n
-zero_filled n i d f l = filled_done 0 n (λ (j : ℕ). 0) i d f l ∙ sym (tab_of 0 n (λ (j : ℕ). 0) (zero_words n) (length_zero n) (λ (i : ℕ) (h : i < n). zero_at n i))
 
 -- the words of a place were lent and came back as an interval's record, or those of places p to q as zeros
 pub lent_interval : (t ys : List ℕ) (c p from to i x cause flag : ℕ) (v : Vector) → length t ≡ table_words → c < controllers → p < places →

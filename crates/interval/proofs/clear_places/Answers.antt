@@ -6,4 +6,4 @@ use Rattle.interval.proofs.clear_places.Goals as goal
 pub returns : goal.returns
 returns c =
     let w = c.requires in
-    lent_cleared _ _ _ _ _ _ _ _ w.0 w.1 w.2 w.3 c.clear.ensures (simp (length-take, length-drop) (omega arith)) c.place_at-from.ensures c.place_at-to.ensures
+    lent_cleared _ _ _ _ _ _ _ _ c.told-t w.0 w.1 w.2 c.clear.ensures (simp (length-take, length-drop) (omega arith)) c.place_at-from.ensures c.place_at-to.ensures

@@ -1,17 +1,8 @@
 use Rattle.interval.specs.Walks.{come_latest, come_first, come_end, judged_first, place_lt, entry_near, judged_more, judged_hit, judged_clear}
-use Rattle.std.proofs.Common.{arith}
 use Rattle.interval.proofs.lowest_condemned.Goals as goal
 
-pub live_count-live-requires : goal.live_count-live-requires
-live_count-live-requires c = let s = c.requires in (s.0, s.1.named)
-
-pub latest_flagged-flagged-requires : goal.latest_flagged-flagged-requires
-latest_flagged-flagged-requires c = let s = c.requires in (s.0, s.1.named, omega arith, s.1.numbers_le)
-
 pub places-init : goal.places-init
-places-init c =
-    let s = c.requires in
-    come_first _ _ _ _ s.0 s.1 c.live_count-live.ensures c.latest_flagged-flagged.ensures
+places-init c = come_first _ _ _ _ c.requires c.live_count-live.ensures c.latest_flagged-flagged.ensures
 
 pub loop-owner-init : goal.loop-owner-init
 loop-owner-init c = judged_first _ _ _ _ _ c.places.invariant c.if-live-p.false
@@ -19,13 +10,13 @@ loop-owner-init c = judged_first _ _ _ _ _ c.places.invariant c.if-live-p.false
 pub place_pair-entry-requires : goal.place_pair-entry-requires
 place_pair-entry-requires c =
     let w = c.loop-owner.invariant in
-    (w.come.long, w.come.chain.named, place_lt _ _ _ _ _ _ w, c.loop-owner-test.true)
+    (w.come.chain.named, place_lt _ _ _ _ _ _ w, c.loop-owner-test.true)
 
 pub condemned_pair-requires : goal.condemned_pair-requires
 condemned_pair-requires c =
     let w = c.loop-owner.invariant in
     let l = c.loop-owner-test.true in
-    (w.come.long, w.come.chain.named, l, entry_near _ _ _ _ _ _ _ w l c.place_pair-entry.ensures)
+    (w.come.chain.named, l, entry_near _ _ _ _ _ _ _ w l c.place_pair-entry.ensures)
 
 pub loop-owner-preserved : goal.loop-owner-preserved
 loop-owner-preserved c = judged_more _ _ _ _ _ _ _ _ c.loop-owner.invariant c.loop-owner-test.true c.place_pair-entry.ensures c.condemned_pair.ensures c.if-condemned_pair.false
@@ -33,7 +24,7 @@ loop-owner-preserved c = judged_more _ _ _ _ _ _ _ _ c.loop-owner.invariant c.lo
 pub raise_flagged-flagged-requires : goal.raise_flagged-flagged-requires
 raise_flagged-flagged-requires c =
     let w = c.loop-owner.invariant in
-    (w.come.long, w.come.chain.named, place_lt _ _ _ _ _ _ w, come_latest _ _ _ _ _ w.come, w.come.chain.numbers_le)
+    (w.come.chain.named, place_lt _ _ _ _ _ _ w, come_latest _ _ _ _ _ w.come, w.come.chain.numbers_le)
 
 pub places-preserved : goal.places-preserved
 places-preserved c = judged_clear _ _ _ _ _ _ _ c.loop-owner.invariant c.loop-owner-test.false c.raise_flagged-flagged.ensures

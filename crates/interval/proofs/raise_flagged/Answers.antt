@@ -6,10 +6,10 @@ use Rattle.std.proofs.Common.{refl, sym, ◌∙◌, arith}
 use Rattle.interval.proofs.raise_flagged.Goals as goal
 
 pub number_of-requires : goal.number_of-requires
-number_of-requires c = let s = c.requires in (s.0, s.1, number_fits _ _ _ s.4 (omega arith))
+number_of-requires c = let s = c.requires in (s.0, number_fits _ _ _ s.3 (omega arith))
 
 pub returns-then-flag-eq1 : goal.returns-then-flag-eq1
 returns-then-flag-eq1 c = c.number_of.ensures ∙ flagged_here _ _ _ _ refl (sym c.flag.ensures ∙ c.if-flag-eq1.true)
 
 pub returns-else-flag-eq1 : goal.returns-else-flag-eq1
-returns-else-flag-eq1 c = c.requires.3 ∙ flagged_below _ _ _ _ refl (λ e. c.if-flag-eq1.false (c.flag.ensures ∙ e))
+returns-else-flag-eq1 c = c.requires.2 ∙ flagged_below _ _ _ _ refl (λ e. c.if-flag-eq1.false (c.flag.ensures ∙ e))

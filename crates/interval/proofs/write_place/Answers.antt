@@ -6,4 +6,4 @@ use Rattle.interval.proofs.write_place.Goals as goal
 pub returns : goal.returns
 returns c =
     let w = c.requires in
-    lent_interval _ _ _ _ _ _ _ _ _ _ _ w.0 w.1 w.2 c.write_interval.ensures c.place_at-from.ensures refl
+    lent_interval _ _ _ _ _ _ _ _ _ _ _ c.told-t w.0 w.1 c.write_interval.ensures c.place_at-from.ensures refl
