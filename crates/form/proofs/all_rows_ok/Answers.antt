@@ -1,15 +1,15 @@
 use Rattle.base.specs.Ranges.{allb_zero, allb_next, allb_stops, allb_end}
-use Rattle.std.proofs.Common.{rules, ap, not}
+use Rattle.std.proofs.Common.{ap, not}
 use Rattle.form.proofs.all_rows_ok.Goals as goal
 
 pub loop-holder-init : goal.loop-holder-init
-loop-holder-init c = (search rules, allb_zero _)
+loop-holder-init c = allb_zero _
 
 pub returns-then-not-rows_ok : goal.returns-then-not-rows_ok
 returns-then-not-rows_ok c = allb_stops _ _ _ _ c.loop-holder-test.true c.rows_ok.ensures (ap not c.if-not-rows_ok.true)
 
 pub loop-holder-preserved : goal.loop-holder-preserved
-loop-holder-preserved c = (search rules, allb_next _ _ _ c.loop-holder.invariant.1 c.rows_ok.ensures (ap not c.if-not-rows_ok.false))
+loop-holder-preserved c = allb_next _ _ _ c.loop-holder.invariant c.rows_ok.ensures (ap not c.if-not-rows_ok.false)
 
 pub returns : goal.returns
-returns c = allb_end _ _ _ _ c.loop-holder.invariant.1 c.loop-holder.invariant.0 c.loop-holder-test.false
+returns c = allb_end _ _ _ _ c.loop-holder.invariant c.loop-holder.auto.holder-end c.loop-holder-test.false

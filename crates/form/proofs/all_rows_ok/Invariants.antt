@@ -4,11 +4,8 @@ use Rattle.table.specs.Layout.{controllers}
 use Rattle.table.specs.Words.{state}
 use Rattle.rules.specs.Limits.{house}
 use Rattle.rules.specs.Form.{row_ok}
-use Rattle.std.proofs.Common.{◌≡◌, true, ℕ, ◌-◌, ◌≤◌}
+use Rattle.std.proofs.Common.{◌≡◌, true, ℕ}
 use Rattle.form.proofs.all_rows_ok.Given as goal
 
 abbrev pub invariant-loop-holder : goal.invariant-loop-holder
-invariant-loop-holder l = (l.holder ≤ controllers) × (true ≡ allb l.holder (λ (holder : ℕ). allb controllers (row_ok house l.n (state l.t) holder)))
-
-abbrev pub decreases-loop-holder : goal.decreases-loop-holder
-decreases-loop-holder l = controllers - l.holder
+invariant-loop-holder l = true ≡ allb l.holder (λ (holder : ℕ). allb controllers (row_ok house l.n (state l.t) holder))

@@ -1,15 +1,15 @@
 use Rattle.base.specs.Ranges.{allb_zero, allb_next, allb_stops, allb_end}
-use Rattle.std.proofs.Common.{rules, ap, not}
+use Rattle.std.proofs.Common.{ap, not}
 use Rattle.form.proofs.controllers_ok.Goals as goal
 
 pub loop-c-init : goal.loop-c-init
-loop-c-init c = (search rules, allb_zero _)
+loop-c-init c = allb_zero _
 
 pub returns-then-not-controller_ok : goal.returns-then-not-controller_ok
 returns-then-not-controller_ok c = allb_stops _ _ _ _ c.loop-c-test.true c.controller_ok.ensures (ap not c.if-not-controller_ok.true)
 
 pub loop-c-preserved : goal.loop-c-preserved
-loop-c-preserved c = (search rules, allb_next _ _ _ c.loop-c.invariant.1 c.controller_ok.ensures (ap not c.if-not-controller_ok.false))
+loop-c-preserved c = allb_next _ _ _ c.loop-c.invariant c.controller_ok.ensures (ap not c.if-not-controller_ok.false)
 
 pub returns : goal.returns
-returns c = allb_end _ _ _ _ c.loop-c.invariant.1 c.loop-c.invariant.0 c.loop-c-test.false
+returns c = allb_end _ _ _ _ c.loop-c.invariant c.loop-c.auto.c-end c.loop-c-test.false

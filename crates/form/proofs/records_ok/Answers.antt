@@ -27,7 +27,7 @@ unfolding in_form all_of
 returns c =
     let size = c.size-n.ensures in
     rw (
-      c.requires.1,
+      c.requires,
       rw size at (sym c.controllers_ok.ensures ∙ c.if-not-controllers_ok.false),
       rw size at (sym c.all_rows_ok.ensures ∙ c.if-not-all_rows_ok.false),
       rw size at (sym c.all_places_ok.ensures ∙ c.if-not-all_places_ok.false),
