@@ -1,5 +1,5 @@
--- Document 01, "Refused, and by whom it is caused", and the requests: the numbers by name. The code (src/refusal.rt),
--- include/goulvizad.h and the second implementation have the same names (with _ for -).
+-- Document 01, "Refused, and by whom it is caused", and the requests: the numbers by name. The code (src/refusal.rt, by Refused.antt),
+-- include/goulvizad.h and the second implementation have the same names, spelt as each does.
 use Rattle.std.specs.Prelude.{ℕ}
 
 -- "The host that lends the table": "1 length is not 15,152"
