@@ -4,7 +4,7 @@
 
 ghost use Rattle.std.specs.Prelude.{◌≡◌, [], ◌∷◌, ◌≤◌, ◌<◌, length};
 ghost use Rattle.rules.specs.Limits.{house, last_entry};
-ghost use Rattle.rules.specs.Ledger.{entry_words, entry_at, ledger_words, count_of, ledger_ok, appended};
+ghost use Rattle.rules.specs.Ledger.{entry_words, entry_at, count_of, ledger_ok, appended};
 
 // How many entries there are, and the words of each.
 pub const ENTRIES: usize = 128;
@@ -22,9 +22,11 @@ pub const ENTRIES_FROM: usize = 1;
 
 pub const LEDGER_WORDS: usize = ENTRIES_FROM + ENTRIES * ENTRY_WORDS;
 
+// The lent ledger.
+pub type Ledger = [u32; LEDGER_WORDS];
+
 // How many entries stand in the ledger.
-pub fn count(g: &[u32]) -> u32
-    requires { length g.now ≡ ledger_words house }
+pub fn count(g: &Ledger) -> u32
     ensures { result ≡ count_of g.now }
 {
     g[COUNT]
@@ -42,9 +44,9 @@ pub fn entry_at(j: usize) -> usize
 pub fn is_sound(g: &[u32]) -> bool
     ensures { result ≡ ledger_ok house g.now }
 {
-    if g.len() != LEDGER_WORDS {
+    let Some(g) = g.as_array() else {
         return false;
-    }
+    };
     let n = count(g) as usize;
     if ENTRIES < n {
         return false;
@@ -63,8 +65,8 @@ pub fn write_entry(d: &mut [u32], m: u32, payload: u32)
 }
 
 // One entry more, behind those that are there.
-pub fn append(g: &mut [u32], m: u32, payload: u32)
-    requires { (length g.old ≡ ledger_words house) × (count_of g.old < last_entry) }
+pub fn append(g: &mut Ledger, m: u32, payload: u32)
+    requires { count_of g.old < last_entry }
     ensures { g.new ≡ appended g.old (m ∷ payload ∷ []) }
 {
     let n = count(g);
