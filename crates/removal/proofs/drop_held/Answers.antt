@@ -1,4 +1,4 @@
-use Rattle.std.proofs.Common.{rules}
+use Rattle.std.proofs.Common.{arith, rules}
 use Rattle.laws.specs.Numbers.{number_fits}
 use Rattle.removal.specs.Dropping.{drop_none, drop_more, drop_all}
 use Rattle.removal.proofs.drop_held.Goals as goal
@@ -10,9 +10,7 @@ pub loop-r-init : goal.loop-r-init
 loop-r-init c = search (rules, drop_none)
 
 pub loop-r-preserved : goal.loop-r-preserved
-loop-r-preserved c =
-    let l = c.loop-r.invariant in
-    (search rules, l.1, search rules, drop_more _ _ _ _ _ _ _ l.3 c.loop-r-test.true l.1 c.drop_one.ensures)
+loop-r-preserved c = drop_more _ _ _ _ _ _ _ c.loop-r.invariant c.loop-r-test.true (omega (arith, c.requires.1.used_le)) c.drop_one.ensures
 
 pub returns : goal.returns
 returns c = search (drop_all)

@@ -5,7 +5,7 @@ use Rattle.removal.specs.Settling.{gets_dropped, gets_released}
 use Rattle.removal.proofs.fate_of.Goals as goal
 
 pub condemned_vector-requires : goal.condemned_vector-requires
-condemned_vector-requires c = let s = c.requires in (s.0, s.1.named, subst Near (sym c.message_vector-v.ensures) (s.1.message_near _ s.2))
+condemned_vector-requires c = let s = c.requires in (s.0.named, subst Near (sym c.message_vector-v.ensures) (s.0.message_near _ s.1))
 
 pub returns-then-condemned_vector : goal.returns-then-condemned_vector
 returns-then-condemned_vector c = search gets_dropped

@@ -2,4 +2,4 @@
 use Rattle.removal.proofs.orphaned.Goals as goal
 
 pub returns : goal.returns
-returns c = rw (c.message_state.ensures, c.sender.ensures, c.sending_number.ensures)
+returns c = rw (c.message_state.ensures, c.from.ensures, c.sender.ensures, c.sending_number.ensures)

@@ -4,11 +4,11 @@ use Rattle.std.proofs.Common.{rules}
 use Rattle.removal.specs.Settling.{settle_write, settle_keep, causing_there}
 use Rattle.removal.proofs.settle_cause.Goals as goal
 
-pub fate_of-x-requires : goal.fate_of-x-requires
-fate_of-x-requires c = (search rules, search rules, causing_there _ _ _ _ c.requires.1 c.causing.ensures c.if-causing.true)
+pub fate_of-s-requires : goal.fate_of-s-requires
+fate_of-s-requires c = (search rules, causing_there _ _ _ _ c.requires.0 c.causing.ensures c.if-causing.true)
 
 pub set_message_state-requires : goal.set_message_state-requires
-set_message_state-requires c = (search rules, causing_there _ _ _ _ c.requires.1 c.causing.ensures c.if-causing.true)
+set_message_state-requires c = causing_there _ _ _ _ c.requires.0 c.causing.ensures c.if-causing.true
 
 pub returns-then-causing : goal.returns-then-causing
 returns-then-causing c = search settle_write

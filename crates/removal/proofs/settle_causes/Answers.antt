@@ -1,5 +1,4 @@
-use Rattle.std.proofs.Common.{sym, ◌∙◌}
-use Rattle.removal.specs.Settling.{walk_none, walk_asks, walk_more, walk_long, walk_all}
+use Rattle.removal.specs.Settling.{walk_none, walk_asks, walk_more, walk_all}
 use Rattle.removal.proofs.settle_causes.Goals as goal
 
 pub loop-p-init : goal.loop-p-init
@@ -10,9 +9,6 @@ settle_cause-requires c = walk_asks c.loop-p.invariant c.loop-p-test.true
 
 pub loop-p-preserved : goal.loop-p-preserved
 loop-p-preserved c = walk_more c.loop-p.invariant c.loop-p-test.true c.settle_cause.ensures
-
-pub shape_of-t : goal.shape_of-t
-shape_of-t c = walk_long c.loop-p.invariant ∙ sym c.requires.0
 
 pub returns : goal.returns
 returns c = walk_all c.loop-p.invariant c.loop-p-test.false
