@@ -1,9 +1,9 @@
 -- What each function of a release leaves, from what it has read and what its calls have left.
-use Rattle.std.specs.Prelude.{◌≡◌, Bool, true, false, not, ◌&&◌, List, ◌++◌, ℕ, ◌+◌, ◌-◌, ◌<◌, length, take, drop, ◌==◌}
-use Rattle.std.proofs.Common.{sym, ap, ◌∙◌, arith}
+use Rattle.std.specs.Prelude.{◌≡◌, refl, Bool, true, false, not, ◌&&◌, List, ◌++◌, ℕ, ◌+◌, ◌-◌, ◌<◌, length, take, drop, ◌==◌, Result, Err}
+use Rattle.std.proofs.Common.{ap, arith}
 use Rattle.std.specs.Int.Count.{ones}
-use borrow.Author.Tests.{leb-false, eq-eqb, ne_eqb}
-use Rattle.base.specs.Cases.{first_of}
+use borrow.Author.Tests.{eq-eqb, ne_eqb}
+use Rattle.base.specs.Cases.{all_of, first_of, hit}
 use Rattle.base.specs.Choice.{◌≤?◌}
 use Rattle.table.specs.Field.{State, OfMessage, Degree, MessageState, Sender, Receiver, message_head, desk}
 use Rattle.table.specs.Change.{put, put_part}
@@ -12,20 +12,18 @@ use Rattle.table.specs.Words.{state, words}
 use Rattle.table.proofs.Words.{words_state, fits_message, lent_part, then_put}
 use Rattle.table.specs.Numbering.{record_of}
 use Rattle.rules.specs.Limits.{house, last_entry}
-use Rattle.rules.specs.Refusal.{LEDGER_USED_UP}
+use Rattle.rules.specs.Refusal.{LEDGER, LEDGER_USED_UP}
+use Rattle.rules.specs.Refused.{number, refusal_of}
 use Rattle.rules.specs.Vector.{Vector, message_vector, flat, filtered, mask}
 use Rattle.rules.specs.Form.{state_released, state_published, for_desk}
-use Rattle.rules.specs.Ledger.{ledger_words, count_of, entry_of, appended}
+use Rattle.rules.specs.Ledger.{ledger_words, ledger_ok, count_of, entry_of, appended}
 use Rattle.rules.specs.Steps.{own_vector, let_out, gone, ledger_out, may_go, release, release_refusals, step_release}
 use Rattle.rules.specs.Step.{out_both, written_both}
 use Rattle.rules.specs.declared.Answer.{Answer}
 use Rattle.rules.specs.declared.Answer.TheVariants.{Released, Held, Refused}
+use Rattle.rules.specs.declared.refusal.Refusal.{Refusal}
 use Rattle.laws.specs.Records.{length_flat}
-use Rattle.laws.specs.Facts.{Near}
-use Rattle.laws.specs.Allowed.{release_allowed}
-use Rattle.laws.specs.Ledger.{ledger_form}
-use Rattle.laws.specs.Answering.{Lent, refused_both, granted_both}
-use Rattle.laws.specs.Chain.{Releasable, releasable}
+use Rattle.laws.specs.Answering.{refused_both, turned_away_both, granted_both}
 
 -- the words of a record's vector, from word a to word b, were lent and came back as v
 pub writes_vector : (t ys : List ℕ) (r a b : ℕ) (v : Vector) → length t ≡ table_words → r < messages → a ≡ position (OfMessage r message_head) → b ≡ a + vector_words →
@@ -65,10 +63,7 @@ pub record Outgoing (t g : List ℕ) (r : ℕ) (v : Vector) : Type 0 where
 
 -- it has gone out, message m; d is the receiver
 module _ {t g : List ℕ} {r : ℕ} {v : Vector} (w : Outgoing t g r v) (m : ℕ) {d : ℕ} (de : d ≡ state t (Receiver r)) where
-  -- the desk: there is room, and it was published
-  pub desk_room : d ≡ desk → count_of g < last_entry
-  desk_room q = w.room (ap (λ x. x == desk) (sym de) ∙ eq-eqb d desk q)
-
+  -- the desk: it was published
   pub out_to_desk : d ≡ desk → {u h : List ℕ} → u ≡ words (let_out (state t) r v state_published) → h ≡ appended g (entry_of (state t) m r) →
       (u ≡ words (gone (state t) r)) × (h ≡ ledger_out (state t) g m r)
   unfolding gone ledger_out
@@ -105,28 +100,27 @@ module _ {t : List ℕ} {r k : ℕ} (x : Read t r k) {b : Bool} (be : b ≡ may_
     unfolding release
     released q ue we = rw (← x.mask_is, ← be, h, ← fe, q, ue, we)
 
--- there is room for an entry
-pub has_room : (b : Bool) (n : ℕ) → (b && (last_entry ≤? n)) ≡ false → b ≡ true → n < last_entry
-has_room b n e q = leb-false last_entry n (rw q at e)
+-- a ledger of another length is not sound
+another_length : (g : List ℕ) → (length g ≡ ledger_words house → ⊥) → ledger_ok house g ≡ false
+unfolding ledger_ok all_of
+another_length g ne = rw (ne_eqb (length g) (ledger_words house) ne)
 
--- R m, whose record was found: refused, or done
-module _ (t g : List ℕ) (m r n : ℕ) (q : r ≡ record_of (state t) m) (e : n ≡ first_of (release_refusals house (state t) g r)) where
-  pub release_refused : length t ≡ table_words → (n ≡ 0 → ⊥) → out_both (Refused n) t g ≡ written_both (step_release house (state t) g m)
+-- R m, whose record r was found
+module _ (t g : List ℕ) (m r : ℕ) (q : r ≡ record_of (state t) m) where
+  -- refused by the ledger's length
+  pub ledger_refused : length t ≡ table_words → (length g ≡ ledger_words house → ⊥) → out_both (Refused LEDGER) t g ≡ written_both (step_release house (state t) g m)
   unfolding step_release
-  release_refused l ne = rw (← q) (refused_both _ t g n _ l e ne)
+  ledger_refused l ne = rw (← q) (refused_both _ t g LEDGER _ l (hit _ LEDGER _ (ap not (another_length g ne))) (λ z. omega arith))
 
-  pub release_done : (a : Answer) (u w : List ℕ) → n ≡ 0 → out_both a u w ≡ written_both (release house (state t) g m r) →
-      out_both a u w ≡ written_both (step_release house (state t) g m)
-  unfolding step_release
-  release_done a u w z h = rw (← q) (granted_both _ (state t) g _ a u w n e z h)
+  -- the ledger is of its length, h as an array: refused, or done
+  module _ (h : List ℕ) (same : h ≡ g) where
+    pub release_refused : (found : Result Unit Refusal) (refusal : Refusal) → length t ≡ table_words →
+        refusal_of found ≡ first_of (release_refusals house (state t) h r) → found ≡ Err refusal →
+        out_both (Refused (number refusal)) t h ≡ written_both (step_release house (state t) g m)
+    unfolding step_release
+    release_refused found refusal l e w = rw (← same, ← q) (turned_away_both _ t h _ found refusal l e w)
 
-  -- what the passed refusals say: the message may be released, and the ledger has its length
-  pub passed_releasable : Lent t → n ≡ 0 → Releasable (state t) r
-  passed_releasable l z = releasable t g r l (sym z ∙ e)
-
-  pub passed_long : n ≡ 0 → length g ≡ ledger_words house
-  passed_long z = (ledger_form house g (release_allowed house (state t) g r (sym z ∙ e)).1).long
-
--- the vector of a message that may be released is near
-pub releasable_near : (σ : State) (r : ℕ) (v : Vector) → Releasable σ r → v ≡ message_vector σ r → Near v
-releasable_near σ r v h q = rw q h.near
+    pub release_done : (a : Answer) (u w : List ℕ) → 0 ≡ first_of (release_refusals house (state t) h r) →
+        out_both a u w ≡ written_both (release house (state t) h m r) → out_both a u w ≡ written_both (step_release house (state t) g m)
+    unfolding step_release
+    release_done a u w e p = rw (← same, ← q) (granted_both _ (state t) h _ a u w 0 e refl p)
