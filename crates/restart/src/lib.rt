@@ -1,27 +1,29 @@
 // What a crash and a rollback share: starting anew, and removing intervals.
 #![tactic(auto)]
 
-ghost use Rattle.std.specs.Prelude.{◌≡◌, ◌<◌, length};
-ghost use Rattle.table.specs.Layout.{controllers, incarnations, table_words};
+ghost use Rattle.std.specs.Prelude.{◌≡◌, ◌<◌};
+ghost use Rattle.table.specs.Layout.{controllers, incarnations};
 ghost use Rattle.table.specs.Words.{state, words};
 ghost use Rattle.rules.specs.Shared.{new_vector, placed, entered, restarted, start_anew, removed};
 ghost use Rattle.laws.specs.Chain.{Starts};
 
+use table::Table;
+use vector::Vector;
+
 // The kept vector filtered for c, with c's own pair set to the new interval.
-pub fn new_vector(t: &[u32], c: usize, k: u32) -> vector::Vector
-    requires { (length t.now ≡ table_words) × Starts (state t.now) c k }
+pub fn new_vector(t: &Table, c: usize, k: u32) -> Vector
+    requires { Starts (state t.now) c k }
     ensures { result ≡ new_vector (state t.now) c k }
 {
     let kept = vector::place_vector(t, c, k as usize - 1);
     let mut v = vector::filter_vector(t, c, kept);
-    let own = [table::incarnation(t, c) + 1, table::number_of(t, c, k + 1)];
-    v[c] = own;
+    v[c] = [table::incarnation(t, c) + 1, table::number_of(t, c, k + 1)];
     v
 }
 
 // Freed places become 0, and place k gets the new interval: its incarnation i, its number x and its vector v.
-pub fn write_start(t: &mut [u32], c: usize, k: u32, i: u32, x: u32, v: vector::Vector)
-    requires { (length t.old ≡ table_words) × Starts (state t.old) c k }
+pub fn write_start(t: &mut Table, c: usize, k: u32, i: u32, x: u32, v: Vector)
+    requires { Starts (state t.old) c k }
     ensures { t.new ≡ words (placed (state t.old) c k i x v) }
 {
     let live = table::live_count(t, c) as usize;
@@ -31,8 +33,8 @@ pub fn write_start(t: &mut [u32], c: usize, k: u32, i: u32, x: u32, v: vector::V
 }
 
 // The controller is in incarnation i, with k intervals live and stable, the last of them x.
-pub fn enter(t: &mut [u32], c: usize, k: u32, i: u32, x: u32)
-    requires { (length t.old ≡ table_words) × (c < controllers) × (i < incarnations) }
+pub fn enter(t: &mut Table, c: usize, k: u32, i: u32, x: u32)
+    requires { (c < controllers) × (i < incarnations) }
     ensures { t.new ≡ words (entered (state t.old) c k i x) }
 {
     table::set_incarnation(t, c, i);
@@ -42,8 +44,8 @@ pub fn enter(t: &mut [u32], c: usize, k: u32, i: u32, x: u32)
 }
 
 // The new incarnation of c begins after its k-th interval.
-pub fn begin_incarnation(t: &mut [u32], c: usize, k: u32)
-    requires { (length t.old ≡ table_words) × Starts (state t.old) c k }
+pub fn begin_incarnation(t: &mut Table, c: usize, k: u32)
+    requires { Starts (state t.old) c k }
     ensures { t.new ≡ words (restarted (state t.old) c k) }
 {
     let i = table::incarnation(t, c) + 1;
@@ -54,8 +56,8 @@ pub fn begin_incarnation(t: &mut [u32], c: usize, k: u32)
 }
 
 // Starting anew at c after the k-th interval. The start may be checkpointed as it begins.
-pub fn start_anew(t: &mut [u32], c: usize, k: u32)
-    requires { (length t.old ≡ table_words) × Starts (state t.old) c k }
+pub fn start_anew(t: &mut Table, c: usize, k: u32)
+    requires { Starts (state t.old) c k }
     ensures { t.new ≡ words (start_anew (state t.old) c k) }
 {
     begin_incarnation(t, c, k);
@@ -64,8 +66,8 @@ pub fn start_anew(t: &mut [u32], c: usize, k: u32)
 }
 
 // The intervals of c from place k on are removed: their causes get their states, and c starts anew.
-pub fn remove_intervals(t: &mut [u32], c: usize, k: u32)
-    requires { (length t.old ≡ table_words) × Starts (state t.old) c k }
+pub fn remove_intervals(t: &mut Table, c: usize, k: u32)
+    requires { Starts (state t.old) c k }
     ensures { t.new ≡ words (removed (state t.old) c k) }
 {
     removal::settle_causes(t, c, k as usize);

@@ -5,7 +5,7 @@ use Rattle.restart.specs.Anew.{begins}
 use Rattle.restart.proofs.begin_incarnation.Goals as goal
 
 pub number_of-x-requires : goal.number_of-x-requires
-number_of-x-requires c = let s = c.requires in (s.0, s.1.chain.named, room_fits s.1.room _ (omega arith))
+number_of-x-requires c = let s = c.requires in (s.chain.named, room_fits s.room _ (omega arith))
 
 pub returns : goal.returns
 returns c = search begins

@@ -9,7 +9,7 @@ pub filter_vector-v-requires : goal.filter_vector-v-requires
 filter_vector-v-requires c = search (rules, kept_near)
 
 pub number_of-requires : goal.number_of-requires
-number_of-requires c = let s = c.requires in (s.0, s.1.chain.named, room_fits s.1.room _ (omega arith))
+number_of-requires c = let s = c.requires in (s.chain.named, room_fits s.room _ (omega arith))
 
 pub returns : goal.returns
 returns c = search new_vector_is

@@ -5,10 +5,10 @@ use Rattle.restart.specs.Anew.{begun_counts, begun_drops, begun_numbers, starts}
 use Rattle.restart.proofs.start_anew.Goals as goal
 
 pub cap-requires : goal.cap-requires
-cap-requires c = (search rules, search begun_counts)
+cap-requires c = search begun_counts
 
 pub drop_held-requires : goal.drop_held-requires
-drop_held-requires c = (search rules, search rules, search begun_drops, search begun_numbers, search rules)
+drop_held-requires c = (search rules, search begun_drops, search begun_numbers, search rules)
 
 pub returns : goal.returns
 returns c = search starts
