@@ -70,12 +70,12 @@ pub record Crashes (t : List ℕ) (c : ℕ) : Type 0 where
   pub long : length t ≡ table_words
   pub starts : Starts (state t) c (state t (StableCount c))
 
-pub crashes : (t : List ℕ) (c n : ℕ) → Lent t → n ≡ first_of (crash_refusals house (state t) c) → n ≡ 0 → Crashes t c
-crashes t c n l e z =
-    let a = crash_allowed house (state t) c (sym z ∙ e) in
+pub crashes : (t : List ℕ) (c : ℕ) → Lent t → 0 ≡ first_of (crash_refusals house (state t) c) → Crashes t c
+crashes t c l e =
+    let a = crash_allowed house (state t) c e in
     let k = controller_form (form house (state t) l.good) c a.controller_lt in
     record {
-      free = sym z ∙ e;
+      free = e;
       long = l.long;
       starts = record { chain = chain_of_lem t c l a.controller_lt; kept = k.stable_pos; room = room_left house (state t) (form house (state t) l.good) house_fits c _ a.place_left; below = k.stable_le; left = a.incarnation_lt };
     }

@@ -1,7 +1,7 @@
 -- The tests are those of the definition, in its order.
 use Rattle.std.proofs.Common.{rules}
 use Rattle.crash.specs.Crashing.{crash_unknown, crash_named, crash_numbers, crash_places, crash_full_lem, crash_late, crash_free}
-use Rattle.crash.proofs.crash_refusal.Goals as goal
+use Rattle.crash.proofs.check_crash.Goals as goal
 
 pub returns-then-size-c : goal.returns-then-size-c
 returns-then-size-c c = search crash_unknown

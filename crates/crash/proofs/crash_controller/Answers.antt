@@ -6,7 +6,7 @@ use Rattle.crash.specs.Crashing.{crash_done}
 use Rattle.crash.proofs.crash_controller.Goals as goal
 
 pub number_of-x-requires : goal.number_of-x-requires
-number_of-x-requires c = let s = c.requires in (s.long, s.starts.chain.named, room_fits s.starts.room _ (omega (arith, c.stable_count-k.ensures)))
+number_of-x-requires c = let s = c.requires in (s.starts.chain.named, room_fits s.starts.room _ (omega (arith, c.stable_count-k.ensures)))
 
 pub returns : goal.returns
 returns c = search crash_done
