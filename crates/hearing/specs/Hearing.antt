@@ -16,7 +16,7 @@ use Rattle.table.proofs.Numbering.{number_same}
 use Rattle.rules.specs.Limits.{house, last_incarnation}
 use Rattle.rules.specs.Refusal.{CONTROLLER, NO_SUCH_CRASH, ALREADY_HEARD, INCARNATIONS_USED_UP}
 use Rattle.rules.specs.Shared.{latest_flagged, replayed}
-use Rattle.rules.specs.Steps.{no_controller, hear_refusals, noted, lowest_condemned, rolled_back, hear, step_hear}
+use Rattle.rules.specs.Steps.{no_controller, hear_refusals, noted, lowest_condemned, rolled_back, hear}
 use Rattle.rules.specs.Step.{out, written}
 use Rattle.rules.specs.declared.Answer.{Answer}
 use Rattle.rules.specs.declared.Answer.TheVariants.{Heard, Rolled, Refused}
@@ -25,7 +25,7 @@ use Rattle.laws.specs.Allowed.{hear_allowed}
 use Rattle.laws.specs.Numbers.{numbers_noted, room_live}
 use Rattle.laws.specs.Agree.{lowest_condemned_same, replayed_same}
 use Rattle.laws.specs.Found.{lowest}
-use Rattle.laws.specs.Answering.{Lent, granted_by}
+use Rattle.laws.specs.Answering.{Lent}
 use Rattle.laws.specs.Chain.{Chain, chain_of_lem, chain_words_lem, Starts, chain_noted}
 use Rattle.laws.specs.Kept.{agree_rolled}
 use Rattle.hearing.specs.Rolling.{undoing}
@@ -111,9 +111,9 @@ pub record Hears (t : List ℕ) (hearer owner i : ℕ) : Type 0 where
   pub incarnation_lt : i < incarnations
   pub unheard : state t (End hearer owner i) ≡ 0
 
-pub hears : (t : List ℕ) (hearer owner i n : ℕ) → Lent t → n ≡ first_of (hear_refusals (state t) hearer owner i) → n ≡ 0 → Hears t hearer owner i
-hears t hearer owner i n l e z =
-    let h = hear_allowed (state t) hearer owner i (sym z ∙ e) in
+pub hears : (t : List ℕ) (hearer owner i : ℕ) → Lent t → 0 ≡ first_of (hear_refusals (state t) hearer owner i) → Hears t hearer owner i
+hears t hearer owner i l e =
+    let h = hear_allowed (state t) hearer owner i e in
     record {
       long = l.long;
       chain = chain_of_lem t hearer l h.hearer_lt;
@@ -121,11 +121,6 @@ hears t hearer owner i n l e z =
       incarnation_lt = omega (arith, h.incarnation_le);
       unheard = h.unheard;
     }
-
-pub hear_granted : (t u : List ℕ) (hearer owner i n : ℕ) (a : Answer) → n ≡ first_of (hear_refusals (state t) hearer owner i) → n ≡ 0 →
-    out a u ≡ written (hear (state t) hearer owner i) → out a u ≡ written (step_hear (state t) hearer owner i)
-unfolding step_hear
-hear_granted t u hearer owner i n a e z h = granted_by _ _ _ _ _ n e z h
 
 -- t₁ has the crash noted.
 module _ (t t₁ : List ℕ) (hearer owner i : ℕ) (w : Hears t hearer owner i) (e₁ : t₁ ≡ words (noted (state t) hearer owner i)) where

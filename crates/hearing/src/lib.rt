@@ -1,12 +1,13 @@
 // The step H: hearing of a crash, which may roll the hearer back.
 #![tactic(auto)]
 
-ghost use Rattle.std.specs.Prelude.{◌≡◌, ◌<◌, length};
+ghost use Rattle.std.specs.Prelude.{◌≡◌, ◌<◌};
 ghost use Rattle.base.specs.Cases.{first_of};
 ghost use Rattle.table.specs.Field.{Known, End};
 ghost use Rattle.table.specs.Change.{put};
-ghost use Rattle.table.specs.Layout.{controllers, incarnations, table_words};
+ghost use Rattle.table.specs.Layout.{controllers, incarnations};
 ghost use Rattle.table.specs.Words.{state, words};
+ghost use Rattle.rules.specs.Refused.{refusal_of, answer_of};
 ghost use Rattle.rules.specs.Shared.{latest_flagged};
 ghost use Rattle.rules.specs.Steps.{noted, rolled_back, hear, hear_refusals, step_hear};
 ghost use Rattle.rules.specs.Step.{out, written};
@@ -15,12 +16,12 @@ ghost use Rattle.laws.specs.Chain.{Starts};
 ghost use Rattle.hearing.specs.Rolling.{undoing};
 ghost use Rattle.hearing.specs.Hearing.{Hears};
 
-use rules::{Answer, refusal};
-use table::layout;
+use rules::{Answer, Refusal};
+use table::{Table, layout};
 
 // The intervals of the hearer from place k on are undone.
-pub fn roll_back(t: &mut [u32], hearer: usize, k: u32)
-    requires { (length t.old ≡ table_words) × Starts (state t.old) hearer k }
+pub fn roll_back(t: &mut Table, hearer: usize, k: u32)
+    requires { Starts (state t.old) hearer k }
     ensures { t.new ≡ words (rolled_back (state t.old) hearer k) }
 {
     checkpoint::log_rest(t, hearer, k);
@@ -29,8 +30,8 @@ pub fn roll_back(t: &mut [u32], hearer: usize, k: u32)
 
 // The same, with the answer to it, which names the crash of the owner's incarnation i; `flagged` is the number of the latest
 // checkpoint that is kept.
-pub fn undo(t: &mut [u32], hearer: usize, owner: usize, i: usize, k: u32, flagged: u32) -> Answer
-    requires { (length t.old ≡ table_words) × Starts (state t.old) hearer k × (flagged ≡ latest_flagged (state t.old) hearer k) × (owner < controllers) × (i < incarnations) }
+pub fn undo(t: &mut Table, hearer: usize, owner: usize, i: usize, k: u32, flagged: u32) -> Answer
+    requires { Starts (state t.old) hearer k × (flagged ≡ latest_flagged (state t.old) hearer k) × (owner < controllers) × (i < incarnations) }
     ensures { out result t.new ≡ written (undoing (state t.old) hearer owner i k) }
 {
     let live = table::live_count(t, hearer);
@@ -41,8 +42,8 @@ pub fn undo(t: &mut [u32], hearer: usize, owner: usize, i: usize, k: u32, flagge
 }
 
 // The end word of the owner's incarnation i is copied to the hearer, and the hearer's known word is raised to it.
-pub fn note(t: &mut [u32], hearer: usize, owner: usize, i: usize)
-    requires { (length t.old ≡ table_words) × (hearer < controllers) × (owner < controllers) × (i < incarnations) }
+pub fn note(t: &mut Table, hearer: usize, owner: usize, i: usize)
+    requires { (hearer < controllers) × (owner < controllers) × (i < incarnations) }
     ensures { t.new ≡ words (noted (state t.old) hearer owner i) }
 {
     let end = table::end(t, owner, owner, i);
@@ -54,61 +55,58 @@ pub fn note(t: &mut [u32], hearer: usize, owner: usize, i: usize)
 }
 
 // The two words get their old values back.
-pub fn take_back(t: &mut [u32], hearer: usize, owner: usize, i: usize, known: u32)
-    requires { (length t.old ≡ table_words) × (hearer < controllers) × (owner < controllers) × (i < incarnations) }
+pub fn take_back(t: &mut Table, hearer: usize, owner: usize, i: usize, known: u32)
+    requires { (hearer < controllers) × (owner < controllers) × (i < incarnations) }
     ensures { t.new ≡ words (put (put (state t.old) (End hearer owner i) 0) (Known hearer owner i) known) }
 {
     table::set_end(t, hearer, owner, i, 0);
     table::set_known(t, hearer, owner, i, known);
 }
 
-// The number of the first refusal of H that applies before the hearer's places are looked at, or 0.
-pub fn hear_refusal(t: &[u32], hearer: u32, owner: u32, i: u32) -> u32
+// What refuses H before the hearer's places are looked at.
+pub fn check_hear(t: &Table, hearer: u32, owner: u32, i: u32) -> Result<(), Refusal>
     requires { Lent t.now }
-    ensures { result ≡ first_of (hear_refusals (state t.now) hearer owner i) }
+    ensures { refusal_of result ≡ first_of (hear_refusals (state t.now) hearer owner i) }
 {
     let n = table::size(t);
     if (n <= hearer) | (n <= owner) {
-        return refusal::CONTROLLER;
+        return Err(Refusal::Controller);
     }
     if layout::LAST_INCARNATION < i {
-        return refusal::NO_SUCH_CRASH;
+        return Err(Refusal::NoSuchCrash);
     }
     if table::end(t, owner as usize, owner as usize, i as usize) == 0 {
-        return refusal::NO_SUCH_CRASH;
+        return Err(Refusal::NoSuchCrash);
     }
     if table::end(t, hearer as usize, owner as usize, i as usize) != 0 {
-        return refusal::ALREADY_HEARD;
+        return Err(Refusal::AlreadyHeard);
     }
-    0
+    Ok(())
 }
 
 // H, where none of these applies. Where it would have to undo in the last incarnation, the noted words are taken back.
-pub fn hear_crash(t: &mut [u32], hearer: usize, owner: usize, i: usize) -> Answer
+pub fn hear_crash(t: &mut Table, hearer: usize, owner: usize, i: usize) -> Result<Answer, Refusal>
     requires { Hears t.old hearer owner i }
-    ensures { out result t.new ≡ written (hear (state t.old) hearer owner i) }
+    ensures { out (answer_of result) t.new ≡ written (hear (state t.old) hearer owner i) }
 {
     let known = table::known(t, hearer, owner, i);
     note(t, hearer, owner, i);
     let stop = interval::lowest_condemned(t, hearer);
     if table::live_count(t, hearer) as usize <= stop.place {
-        return Answer::Heard(hearer as u32);
+        return Ok(Answer::Heard(hearer as u32));
     }
     if layout::LAST_INCARNATION <= table::incarnation(t, hearer) {
         take_back(t, hearer, owner, i, known);
-        return Answer::Refused(refusal::INCARNATIONS_USED_UP);
+        return Err(Refusal::IncarnationsUsedUp);
     }
-    undo(t, hearer, owner, i, stop.place as u32, stop.flagged)
+    Ok(undo(t, hearer, owner, i, stop.place as u32, stop.flagged))
 }
 
 // H, on a table in form.
-pub fn hear(t: &mut [u32], hearer: u32, owner: u32, i: u32) -> Answer
+pub fn hear(t: &mut Table, hearer: u32, owner: u32, i: u32) -> Result<Answer, Refusal>
     requires { Lent t.old }
-    ensures { out result t.new ≡ written (step_hear (state t.old) hearer owner i) }
+    ensures { out (answer_of result) t.new ≡ written (step_hear (state t.old) hearer owner i) }
 {
-    let no = hear_refusal(t, hearer, owner, i);
-    if no != 0 {
-        return Answer::Refused(no);
-    }
+    check_hear(t, hearer, owner, i)?;
     hear_crash(t, hearer as usize, owner as usize, i as usize)
 }

@@ -1,15 +1,19 @@
 -- Refused, or what the passed refusals say is what the hearing counts on (hears).
 use Rattle.rules.specs.Steps.{step_hear}
-use Rattle.laws.specs.Answering.{refused}
-use Rattle.hearing.specs.Hearing.{hears, hear_granted}
+use Rattle.laws.specs.Answering.{turned_away, granted}
+use Rattle.hearing.specs.Hearing.{hears}
+use Rattle.std.proofs.Common.{◌≡◌, Err, rules}
 use Rattle.hearing.proofs.hear.Goals as goal
 
-pub returns-then-no-ne0 : goal.returns-then-no-ne0
+pub returns-in_err-check_hear : goal.returns-in_err-check_hear
 unfolding step_hear
-returns-then-no-ne0 c = search refused
+returns-in_err-check_hear c =
+    let e : c.from_residual.result ≡ Err c.in_err-check_hear.field-0.0 = grind rules in
+    rw e (turned_away _ _ _ _ _ c.requires.long c.check_hear.ensures c.in_err-check_hear.was)
 
 pub hear_crash-requires : goal.hear_crash-requires
-hear_crash-requires c = search hears
+hear_crash-requires c = hears _ _ _ _ c.requires c.in_ok-check_hear.ensures
 
 pub returns : goal.returns
-returns c = search hear_granted
+unfolding step_hear
+returns c = granted _ _ _ _ _ c.in_ok-check_hear.ensures c.hear_crash.ensures

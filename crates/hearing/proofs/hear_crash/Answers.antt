@@ -1,6 +1,5 @@
 -- On the noted table the walk finds the place that the rule names: none (hear_none), one too late (hear_late), or one from which
 -- on intervals are undone (hear_undone); its figure is the one that `undo` asks for.
-use Rattle.std.proofs.Common.{rules}
 use Rattle.hearing.specs.Hearing.{Walked, heard_chain, hear_none, hear_late, hear_starts, hear_undone}
 use Rattle.hearing.proofs.hear_crash.Goals as goal
 use Rattle.hearing.proofs.hear_crash.Goals.{After-lowest_condemned-stop}
@@ -17,7 +16,7 @@ walked c =
     }
 
 pub lowest_condemned-stop-requires : goal.lowest_condemned-stop-requires
-lowest_condemned-stop-requires c = (search rules, search heard_chain)
+lowest_condemned-stop-requires c = search heard_chain
 
 pub returns-then-live_count-stop : goal.returns-then-live_count-stop
 returns-then-live_count-stop c = hear_none (walked (goal.at.returns-then-live_count-stop c).After-lowest_condemned-stop) c.live_count.ensures c.if-live_count-stop.true
@@ -30,7 +29,6 @@ returns-then-incarnation-ge-LAST_INCARNATION c =
 pub undo-requires : goal.undo-requires
 undo-requires c =
     let w = walked (goal.at.undo-requires c).After-lowest_condemned-stop in (
-      search rules,
       hear_starts w c.live_count.ensures c.if-live_count-stop.false c.incarnation.ensures c.if-incarnation-ge-LAST_INCARNATION.false,
       c.lowest_condemned-stop.ensures.1,
       w.hears.owner_lt,

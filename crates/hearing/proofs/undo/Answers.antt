@@ -9,10 +9,10 @@ use Rattle.hearing.specs.Rolling.{undo_done}
 use Rattle.hearing.proofs.undo.Goals as goal
 
 pub number_of-x-requires : goal.number_of-x-requires
-number_of-x-requires c = let s = c.requires in (s.0, s.1.chain.named, room_fits s.1.room _ (omega arith))
+number_of-x-requires c = let s = c.requires.0 in (s.chain.named, room_fits s.room _ (omega arith))
 
 pub overflow_sub-again : goal.overflow_sub-again
-overflow_sub-again c = omega (arith, c.number_of-x.ensures, c.requires.2, flagged_le (state c.args.t.now) c.args.hearer c.args.k)
+overflow_sub-again c = omega (arith, c.number_of-x.ensures, c.requires.1, flagged_le (state c.args.t.now) c.args.hearer c.args.k)
 
 pub returns : goal.returns
 returns c = search (undo_done, replay_is)
