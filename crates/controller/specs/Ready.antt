@@ -1,6 +1,6 @@
--- What the passed refusals of a step say to the function that does it: n is the number that its refusals gave, and it is 0.
+-- What the passed refusals of a step say to the function that does it.
 use Rattle.std.specs.Prelude.{◌≡◌, List, ℕ, ◌+◌, ◌≤◌, ◌<◌}
-use Rattle.std.proofs.Common.{sym, ◌∙◌, arith}
+use Rattle.std.proofs.Common.{arith}
 use Rattle.base.specs.Cases.{first_of}
 use Rattle.table.specs.Field.{Size, LiveCount, StableCount}
 use Rattle.table.specs.Layout.{controllers}
@@ -23,23 +23,23 @@ module _ (t : List ℕ) (l : Lent t) (n c : ℕ) (e : n ≡ state t Size) (h : c
   pub sized_stable : (live stable : ℕ) → live ≡ state t (LiveCount c) → stable ≡ state t (StableCount c) → stable ≤ live
   sized_stable live stable p q = omega (arith, (controller_form (form house (state t) l.good) c (omega arith)).stable_le)
 
-module _ (t : List ℕ) (l : Lent t) (n : ℕ) (z : n ≡ 0) where
+module _ (t : List ℕ) (l : Lent t) where
   -- K: the controller has its words
-  pub degree_named : (c k : ℕ) → n ≡ first_of (degree_refusals (state t) c k) → c < controllers
-  degree_named c k e = (chain_of_lem t c l (degree_allowed (state t) c k (sym z ∙ e)).controller_lt).named
+  pub degree_named : (c k : ℕ) → 0 ≡ first_of (degree_refusals (state t) c k) → c < controllers
+  degree_named c k e = (chain_of_lem t c l (degree_allowed (state t) c k e).controller_lt).named
 
   -- L: the controller has its counts, and q of its intervals are not stable
-  pub log_counts : (c q : ℕ) → n ≡ first_of (log_refusals (state t) c q) → Counts (state t) c
-  log_counts c q e = chain_counts (chain_of_lem t c l (log_allowed (state t) c q (sym z ∙ e)).controller_lt)
+  pub log_counts : (c q : ℕ) → 0 ≡ first_of (log_refusals (state t) c q) → Counts (state t) c
+  log_counts c q e = chain_counts (chain_of_lem t c l (log_allowed (state t) c q e).controller_lt)
 
-  pub log_some : (c q : ℕ) → n ≡ first_of (log_refusals (state t) c q) → state t (StableCount c) + q ≤ state t (LiveCount c)
+  pub log_some : (c q : ℕ) → 0 ≡ first_of (log_refusals (state t) c q) → state t (StableCount c) + q ≤ state t (LiveCount c)
   log_some c q e =
-      let a = log_allowed (state t) c q (sym z ∙ e) in
+      let a = log_allowed (state t) c q e in
       omega (arith, a.number_le, (controller_form (form house (state t) l.good) c a.controller_lt).stable_le)
 
   -- T: both controllers have their words
-  pub tell_owner : (owner holder : ℕ) → n ≡ first_of (tell_refusals (state t) owner holder) → owner < controllers
-  tell_owner owner holder e = (chain_of_lem t owner l (tell_allowed (state t) owner holder (sym z ∙ e)).owner_lt).named
+  pub tell_owner : (owner holder : ℕ) → 0 ≡ first_of (tell_refusals (state t) owner holder) → owner < controllers
+  tell_owner owner holder e = (chain_of_lem t owner l (tell_allowed (state t) owner holder e).owner_lt).named
 
-  pub tell_holder : (owner holder : ℕ) → n ≡ first_of (tell_refusals (state t) owner holder) → holder < controllers
-  tell_holder owner holder e = (chain_of_lem t holder l (tell_allowed (state t) owner holder (sym z ∙ e)).holder_lt).named
+  pub tell_holder : (owner holder : ℕ) → 0 ≡ first_of (tell_refusals (state t) owner holder) → holder < controllers
+  tell_holder owner holder e = (chain_of_lem t holder l (tell_allowed (state t) owner holder e).holder_lt).named

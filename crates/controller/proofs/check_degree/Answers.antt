@@ -2,7 +2,7 @@
 use Rattle.base.specs.Cases.{first_of}
 use Rattle.std.proofs.Common.{lt-ltb, le-ltb, le-leb}
 use borrow.Author.Tests.{lt-leb}
-use Rattle.controller.proofs.degree_refusal.Goals as goal
+use Rattle.controller.proofs.check_degree.Goals as goal
 
 pub returns-then-n-c : goal.returns-then-n-c
 unfolding first_of

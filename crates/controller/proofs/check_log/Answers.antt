@@ -3,7 +3,7 @@ use Rattle.base.specs.Cases.{first_of}
 use Rattle.std.proofs.Common.{le-leb}
 use borrow.Author.Tests.{lt-leb}
 use Rattle.controller.specs.Ready.{sized_named, sized_stable}
-use Rattle.controller.proofs.log_refusal.Goals as goal
+use Rattle.controller.proofs.check_log.Goals as goal
 
 pub returns-then-size-c : goal.returns-then-size-c
 unfolding first_of

@@ -1,7 +1,7 @@
 -- The tests stand in the order of the cases; what was read is put for the words, and each test has its outcome.
 use Rattle.base.specs.Cases.{first_of}
 use Rattle.std.proofs.Common.{eq-eqb, ne_eqb}
-use Rattle.controller.proofs.tell_refusal.Goals as goal
+use Rattle.controller.proofs.check_tell.Goals as goal
 
 pub returns-then-n-owner : goal.returns-then-n-owner
 unfolding first_of

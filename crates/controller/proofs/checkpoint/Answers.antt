@@ -9,5 +9,5 @@ returns-then-size-c c = search checkpoint_refused
 pub flag_newest-requires : goal.flag_newest-requires
 flag_newest-requires c = search sized_counts
 
-pub returns : goal.returns
-returns c = search checkpoint_done
+pub returns-else-size-c : goal.returns-else-size-c
+returns-else-size-c c = search checkpoint_done

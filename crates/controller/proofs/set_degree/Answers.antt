@@ -1,16 +1,19 @@
 -- Refused, or one word is put.
 use Rattle.rules.specs.Steps.{step_degree}
-use Rattle.laws.specs.Answering.{refused, granted_by, leaves}
+use Rattle.laws.specs.Answering.{turned_away, granted, leaves}
 use Rattle.controller.specs.Ready.{degree_named}
+use Rattle.std.proofs.Common.{◌≡◌, Err, rules}
 use Rattle.controller.proofs.set_degree.Goals as goal
 
-pub returns-then-no-ne0 : goal.returns-then-no-ne0
+pub returns-in_err-check_degree : goal.returns-in_err-check_degree
 unfolding step_degree
-returns-then-no-ne0 c = search refused
+returns-in_err-check_degree c =
+    let e : c.from_residual.result ≡ Err c.in_err-check_degree.field-0.0 = grind rules in
+    rw e (turned_away _ _ _ _ _ c.requires.long c.check_degree.ensures c.in_err-check_degree.was)
 
 pub set_degree-requires : goal.set_degree-requires
-set_degree-requires c = search degree_named
+set_degree-requires c = degree_named _ c.requires _ _ c.in_ok-check_degree.ensures
 
 pub returns : goal.returns
 unfolding step_degree
-returns c = search (granted_by, leaves)
+returns c = granted _ _ _ _ _ c.in_ok-check_degree.ensures (leaves _ _ _ c.set_degree.ensures)

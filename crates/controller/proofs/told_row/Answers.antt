@@ -7,7 +7,7 @@ pub loop-i-init : goal.loop-i-init
 loop-i-init c = filled_none 0 _ _ _ refl
 
 pub loop-i-preserved : goal.loop-i-preserved
-loop-i-preserved c = filled_more _ _ _ _ _ _ c.loop-i.invariant c.loop-i-test.true (c.larger.ensures ∙ ap₂ max c.known-theirs.ensures c.known-own.ensures)
+loop-i-preserved c = filled_more _ _ _ _ _ _ c.loop-i.invariant c.loop-i-test.true (c.max.ensures ∙ ap₂ max c.known-theirs.ensures c.known-own.ensures)
 
 pub returns : goal.returns
 unfolding told_row
