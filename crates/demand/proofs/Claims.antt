@@ -1,5 +1,5 @@
 -- What a tester looks for by name, each claim under the sentence that it answers.
-use Rattle.std.specs.Prelude.{◌≡◌, true, false, List, [], ◌++◌, ◌∷◌, ◌⊎◌, ◌≢◌, ℕ, ◌≤◌, ◌<◌, length, take, drop}
+use Rattle.std.specs.Prelude.{◌≡◌, true, false, Some, List, [], ◌++◌, ◌∷◌, ◌⊎◌, ◌≢◌, ℕ, ◌≤◌, ◌<◌, length, take, drop}
 use Rattle.std.proofs.Math.Path.{refl, subst}
 use Rattle.std.proofs.Common.{sym, ap, ◌∙◌, arith, eqb-true, eq-eqb, ◌==◌}
 use Rattle.std.proofs.Math.Bool.{true≢false}
@@ -24,7 +24,6 @@ use Rattle.rules.specs.declared.Command.TheVariants.{Open, Checkpoint, Release, 
 use Rattle.lines.specs.Lines.{step_of, parse}
 use Rattle.lines.proofs.Letters.{no_letter, no_line}
 use Rattle.lines.specs.Program.{house_writes}
-use Rattle.lines.specs.declared.Parsed.TheVariants.{Asks}
 use Rattle.history.specs.History.{interval, member, opening}
 use Rattle.history.specs.Citations.{no_citations, ledger_of}
 use Rattle.history.specs.Demand.{Run, call_in, step_in, next, runs, just_opened, Accepted, answers_heard, answers_rolled, RestsOnLost, named, LetsGo, alone, together, FromOpening, up_to, end, Cited, Demand3}
@@ -289,10 +288,10 @@ module _ (t g : List ℕ) (long : length t ≡ table_words) (wide : length g ≡
   gaps_at_the_rollback = (gap_largest t g long wide rolls, gap_newest t g long wide rolls)
 
 -- 12. W4: "New steps get a line in `house` only where a request names the letter": no letter and no line sets the gap.
-pub no_letter_sets_the_gap : (letter a b c q : ℕ) → step_of letter a b c ≢ Asks (SetGap q)
+pub no_letter_sets_the_gap : (letter a b c q : ℕ) → step_of letter a b c ≢ Some (SetGap q)
 no_letter_sets_the_gap = no_letter
 
-pub no_line_sets_the_gap : (line : List ℕ) (q : ℕ) → parse line ≢ Asks (SetGap q)
+pub no_line_sets_the_gap : (line : List ℕ) (q : ℕ) → parse line ≢ Some (SetGap q)
 no_line_sets_the_gap = no_line
 
 -- 13. W6: "Operators read `dropped` and `rolled` and ask which controller to look at." For every list from an opening: a dropped delivery

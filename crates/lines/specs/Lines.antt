@@ -1,6 +1,6 @@
 -- Document 01, "The program and its lines": what a line asks, and the line of an answer. Bytes are numbers, without the line
 -- feed that ends a line of input.
-use Rattle.std.specs.Prelude.{Bool, true, cond, ◌&&◌, List, [], ◌∷◌, ◌++◌, map, ℕ, zero, suc, ◌+◌, ◌-◌, ◌*◌, ◌/◌, ◌%◌, length, get_or, ◌==◌}
+use Rattle.std.specs.Prelude.{Bool, true, cond, Option, Some, None, ◌&&◌, List, [], ◌∷◌, ◌++◌, map, ℕ, zero, suc, ◌+◌, ◌-◌, ◌*◌, ◌/◌, ◌%◌, length, get_or, ◌==◌}
 use Prim.Native.Char.{code}
 use Rattle.base.specs.Choice.{◌≤?◌, ◌<?◌}
 use Rattle.rules.specs.Bytes.{bytes}
@@ -8,8 +8,6 @@ use Rattle.rules.specs.Report.{report}
 use Rattle.rules.specs.declared.Answer.{Answer}
 use Rattle.rules.specs.declared.Command.{Command}
 use Rattle.rules.specs.declared.Command.TheVariants.{Open, SetDegree, Send, Release, Deliver, Log, Checkpoint, Tell, Crash, Hear, SetGap}
-use Rattle.lines.specs.declared.Parsed.{Parsed}
-use Rattle.lines.specs.declared.Parsed.TheVariants.{Asks, Bad}
 
 -- bytes of ASCII
 abbrev pub space : ℕ
@@ -40,18 +38,18 @@ radix = 10
 
 -- "Letters are those of the program": the step of a letter and its numbers in their order. A step doesn't look at numbers that
 -- it hasn't. W4: "New steps get a line in `house` only where a request names the letter", and it names none for its own.
-unfoldable pub step_of : ℕ → ℕ → ℕ → ℕ → Parsed
+unfoldable pub step_of : ℕ → ℕ → ℕ → ℕ → Option Command
 step_of letter a b c =
-    cond (letter == code "O") (Asks (Open a b))
-    (cond (letter == code "K") (Asks (SetDegree a b))
-    (cond (letter == code "S") (Asks (Send a b c))
-    (cond (letter == code "R") (Asks (Release a))
-    (cond (letter == code "D") (Asks (Deliver a))
-    (cond (letter == code "L") (Asks (Log a b))
-    (cond (letter == code "C") (Asks (Checkpoint a))
-    (cond (letter == code "T") (Asks (Tell a b))
-    (cond (letter == code "X") (Asks (Crash a))
-    (cond (letter == code "H") (Asks (Hear a b c)) Bad)))))))))
+    cond (letter == code "O") (Some (Open a b))
+    (cond (letter == code "K") (Some (SetDegree a b))
+    (cond (letter == code "S") (Some (Send a b c))
+    (cond (letter == code "R") (Some (Release a))
+    (cond (letter == code "D") (Some (Deliver a))
+    (cond (letter == code "L") (Some (Log a b))
+    (cond (letter == code "C") (Some (Checkpoint a))
+    (cond (letter == code "T") (Some (Tell a b))
+    (cond (letter == code "X") (Some (Crash a))
+    (cond (letter == code "H") (Some (Hear a b c)) None)))))))))
 
 -- how many numbers a step has; no letter asks for the last (Letters.antt)
 abbrev pub numbers_of : Command → ℕ
@@ -72,12 +70,12 @@ abbrev pub most_numbers : ℕ
 most_numbers = 3
 
 -- what is asked, where it has just n numbers
-unfoldable pub with_numbers : ℕ → Parsed → Parsed
-with_numbers n (Asks x) = cond (numbers_of x == n) (Asks x) Bad
-with_numbers n Bad = Bad
+unfoldable pub with_numbers : ℕ → Option Command → Option Command
+with_numbers n (Some x) = cond (numbers_of x == n) (Some x) None
+with_numbers n None = None
 
 -- "A line is a letter and its numbers in the order above"
-unfoldable pub command : ℕ → List ℕ → Parsed
+unfoldable pub command : ℕ → List ℕ → Option Command
 command letter ns = with_numbers (length ns) (step_of letter (get_or ns 0 0) (get_or ns 1 0) (get_or ns 2 0))
 
 -- "one space between": a line cut at its spaces; a line without one is one field
@@ -109,15 +107,15 @@ are_numbers [] = true
 are_numbers (w ∷ ws) = is_number w && are_numbers ws
 
 -- the first field is the letter, the others are its numbers
-unfoldable pub asked : List (List ℕ) → Parsed
-asked [] = Bad
-asked ([] ∷ ws) = Bad
-asked ((l ∷ []) ∷ ws) = cond (are_numbers ws) (command l (map value_of ws)) Bad
-asked ((l ∷ b ∷ w) ∷ ws) = Bad
+unfoldable pub asked : List (List ℕ) → Option Command
+asked [] = None
+asked ([] ∷ ws) = None
+asked ((l ∷ []) ∷ ws) = cond (are_numbers ws) (command l (map value_of ws)) None
+asked ((l ∷ b ∷ w) ∷ ws) = None
 
 -- "Other lines, an empty one included, answer `bad`."
-unfoldable pub parse : List ℕ → Parsed
-parse line = cond (length line ≤? longest_line) (asked (fields line)) Bad
+unfoldable pub parse : List ℕ → Option Command
+parse line = cond (length line ≤? longest_line) (asked (fields line)) None
 
 -- A number in decimal, without leading zeros.
 unfoldable pub decimal_in : ℕ → ℕ → List ℕ

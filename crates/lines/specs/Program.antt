@@ -1,12 +1,11 @@
 -- Document 01, "The program and its lines": all that `house` writes, for all that it reads. Bytes are numbers.
-use Rattle.std.specs.Prelude.{cond, List, [], ◌∷◌, ◌++◌, ℕ, replicate, ◌==◌}
+use Rattle.std.specs.Prelude.{cond, Option, Some, None, List, [], ◌∷◌, ◌++◌, ℕ, replicate, ◌==◌}
 use Rattle.table.specs.Layout.{table_words}
 use Rattle.rules.specs.Limits.{house}
 use Rattle.rules.specs.Ledger.{ledger_words}
 use Rattle.rules.specs.Step.{step}
+use Rattle.rules.specs.declared.Command.{Command}
 use Rattle.lines.specs.Lines.{line_feed, first_more, parse, answer_line, bad_line}
-use Rattle.lines.specs.declared.Parsed.{Parsed}
-use Rattle.lines.specs.declared.Parsed.TheVariants.{Asks, Bad}
 
 -- the input cut at its line feeds; "A last line without line feed counts."
 unfoldable pub lines_of : List ℕ → List (List ℕ)
@@ -20,9 +19,9 @@ pub record Reply : Type 0 where
   pub ledger : List ℕ
 
 -- what is asked for is done on both; "Other lines, an empty one included, answer `bad`."
-unfoldable pub reply_to : List ℕ → List ℕ → Parsed → Reply
-reply_to t g (Asks x) = let o = step t g x in record { line = answer_line o.answer; table = o.table; ledger = o.ledger }
-reply_to t g Bad = record { line = bad_line; table = t; ledger = g }
+unfoldable pub reply_to : List ℕ → List ℕ → Option Command → Reply
+reply_to t g (Some x) = let o = step t g x in record { line = answer_line o.answer; table = o.table; ledger = o.ledger }
+reply_to t g None = record { line = bad_line; table = t; ledger = g }
 
 unfoldable pub reply : List ℕ → List ℕ → List ℕ → Reply
 reply t g line = reply_to t g (parse line)

@@ -1,29 +1,16 @@
 // Lines of text: what they are made of, as specs/Lines.antt has it. `parsing` reads them and `printing` writes them.
 #![tactic(auto)]
 
-use rules::Command;
-
-// What a line asks.
-#[derive(Drop)]
-pub enum Parsed {
-    Asks(Command),
-    Bad,
-}
-
 pub const SPACE: u8 = b' ';
 
 pub const LINE_FEED: u8 = b'\n';
 
 pub const ZERO: u8 = b'0';
 
-pub const NINE: u8 = b'9';
-
 // How many bytes a line has at most, without its line feed.
 pub const LONGEST_LINE: usize = 64;
 
 pub const MOST_DIGITS: usize = 10;
-
-pub const LARGEST: u64 = 4294967295;
 
 pub const RADIX: u32 = 10;
 

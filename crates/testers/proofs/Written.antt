@@ -1,5 +1,5 @@
 -- Listing A through the program, to the byte.
-use Rattle.std.specs.Prelude.{◌≡◌, refl, ℕ}
+use Rattle.std.specs.Prelude.{◌≡◌, refl, Some, ℕ}
 use Rattle.std.proofs.Common.{ap, ◌∙◌}
 use mathlib.Core.List.{List, [], ◌∷◌, ◌++◌, map, flatten}
 use Rattle.std.proofs.lemmas.List.{length-replicate, get_or-replicate}
@@ -15,7 +15,6 @@ use Rattle.rules.specs.Report.{report}
 use Rattle.rules.specs.Step.{step, step_call}
 use Rattle.rules.specs.declared.Command.{Command}
 use Rattle.lines.specs.Lines.{step_of, with_numbers, command, fields, digits, value_from, is_number, are_numbers, asked, parse, decimal_in, spaced, line_of, answer_line}
-use Rattle.lines.specs.declared.Parsed.TheVariants.{Asks}
 use Rattle.lines.specs.Program.{lines_of, reply_to, reply, replies, first_table, first_ledger, house_writes}
 use Rattle.listing.specs.ListingA as L
 use Rattle.listing.specs.ListingA.{listing_a, listing_A}
@@ -25,7 +24,7 @@ use Rattle.testers.proofs.Sample.{answers_words}
 -- lines that ask for these steps
 data Asking : List (List ℕ) → List Command → Type 0 where
   nothing : Asking [] []
-  also : {l : List ℕ} {x : Command} {ls : List (List ℕ)} {xs : List Command} → parse l ≡ Asks x → Asking ls xs → Asking (l ∷ ls) (x ∷ xs)
+  also : {l : List ℕ} {x : Command} {ls : List (List ℕ)} {xs : List Command} → parse l ≡ Some x → Asking ls xs → Asking (l ∷ ls) (x ∷ xs)
 
 -- their answers are those of the steps
 asking_replies : (t g : List ℕ) {ls : List (List ℕ)} {xs : List Command} → Asking ls xs → replies t g ls ≡ flatten (map answer_line (answers_from t g (calls xs)))
