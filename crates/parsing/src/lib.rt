@@ -3,17 +3,9 @@
 
 ghost use Rattle.std.specs.Prelude.{◌≡◌};
 ghost use Rattle.lines.specs.Lines.{step_of, numbers_of, with_numbers, parse};
-ghost use Rattle.parsing.specs.Parts.{number_at};
+ghost use Rattle.parsing.specs.Parts.{number};
 
-use lines::Parsed;
 use rules::Command;
-
-// A number of a line: its value and where it ends, or none.
-#[derive(Drop)]
-enum Number {
-    Ends(u32, usize),
-    Missing,
-}
 
 const RADIX: u64 = lines::RADIX as u64;
 
@@ -40,21 +32,21 @@ const HEAR: u32 = b'H' as u32;
 
 // The step of a letter and its numbers; a step doesn't look at numbers that it hasn't.
 #[tactic(auto, unfolding(lines::specs::Lines::step_of))]
-pub fn step_of(letter: u32, a: u32, b: u32, c: u32) -> Parsed
+pub fn step_of(letter: u32, a: u32, b: u32, c: u32) -> Option<Command>
     ensures { result ≡ step_of letter a b c }
 {
     match letter {
-        OPEN => Parsed::Asks(Command::Open(a, b)),
-        SET_DEGREE => Parsed::Asks(Command::SetDegree(a, b)),
-        SEND => Parsed::Asks(Command::Send(a, b, c)),
-        RELEASE => Parsed::Asks(Command::Release(a)),
-        DELIVER => Parsed::Asks(Command::Deliver(a)),
-        LOG => Parsed::Asks(Command::Log(a, b)),
-        CHECKPOINT => Parsed::Asks(Command::Checkpoint(a)),
-        TELL => Parsed::Asks(Command::Tell(a, b)),
-        CRASH => Parsed::Asks(Command::Crash(a)),
-        HEAR => Parsed::Asks(Command::Hear(a, b, c)),
-        _ => Parsed::Bad,
+        OPEN => Some(Command::Open(a, b)),
+        SET_DEGREE => Some(Command::SetDegree(a, b)),
+        SEND => Some(Command::Send(a, b, c)),
+        RELEASE => Some(Command::Release(a)),
+        DELIVER => Some(Command::Deliver(a)),
+        LOG => Some(Command::Log(a, b)),
+        CHECKPOINT => Some(Command::Checkpoint(a)),
+        TELL => Some(Command::Tell(a, b)),
+        CRASH => Some(Command::Crash(a)),
+        HEAR => Some(Command::Hear(a, b, c)),
+        _ => None,
     }
 }
 
@@ -79,69 +71,48 @@ fn numbers_of(x: Command) -> usize
 
 // What is asked, where it has just n numbers.
 #[tactic(auto, unfolding(lines::specs::Lines::with_numbers))]
-fn with_numbers(n: usize, asked: Parsed) -> Parsed
+fn with_numbers(n: usize, asked: Option<Command>) -> Option<Command>
     ensures { result ≡ with_numbers n asked }
 {
-    let Parsed::Asks(x) = asked else {
-        return Parsed::Bad;
-    };
-    if numbers_of(x) == n {
-        return Parsed::Asks(x);
-    }
-    Parsed::Bad
+    asked.filter(|x| numbers_of(*x) == n)
 }
 
-// The number that stands after one space at `at`, up to the next space or the end of the line.
-fn number_at(s: &[u8], at: usize) -> Number
-    ensures { result ≡ number_at s.now at }
+// The number that a field is.
+fn number(field: &[u8]) -> Option<u32>
+    ensures { result ≡ number field.now }
 {
-    if s.len() <= at {
-        return Number::Missing;
-    }
-    if s[at] != lines::SPACE {
-        return Number::Missing;
+    if !(1..=lines::MOST_DIGITS).contains(&field.len()) {
+        return None;
     }
     let mut v = 0u64;
-    let mut i = at + 1;
-    while i < s.len() {
-        let b = s[i];
-        if b == lines::SPACE {
-            break;
-        }
-        if (b < lines::ZERO) | (lines::NINE < b) | (lines::MOST_DIGITS < i - at) {
-            return Number::Missing;
+    for b in field {
+        if !b.is_ascii_digit() {
+            return None;
         }
         v = v * RADIX + (b - lines::ZERO) as u64;
-        i += 1;
     }
-    if (i == at + 1) | (lines::LARGEST < v) {
-        return Number::Missing;
-    }
-    let value = v as u32;
-    Number::Ends(value, i)
+    u32::try_from(v).ok()
 }
 
 // What the bytes of a line, without its line feed, ask.
-pub fn parse(s: &[u8]) -> Parsed
+pub fn parse(s: &[u8]) -> Option<Command>
     ensures { result ≡ parse s.now }
 {
-    if (s.len() == 0) | (lines::LONGEST_LINE < s.len()) {
-        return Parsed::Bad;
+    if lines::LONGEST_LINE < s.len() {
+        return None;
     }
-    let mut ns = [0u32; lines::MOST_NUMBERS];
+    let mut fields = s.split(|b| *b == lines::SPACE);
+    let &[letter] = fields.next()? else {
+        return None;
+    };
+    let mut ns = [0; lines::MOST_NUMBERS];
     let mut n = 0;
-    let mut at = 1;
-    while at < s.len() {
+    for field in fields {
         if lines::MOST_NUMBERS <= n {
-            return Parsed::Bad;
+            return None;
         }
-        let Number::Ends(v, end) = number_at(s, at) else {
-            return Parsed::Bad;
-        };
-        ns[n] = v;
+        ns[n] = number(field)?;
         n += 1;
-        at = end;
     }
-    let letter = s[0];
     with_numbers(n, step_of(letter as u32, ns[0], ns[1], ns[2]))
 }

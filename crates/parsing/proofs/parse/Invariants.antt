@@ -1,10 +1,10 @@
--- Behind each number that was found, the line asks what its letter asks with the numbers read and the bytes left (Line).
-use Rattle.parsing.specs.Reading.{Line}
-use Rattle.std.proofs.Common.{◌-◌, length}
+-- Behind each field that was a number, the line asks what its letter asks with the numbers read and the fields left (Line).
+use Rattle.std.proofs.Common.{◌≡◌, length}
+use Rattle.parsing.proofs.Reading.{Line}
 use Rattle.parsing.proofs.parse.Given as goal
 
-abbrev pub invariant-loop-at : goal.invariant-loop-at
-invariant-loop-at l = Line l.s l.ns l.n l.at
-
-abbrev pub decreases-loop-at : goal.decreases-loop-at
-decreases-loop-at l = length l.s - l.at
+abbrev pub invariant-loop-field : goal.invariant-loop-field
+invariant-loop-field l = record {
+  counts : l.n ≡ length l.yielded;
+  line : Line l.s l.letter l.ns l.n;
+}
