@@ -1,5 +1,5 @@
 -- What each function of a delivery counts on and leaves, from what it has read and what its calls have left.
-use Rattle.std.specs.Prelude.{◌≡◌, Bool, true, false, List, ℕ, ◌+◌, ◌<◌, ◌-◌, length, set}
+use Rattle.std.specs.Prelude.{◌≡◌, Bool, true, false, List, ℕ, ◌+◌, ◌<◌, ◌-◌, length, set, Result, Err}
 use Rattle.std.proofs.Common.{sym, ◌∙◌, subst, arith}
 use Rattle.std.proofs.Math.Path.{ap}
 use Rattle.base.specs.Cases.{first_of}
@@ -15,8 +15,10 @@ use Rattle.rules.specs.Form.{state_released, state_delivered}
 use Rattle.rules.specs.Shared.{place_record, capped}
 use Rattle.rules.specs.Steps.{interval_added, interval_begins, no_place, chain_full, ours, theirs, prospect, comes_of, deliver, message_refusals, step_deliver}
 use Rattle.rules.specs.Step.{out, written}
+use Rattle.rules.specs.Refused.{number, refusal_of}
 use Rattle.rules.specs.declared.Answer.{Answer}
 use Rattle.rules.specs.declared.Answer.TheVariants.{Delivered, Refused}
+use Rattle.rules.specs.declared.refusal.Refusal.{Refusal}
 use Rattle.rules.specs.declared.Prospect.{Prospect}
 use Rattle.rules.specs.declared.Prospect.TheVariants.{WouldDrop, WouldWait, NoPlaceLeft, WouldBegin}
 use Rattle.laws.specs.Allowed.{Room}
@@ -119,11 +121,14 @@ unfolding deliver
 delivered σ m r p e a u h = h ∙ ap (λ q. written (comes_of σ m r q)) e
 
 -- D m, whose record was found: refused, or done
-module _ (t : List ℕ) (m r n : ℕ) (q : r ≡ record_of (state t) m) (e : n ≡ first_of (message_refusals (state t) r state_released)) where
-  pub deliver_refused : length t ≡ table_words → (n ≡ 0 → ⊥) → out (Refused n) t ≡ written (step_deliver house (state t) m)
+module _ (t : List ℕ) (m r : ℕ) (q : r ≡ record_of (state t) m) where
+  pub deliver_refused : (found : Result Unit Refusal) (refusal : Refusal) → length t ≡ table_words →
+      refusal_of found ≡ first_of (message_refusals (state t) r state_released) → found ≡ Err refusal →
+      out (Refused (number refusal)) t ≡ written (step_deliver house (state t) m)
   unfolding step_deliver
-  deliver_refused l ne = message_refused t m r state_released n e (deliver house (state t) m) l q ne
+  deliver_refused found refusal l e w = message_refused t m r state_released q (deliver house (state t) m) found refusal l e w
 
-  pub deliver_done : (a : Answer) (u : List ℕ) → n ≡ 0 → out a u ≡ written (deliver house (state t) m r) → out a u ≡ written (step_deliver house (state t) m)
+  pub deliver_done : (a : Answer) (u : List ℕ) → 0 ≡ first_of (message_refusals (state t) r state_released) → out a u ≡ written (deliver house (state t) m r) →
+      out a u ≡ written (step_deliver house (state t) m)
   unfolding step_deliver
-  deliver_done a u z h = message_granted t m r state_released n e (deliver house (state t) m) a u q z h
+  deliver_done a u e h = message_granted t m r state_released q (deliver house (state t) m) a u e h

@@ -1,40 +1,40 @@
 // The step that brings a released message to its receiver: deliver.
 #![tactic(auto)]
 
-ghost use Rattle.std.specs.Prelude.{◌≡◌, ◌<◌, length};
+ghost use Rattle.std.specs.Prelude.{◌≡◌, ◌<◌};
 ghost use Rattle.table.specs.Field.{LiveCount};
-ghost use Rattle.table.specs.Layout.{controllers, messages, table_words};
+ghost use Rattle.table.specs.Layout.{controllers, messages};
 ghost use Rattle.table.specs.Words.{state, words};
 ghost use Rattle.rules.specs.Limits.{house};
 ghost use Rattle.rules.specs.Steps.{interval_added, interval_begins, prospect, comes_of, deliver, step_deliver};
 ghost use Rattle.rules.specs.Step.{out, written};
+ghost use Rattle.rules.specs.Refused.{answer_of};
 ghost use Rattle.rules.specs.declared.Prospect.TheVariants.{WouldBegin};
 ghost use Rattle.laws.specs.Allowed.{Room};
 ghost use Rattle.laws.specs.Answering.{Lent};
 ghost use Rattle.laws.specs.Chain.{Counts, Taken};
 
-use rules::{Answer, Prospect, refusal};
-use table::layout;
+use rules::{Answer, Prospect, Refusal};
+use table::{Status, Table};
 
 // The chain of c gets an interval with cause m, in record r, and the merged vector v.
-pub fn add_interval(t: &mut [u32], c: usize, m: u32, r: usize, v: vector::Vector)
-    requires { (length t.old ≡ table_words) × (c < controllers) × Room house (state t.old) c (state t.old (LiveCount c)) × (r < messages) }
+pub fn add_interval(t: &mut Table, c: usize, m: u32, r: usize, v: vector::Vector)
+    requires { (c < controllers) × Room house (state t.old) c (state t.old (LiveCount c)) × (r < messages) }
     ensures { t.new ≡ words (interval_added (state t.old) c m r v) }
 {
     let i = table::incarnation(t, c);
     let live = table::live_count(t, c);
     let x = table::number_of(t, c, live + 1);
     let mut w = v;
-    let own = [i, x];
-    w[c] = own;
+    w[c] = [i, x];
     interval::write_place(t, c, live as usize, i, x, m, 0, w);
     table::set_live_count(t, c, live + 1);
-    table::set_message_state(t, r, layout::DELIVERED);
+    table::set_message_state(t, r, Status::Delivered);
 }
 
 // This new interval begins, and is checkpointed if the gap asks for it.
-pub fn begin_interval(t: &mut [u32], c: usize, m: u32, r: usize, v: vector::Vector) -> Answer
-    requires { (length t.old ≡ table_words) × Counts (state t.old) c × Room house (state t.old) c (state t.old (LiveCount c)) × (r < messages) }
+pub fn begin_interval(t: &mut Table, c: usize, m: u32, r: usize, v: vector::Vector) -> Answer
+    requires { Counts (state t.old) c × Room house (state t.old) c (state t.old (LiveCount c)) × (r < messages) }
     ensures { out result t.new ≡ written (interval_begins (state t.old) c m r v) }
 {
     let i = table::incarnation(t, c);
@@ -45,8 +45,8 @@ pub fn begin_interval(t: &mut [u32], c: usize, m: u32, r: usize, v: vector::Vect
 }
 
 // What would come of delivering the message in record r.
-pub fn prospect(t: &[u32], r: usize) -> Prospect
-    requires { (length t.now ≡ table_words) × Taken (state t.now) r }
+pub fn prospect(t: &Table, r: usize) -> Prospect
+    requires { Taken (state t.now) r }
     ensures { result ≡ prospect house (state t.now) r }
 {
     let c = table::receiver(t, r) as usize;
@@ -66,10 +66,10 @@ pub fn prospect(t: &[u32], r: usize) -> Prospect
     Prospect::WouldBegin
 }
 
-// Message m, in record r, begins an interval of its receiver. The two vectors are taken once more: a prospect can't hold
-// them.
-pub fn deliver_next(t: &mut [u32], m: u32, r: usize) -> Answer
-    requires { (length t.old ≡ table_words) × Taken (state t.old) r × (prospect house (state t.old) r ≡ WouldBegin) }
+// Message m, in record r, begins an interval of its receiver. The two vectors are taken once more: a prospect can't
+// hold them.
+pub fn deliver_next(t: &mut Table, m: u32, r: usize) -> Answer
+    requires { Taken (state t.old) r × (prospect house (state t.old) r ≡ WouldBegin) }
     ensures { out result t.new ≡ written (comes_of (state t.old) m r WouldBegin) }
 {
     let c = table::receiver(t, r) as usize;
@@ -79,39 +79,35 @@ pub fn deliver_next(t: &mut [u32], m: u32, r: usize) -> Answer
 }
 
 // What would come of message m, in record r, comes of it.
-pub fn come_of(t: &mut [u32], m: u32, r: usize, p: Prospect) -> Answer
-    requires { (length t.old ≡ table_words) × Taken (state t.old) r × (p ≡ prospect house (state t.old) r) }
-    ensures { out result t.new ≡ written (comes_of (state t.old) m r p) }
+pub fn come_of(t: &mut Table, m: u32, r: usize, p: Prospect) -> Result<Answer, Refusal>
+    requires { Taken (state t.old) r × (p ≡ prospect house (state t.old) r) }
+    ensures { out (answer_of result) t.new ≡ written (comes_of (state t.old) m r p) }
 {
     match p {
         Prospect::WouldDrop(owner, i) => {
-            table::set_message_state(t, r, layout::DROPPED);
-            Answer::Dropped(m, owner, i)
+            table::set_message_state(t, r, Status::Dropped);
+            Ok(Answer::Dropped(m, owner, i))
         }
-        Prospect::WouldWait => Answer::Waits(m),
-        Prospect::NoPlaceLeft => Answer::Refused(refusal::PLACES_USED_UP),
-        Prospect::WouldBegin => deliver_next(t, m, r),
+        Prospect::WouldWait => Ok(Answer::Waits(m)),
+        Prospect::NoPlaceLeft => Err(Refusal::PlacesUsedUp),
+        Prospect::WouldBegin => Ok(deliver_next(t, m, r)),
     }
 }
 
 // D on message m in record r, which its refusals let pass.
-pub fn deliver_record(t: &mut [u32], m: u32, r: usize) -> Answer
-    requires { (length t.old ≡ table_words) × Taken (state t.old) r }
-    ensures { out result t.new ≡ written (deliver house (state t.old) m r) }
+pub fn deliver_record(t: &mut Table, m: u32, r: usize) -> Result<Answer, Refusal>
+    requires { Taken (state t.old) r }
+    ensures { out (answer_of result) t.new ≡ written (deliver house (state t.old) m r) }
 {
-    let p = prospect(t, r);
-    come_of(t, m, r, p)
+    come_of(t, m, r, prospect(t, r))
 }
 
 // D m, on a table in form.
-pub fn deliver(t: &mut [u32], m: u32) -> Answer
+pub fn deliver(t: &mut Table, m: u32) -> Result<Answer, Refusal>
     requires { Lent t.old }
-    ensures { out result t.new ≡ written (step_deliver house (state t.old) m) }
+    ensures { out (answer_of result) t.new ≡ written (step_deliver house (state t.old) m) }
 {
     let r = table::find_record(t, m);
-    let no = message::message_refusal(t, r, layout::RELEASED);
-    if no != 0 {
-        return Answer::Refused(no);
-    }
+    message::check_message(t, r, Status::Released)?;
     deliver_record(t, m, r)
 }

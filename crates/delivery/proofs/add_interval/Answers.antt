@@ -1,12 +1,6 @@
--- There is room, so that the number fits (room_fits). The place, the live count and the state are put, with what was read before
--- (writes_added).
+-- The place, the live count and the state are put, with what was read before (writes_added).
 use Rattle.delivery.specs.Delivers.{writes_added}
-use Rattle.std.proofs.Common.{arith}
-use Rattle.laws.specs.Numbers.{room_fits}
 use Rattle.delivery.proofs.add_interval.Goals as goal
-
-pub number_of-x-requires : goal.number_of-x-requires
-number_of-x-requires c = let s = c.requires in (s.0, s.1, room_fits s.2 _ (omega (arith, c.live_count-live.ensures)))
 
 pub returns : goal.returns
 returns c =

@@ -1,19 +1,11 @@
--- The receiver has its chain (receiver_chain), and there is room, since an interval would begin (has_room); it begins with the two vectors
--- merged.
+-- The receiver has its chain (receiver_chain), and there is room, since an interval would begin (has_room); it begins
+-- with the two vectors merged.
 use Rattle.laws.specs.Chain.{chain_counts}
-use Rattle.message.specs.Ready.{taken_near}
 use Rattle.delivery.specs.Delivers.{receiver_chain, has_room, next_begins}
-use Rattle.std.proofs.Common.{rules}
 use Rattle.delivery.proofs.deliver_next.Goals as goal
 
-pub newest_vector-ours-requires : goal.newest_vector-ours-requires
-newest_vector-ours-requires c = (search rules, search receiver_chain)
-
-pub filter_vector-theirs-requires : goal.filter_vector-theirs-requires
-filter_vector-theirs-requires c = search (rules, taken_near)
-
 pub begin_interval-requires : goal.begin_interval-requires
-begin_interval-requires c = (c.requires.0, chain_counts (receiver_chain _ _ _ c.requires.1 c.receiver-c.ensures), has_room _ _ _ c.requires.1 c.receiver-c.ensures c.requires.2, c.requires.1.record_lt)
+begin_interval-requires c = (chain_counts (receiver_chain _ _ _ c.requires.0 c.receiver-c.ensures), has_room _ _ _ c.requires.0 c.receiver-c.ensures c.requires.1, c.requires.0.record_lt)
 
 pub returns : goal.returns
 returns c =

@@ -1,19 +1,10 @@
--- The receiver has its chain (receiver_chain) and the vector is near (taken_near), since the message is taken. It is condemned, and its
--- owner a controller (condemns); or the two vectors conflict, or no place is left, or one is.
-use Rattle.std.proofs.Common.{◌<◌, arith, rules}
+-- The message is condemned, and its owner a controller (condemns); or the two vectors conflict, or no place is left, or
+-- one is.
+use Rattle.std.proofs.Common.{◌<◌, arith}
 use Rattle.table.specs.Layout.{controllers}
-use Rattle.table.specs.Words.{state}
-use Rattle.laws.specs.Chain.{Chain}
-use Rattle.message.specs.Ready.{taken_near}
-use Rattle.delivery.specs.Delivers.{condemns, would_drop, Spared, spares, would_wait, no_place_left, would_begin, receiver_chain}
+use Rattle.delivery.specs.Delivers.{condemns, would_drop, Spared, spares, would_wait, no_place_left, would_begin}
 use Rattle.delivery.proofs.prospect.Goals as goal
 use Rattle.delivery.proofs.prospect.Goals.{After-condemning-owner, After-live_count-live}
-
-pub condemned_vector-requires : goal.condemned_vector-requires
-condemned_vector-requires c = search (rules, taken_near)
-
-pub condemning-owner-requires : goal.condemning-owner-requires
-condemning-owner-requires c = search (rules, taken_near)
 
 -- the owner that is found is a controller
 owner_lt : (c : After-condemning-owner) → c.condemning-owner.result < controllers
@@ -32,34 +23,14 @@ pub returns-then-condemned_vector : goal.returns-then-condemned_vector
 returns-then-condemned_vector c =
     would_drop c.args.t.now _ _ _ _ c.receiver-c.ensures c.message_vector-sent.ensures c.condemned_vector.ensures c.if-condemned_vector.true _ c.condemning-owner.ensures
 
-pub filter_vector-theirs-requires : goal.filter_vector-theirs-requires
-filter_vector-theirs-requires c = search (rules, taken_near)
-
 -- what is known where the message's vector is filtered, and the live count read
 spared : (c : After-live_count-live) → Spared c.args.t.now c.args.r c.receiver-c.result c.filter_vector-theirs.result c.live_count-live.result
 spared c =
     spares c.args.t.now _ _ _ _ _ _ c.receiver-c.ensures c.message_vector-sent.ensures c.condemned_vector.ensures c.if-condemned_vector.false
     c.filter_vector-theirs.ensures c.live_count-live.ensures
 
--- the receiver has its chain
-chain : (c : After-live_count-live) → Chain (state c.args.t.now) c.receiver-c.result
-chain c = receiver_chain _ _ _ c.requires.1 c.receiver-c.ensures
-
-pub overflow_sub-live : goal.overflow_sub-live
-overflow_sub-live c = omega (arith, c.live_count-live.ensures, (chain c).live_pos)
-
-pub place_conflict-requires : goal.place_conflict-requires
-place_conflict-requires c =
-    let k = chain c in
-    (c.requires.0, k.named, omega (arith, c.live_count-live.ensures, k.live_pos, k.live_le), k.near _ (omega (arith, c.live_count-live.ensures, k.live_pos)))
-
 pub returns-then-place_conflict : goal.returns-then-place_conflict
 returns-then-place_conflict c = would_wait (spared (goal.at.returns-then-place_conflict c).After-live_count-live) _ c.place_conflict.ensures c.if-place_conflict.true
-
-pub no_place-requires : goal.no_place-requires
-no_place-requires c =
-    let k = chain (goal.at.no_place-requires c).After-live_count-live in
-    (c.requires.0, k.named, omega (arith, c.live_count-live.ensures, k.live_le), k.numbers_le)
 
 pub returns-then-no_place : goal.returns-then-no_place
 returns-then-no_place c =
