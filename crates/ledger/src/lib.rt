@@ -1,5 +1,6 @@
-// The ledger, the second buffer that is lent: a count, then the entries of the published messages in the order of publishing. The only
-// positions in it in the code; the definitions have the same numbers in rules/specs/Ledger.antt, and the contracts tie the two.
+// The ledger, the second buffer that is lent: a count, then the entries of the published messages in the order of
+// publishing. The only positions in it in the code; the definitions have the same numbers in rules/specs/Ledger.antt,
+// and the contracts tie the two.
 #![tactic(auto)]
 
 ghost use Rattle.std.specs.Prelude.{◌≡◌, [], ◌∷◌, ◌≤◌, ◌<◌, length};
@@ -40,7 +41,8 @@ pub fn entry_at(j: usize) -> usize
     ENTRIES_FROM + j * ENTRY_WORDS
 }
 
-// Whether the ledger is as the host must lend it: of its length, the count at most the entries, and zeros past the count.
+// Whether the ledger is as the host must lend it: of its length, the count at most the entries, and zeros past the
+// count.
 pub fn is_sound(g: &[u32]) -> bool
     ensures { result ≡ ledger_ok house g.now }
 {

@@ -1,24 +1,24 @@
--- What the passed refusals of a step say to the function that does it, and the answers of the steps on message m in record r.
-use Rattle.std.specs.Prelude.{◌≡◌, List, ℕ, ◌+◌, ◌-◌, ◌<◌, ◌^◌, length, Result, Err}
+-- What the passed refusals of a step say to the function that does it, and the answers of the steps on message m in
+-- record r.
+use Rattle.std.specs.Prelude.{◌≡◌, List, ℕ, ◌+◌, ◌<◌, ◌^◌, length, Result, Err}
 use Rattle.std.proofs.Common.{arith}
 use Rattle.base.specs.Cases.{first_of}
-use Rattle.table.specs.Field.{State, LiveCount}
+use Rattle.table.specs.Field.{State}
 use Rattle.table.specs.Layout.{messages, table_words}
 use Rattle.table.specs.Words.{state}
 use Rattle.table.specs.Numbering.{used, last_given, record_of}
 use Rattle.table.proofs.Numbering.{given_le}
 use Rattle.rules.specs.Limits.{house}
-use Rattle.rules.specs.Vector.{Vector, place_vector, message_vector}
 use Rattle.rules.specs.Steps.{After, refusing, send_refusals, message_refusals}
 use Rattle.rules.specs.Step.{out, written}
 use Rattle.rules.specs.Refused.{number, refusal_of}
 use Rattle.rules.specs.declared.Answer.{Answer}
 use Rattle.rules.specs.declared.Answer.TheVariants.{Refused}
 use Rattle.rules.specs.declared.refusal.Refusal.{Refusal}
-use Rattle.laws.specs.Facts.{Near, form}
+use Rattle.laws.specs.Facts.{form}
 use Rattle.laws.specs.Allowed.{send_allowed}
 use Rattle.laws.specs.Answering.{Lent, turned_away, granted}
-use Rattle.laws.specs.Chain.{Chain, chain_of_lem, Taken}
+use Rattle.laws.specs.Chain.{Chain, chain_of_lem}
 
 -- S: the sender has its chain, and a record is left
 module _ (t : List ℕ) (l : Lent t) (sender receiver : ℕ) (e : 0 ≡ first_of (send_refusals house (state t) sender receiver)) where
@@ -27,10 +27,6 @@ module _ (t : List ℕ) (l : Lent t) (sender receiver : ℕ) (e : 0 ≡ first_of
 
   pub send_room : used (state t) < messages
   send_room = (send_allowed house (state t) sender receiver e).room
-
--- the newest interval is live, and so its vector is near
-pub newest_near : (σ : State) (c live : ℕ) (v : Vector) → Chain σ c → live ≡ σ (LiveCount c) → v ≡ place_vector σ c (live - 1) → Near v
-newest_near σ c live v h e q = rw (q, e) (h.near (σ (LiveCount c) - 1) (omega (arith, h.live_pos)))
 
 -- the next number fits a word
 pub next_fits : (σ : State) (c m : ℕ) → Chain σ c → m ≡ last_given σ → m + 1 < 2 ^ 32
@@ -50,7 +46,3 @@ module _ (t : List ℕ) (m r wanted : ℕ) (q : r ≡ record_of (state t) m) whe
   pub message_granted : (o : ℕ → After) (a : Answer) (u : List ℕ) → 0 ≡ first_of (message_refusals (state t) r wanted) → out a u ≡ written (o r) →
       out a u ≡ written (refusing (message_refusals (state t) (record_of (state t) m) wanted) (state t) (o (record_of (state t) m)))
   message_granted o a u e h = rw (← q) (granted _ (state t) (o r) a u e h)
-
--- the vector of such a message is near
-pub taken_near : (σ : State) (r : ℕ) (v : Vector) → Taken σ r → v ≡ message_vector σ r → Near v
-taken_near σ r v h q = rw q (h.receiver.message_near r h.record_lt)

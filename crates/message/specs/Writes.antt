@@ -1,7 +1,7 @@
 -- What each function leaves, from what it has read and what its calls have left.
 use Rattle.std.specs.Prelude.{◌≡◌, List, ◌++◌, ℕ, ◌+◌, ◌-◌, ◌<◌, length, take, drop}
 use Rattle.std.proofs.Common.{ap, arith}
-use Rattle.table.specs.Field.{State, OfMessage, SentCount, LiveCount, PlaceIncarnation, PlaceNumber}
+use Rattle.table.specs.Field.{OfMessage, SentCount, LiveCount, PlaceIncarnation, PlaceNumber}
 use Rattle.table.specs.Change.{put, put_part}
 use Rattle.table.specs.Layout.{messages, message_words, table_words, position}
 use Rattle.table.specs.Words.{state, words}
@@ -23,11 +23,6 @@ pub writes_held : (t ys : List ℕ) (r a b sender receiver i x payload : ℕ) (v
 writes_held t ys r a b sender receiver i x payload v l rl p q e =
     let n = length_message_record state_held sender receiver i x payload v in
     rw p (lent_part (state t) (OfMessage r 0) 0 b t ys _ (words_state t l) e (omega arith) (fits_message r 0 _ rl (omega arith)))
-
--- the newest vector v was read and filtered as w
-pub newest_filtered : (σ : State) (c live : ℕ) (v w : Vector) → live ≡ σ (LiveCount c) → v ≡ place_vector σ c (live - 1) → w ≡ filtered σ c v →
-    w ≡ filtered σ c (place_vector σ c (newest_place σ c))
-newest_filtered σ c live v w le ve we = rw (← le, ← ve) we
 
 -- S: one more record is in use, and the number m + 1 was given
 pub writes_sent : (t u w : List ℕ) (sender receiver payload live i x r m : ℕ) (v : Vector) → live ≡ state t (LiveCount sender) →

@@ -1,5 +1,5 @@
-// The step that lets a held message out, if few enough controllers can revoke it: release. One for the desk is published: it goes out
-// only if no controller can, and gets an entry in the ledger.
+// The step that lets a held message out, if few enough controllers can revoke it: release. One for the desk is
+// published: it goes out only if no controller can, and gets an entry in the ledger.
 #![tactic(auto)]
 
 ghost use Rattle.std.specs.Prelude.{◌≡◌, ◌&&◌, ◌<◌};

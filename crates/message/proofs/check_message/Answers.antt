@@ -1,4 +1,5 @@
--- The tests stand in the order of the cases; what was read is put for the words, and each test has its outcome. A record in use is one of the table (record_there).
+-- The tests stand in the order of the cases; what was read is put for the words, and each test has its outcome. A
+-- record in use is one of the table (record_there).
 use Rattle.base.specs.Cases.{first_of}
 use borrow.Author.Tests.{le-leb, lt-leb, eq-eqb, ne_eqb}
 use Rattle.message.specs.Ready.{record_there}

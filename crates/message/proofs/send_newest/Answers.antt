@@ -1,4 +1,5 @@
--- The next number fits a word (next_fits), and all that was read before the record is written stands in the message (writes_sent).
+-- The next number fits a word (next_fits), and all that was read before the record is written stands in the message
+-- (writes_sent).
 use Rattle.message.specs.Ready.{next_fits}
 use Rattle.message.specs.Writes.{writes_sent}
 use Rattle.message.proofs.send_newest.Goals as goal
