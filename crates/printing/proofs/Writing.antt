@@ -5,12 +5,8 @@ use Rattle.std.proofs.Common.{sym, ap, ap₂, ◌∙◌, subst, append_assoc, ap
 use Rattle.std.proofs.lemmas.List.{set_split, take-set-le, drop-set-add}
 use Rattle.base.specs.Choice.{◌<?◌, cond_ind, le?}
 use Rattle.base.specs.Splice.{splice, length_splice}
-use Rattle.rules.specs.Bytes.{bytes}
-use Rattle.rules.specs.Report.{report}
-use Rattle.rules.specs.declared.Answer.{Answer}
-use Rattle.rules.specs.declared.Answer.TheVariants.{Done, Sent, Released, Held, Delivered, Dropped, Waits, Crashed, Heard, Rolled, Refused, SetReleased, SetHeld, Idle}
-use Rattle.lines.specs.Lines.{space, line_feed, zero_digit, most_digits, largest, radix, decimal_in, decimal, spaced, line_of, answer_line, bad_line}
-use Rattle.printing.specs.Parts.{number_room, answer_room, Written, Short}
+use Rattle.lines.specs.Lines.{space, line_feed, zero_digit, most_digits, largest, radix, decimal_in, decimal, spaced, line_of}
+use Rattle.printing.specs.Parts.{number_room, Written}
 
 -- nothing written
 splice_none : (o : List ℕ) (a : ℕ) → o ≡ splice o a []
@@ -85,32 +81,6 @@ written_none o a = record { stands = splice_none o a; ends = omega arith }
 -- one byte written
 written_one : (o : List ℕ) (a x : ℕ) → a < length o → Written o a (x ∷ []) (set o a x) (a + 1)
 written_one o a x h = record { stands = splice_one o a x h; ends = refl }
-
--- the first i bytes of the word w stand from a on
-pub record Spelling (o : List ℕ) (a : ℕ) (w : List ℕ) (i : ℕ) (u : List ℕ) : Type 0 where
-  pub bound : i ≤ length w
-  pub written : Written o a (take i w) u (a + i)
-
--- no byte of it is written yet
-pub spelling_start : (o : List ℕ) (a : ℕ) (w : List ℕ) → Spelling o a w 0 o
-spelling_start o a w = record { bound = omega arith; written = record { stands = splice_none o a; ends = refl } }
-
-module _ {o w u : List ℕ} {a i : ℕ} (r : Spelling o a w i u) where
-  -- the number of bytes stays
-  pub spelling_length : a + length w ≤ length o → length u ≡ length o
-  spelling_length l = written_length r.written (omega (arith, r.bound))
-
-  -- one byte more is written
-  pub spelling_more : i < length w → a + length w ≤ length o → Spelling o a w (i + 1) (set u (a + i) (get_or w i 0))
-  spelling_more h l =
-      let z : length u ≡ length o = spelling_length l in
-      let e : take i w ++ get_or w i 0 ∷ [] ≡ take (i + 1) w = sym (ap (λ (k : ℕ). take k w) (add-one i) ∙ take-suc w i 0 h) in
-      let f : Written o a (take i w ++ get_or w i 0 ∷ []) (set u (a + i) (get_or w i 0)) (a + i + 1) = written_more r.written (written_one u (a + i) (get_or w i 0) (omega arith)) (omega arith) in
-      record { bound = omega arith; written = record { stands = f.stands ∙ ap (splice o a) e; ends = omega (arith, f.ends, ap length e) } }
-
-  -- the word is written
-  pub spelling_end : length w ≤ i → Written o a w u (a + i)
-  spelling_end h = subst (λ (l : List ℕ). Written o a l u (a + i)) (take_all i w h) r.written
 
 -- a number of one digit
 decimal_in_one : (d n : ℕ) → n < radix → decimal_in (suc d) n ≡ (zero_digit + n) ∷ []
@@ -245,7 +215,7 @@ spaced_size [] = omega arith
 spaced_size (v ∷ vs) = omega (arith, length-append (decimal v) (spaced vs), decimal_size v, spaced_size vs)
 
 -- how long a line can be
-line_size : (w vs : List ℕ) → length (line_of w vs) ≤ length w + number_room * length vs + 1
+pub line_size : (w vs : List ℕ) → length (line_of w vs) ≤ length w + number_room * length vs + 1
 unfolding line_of
 line_size w vs = omega (arith, length-append w (spaced vs ++ line_feed ∷ []), length-append (spaced vs) (line_feed ∷ []), spaced_size vs)
 
@@ -302,30 +272,3 @@ line_written {o} {w} {u} {vs} {out} {at} {m} {i} {e} f room r h =
     let p : e + 1 ≤ length out = omega (arith, listing_room r q) in
     let n : length out ≡ length u = listing_length r q in
     written_more f (written_more (listing_end r q h) (written_one out e line_feed (omega arith)) (omega arith)) (omega (arith, word_length (number_room * length vs) f room))
-
--- the line of an answer has room
-answer_size : (a : Answer) → length (answer_line a) ≤ answer_room
-unfolding answer_line report
-answer_size Done = omega (arith, line_size (bytes "done") [])
-answer_size (Sent m) = omega (arith, line_size (bytes "sent") (m ∷ []))
-answer_size (Released m mask) = omega (arith, line_size (bytes "released") (m ∷ mask ∷ []))
-answer_size (Held m mask) = omega (arith, line_size (bytes "held") (m ∷ mask ∷ []))
-answer_size (Delivered m i x) = omega (arith, line_size (bytes "delivered") (m ∷ i ∷ x ∷ []))
-answer_size (Dropped m owner i) = omega (arith, line_size (bytes "dropped") (m ∷ owner ∷ i ∷ []))
-answer_size (Waits m) = omega (arith, line_size (bytes "waits") (m ∷ []))
-answer_size (Crashed c i k lost replayed) = omega (arith, line_size (bytes "crashed") (c ∷ i ∷ k ∷ lost ∷ replayed ∷ []))
-answer_size (Heard b) = omega (arith, line_size (bytes "heard") (b ∷ []))
-answer_size (Rolled b k undone replayed owner i) = omega (arith, line_size (bytes "rolled") (b ∷ k ∷ undone ∷ replayed ∷ owner ∷ i ∷ []))
-answer_size (Refused number) = omega (arith, line_size (bytes "refused") (number ∷ []))
-answer_size (SetReleased mask) = omega (arith, line_size (bytes "released") (mask ∷ []))
-answer_size (SetHeld mask) = omega (arith, line_size (bytes "held") (mask ∷ []))
-answer_size Idle = omega (arith, line_size (bytes "idle") [])
-
--- the line of an answer that is known to be b
-pub answer_written : {o u : List ℕ} {at r : ℕ} {a b : Answer} → a ≡ b → Written o at (answer_line b) u r → Short o at (answer_line a) u r
-answer_written {o} {u} {at} {r} {a} {b} e f = record { written = subst (λ (x : Answer). Written o at (answer_line x) u r) (sym e) f; fits = omega (arith, f.ends, answer_size b) }
-
--- the line of no answer
-pub bad_written : {o u : List ℕ} {at r : ℕ} → Written o at bad_line u r → Short o at bad_line u r
-unfolding bad_line
-bad_written f = record { written = f; fits = omega (arith, f.ends, line_size (bytes "bad") []) }

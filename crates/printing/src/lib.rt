@@ -19,12 +19,9 @@ fn write_word(out: &mut [u8], at: usize, word: &[u8]) -> usize
     requires { at + length word.now ≤ length out.old }
     ensures { Written out.old at word.now out.new result }
 {
-    let mut i = 0;
-    while i < word.len() {
-        out[at + i] = word[i];
-        i += 1;
-    }
-    at + i
+    let end = at + word.len();
+    out[at..end].copy_from_slice(word);
+    end
 }
 
 // How many digits `v` has.
@@ -64,16 +61,15 @@ fn write_line(out: &mut [u8], at: usize, word: &[u8], values: &[u32]) -> usize
     ensures { Written out.old at (line_of word.now values.now) out.new result }
 {
     let mut end = write_word(out, at, word);
-    let mut i = 0;
-    while i < values.len() {
-        end = write_number(out, end, values[i]);
-        i += 1;
+    for value in values {
+        end = write_number(out, end, *value);
     }
     out[end] = lines::LINE_FEED;
     end + 1
 }
 
 // Writes the line of an answer from `at` on, and says where it ends.
+#[tactic(auto, using(crate::proofs::Writing::line_size), unfolding(lines::specs::Lines::answer_line, rules::specs::Report::report))]
 pub fn write_answer(out: &mut [u8], at: usize, a: Answer) -> usize
     requires { at + answer_room ≤ length out.old }
     ensures { Short out.old at (answer_line a) out.new result }
@@ -101,6 +97,7 @@ pub fn write_answer(out: &mut [u8], at: usize, a: Answer) -> usize
 }
 
 // Writes the line `bad` from `at` on, and says where it ends.
+#[tactic(auto, using(crate::proofs::Writing::line_size), unfolding(lines::specs::Lines::bad_line))]
 pub fn write_bad(out: &mut [u8], at: usize) -> usize
     requires { at + answer_room ≤ length out.old }
     ensures { Short out.old at bad_line out.new result }

@@ -2,23 +2,11 @@ use Rattle.printing.proofs.Writing.{storing_start, storing_place, storing_more, 
 use Rattle.std.proofs.Common.{◌∙◌, arith, length-set}
 use Rattle.printing.proofs.write_number.Goals as goal
 
-pub digit_count-n-requires : goal.digit_count-n-requires
-digit_count-n-requires c = tt
-
-pub bounds-out-at : goal.bounds-out-at
-bounds-out-at c = omega (arith, c.requires)
-
 pub overflow_add-i : goal.overflow_add-i
 overflow_add-i c = omega (arith, c.requires, decimal_size c.args.v)
 
 pub loop-rest-init : goal.loop-rest-init
 loop-rest-init c = storing_start _ _ _ _ (omega arith) c.digit_count-n.ensures
-
-pub overflow_cast-out : goal.overflow_cast-out
-overflow_cast-out c = omega arith
-
-pub overflow_add-out : goal.overflow_add-out
-overflow_add-out c = omega arith
 
 pub bounds-out-i : goal.bounds-out-i
 bounds-out-i c = (storing_place c.loop-rest.invariant (simp length-set c.requires)).1
@@ -26,23 +14,11 @@ bounds-out-i c = (storing_place c.loop-rest.invariant (simp length-set c.require
 pub overflow_sub-i : goal.overflow_sub-i
 overflow_sub-i c = omega (arith, storing_place c.loop-rest.invariant (simp length-set c.requires))
 
-pub loop-rest-smaller : goal.loop-rest-smaller
-loop-rest-smaller c = omega arith
-
 pub loop-rest-preserved : goal.loop-rest-preserved
 loop-rest-preserved c = storing_more c.loop-rest.invariant (simp length-set c.requires) c.loop-rest-test.true
 
-pub overflow_cast-out-2 : goal.overflow_cast-out-2
-overflow_cast-out-2 c = omega arith
-
-pub overflow_add-out-2 : goal.overflow_add-out-2
-overflow_add-out-2 c = omega arith
-
 pub bounds-out-i-2 : goal.bounds-out-i-2
 bounds-out-i-2 c = (storing_place c.loop-rest.invariant (simp length-set c.requires)).1
-
-pub overflow_add-result : goal.overflow_add-result
-overflow_add-result c = omega (arith, c.requires)
 
 pub overflow_add-result-2 : goal.overflow_add-result-2
 overflow_add-result-2 c = omega (arith, c.requires, decimal_size c.args.v)
