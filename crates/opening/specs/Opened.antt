@@ -19,10 +19,9 @@ use Rattle.rules.specs.Vector.{Pair, Vector, pair, no_pair}
 use Rattle.rules.specs.Ledger.{ledger_words, blank_ledger}
 use Rattle.rules.specs.Steps.{first_controller, first_place, first_vector, open_house, open_refusals, step_open}
 use Rattle.rules.specs.Step.{out_both, written_both}
-use Rattle.rules.specs.declared.Answer.TheVariants.{Done, Refused}
+use Rattle.rules.specs.declared.Answer.TheVariants.{Done}
 use Rattle.laws.specs.Records.{length_place_record}
-use Rattle.laws.specs.Allowed.{OpenAllowed, open_allowed}
-use Rattle.laws.specs.Answering.{refused_both, granted_both}
+use Rattle.laws.specs.Answering.{granted_both}
 use Rattle.interval.specs.LentPlaces.{zero_words, zero_at, length_zero}
 
 -- σ with controller c begun
@@ -186,23 +185,16 @@ all_begun n k (OfMessage r w) v = refl
 pub opened_all : (n k c : ℕ) (t : List ℕ) → t ≡ words (opened_to n k c) → c ≤ n → n ≤ c → t ≡ words (open_house n k)
 opened_all n k c t e l m = e ∙ ap (λ c. words (opened_to n k c)) (omega arith) ∙ words_same _ _ (all_begun n k)
 
--- O n k; r is the number that its refusals gave
-module _ (t g : List ℕ) (n k r : ℕ) (e : r ≡ first_of (open_refusals house g n k)) where
-  pub open_refused : length t ≡ table_words → (r ≡ 0 → ⊥) → out_both (Refused r) t g ≡ written_both (step_open house (state t) g n k)
-  unfolding step_open
-  open_refused l ne = refused_both _ t g r _ l e ne
-
-  pub open_allowed_lem : r ≡ 0 → OpenAllowed n k
-  open_allowed_lem z = open_allowed house g n k (sym z ∙ e)
-
+-- O n k, which nothing refuses
+module _ (g : List ℕ) (n k : ℕ) (e : 0 ≡ first_of (open_refusals house g n k)) where
   -- the ledger has its length, and so all of its words were cleared
-  ledger_cleared : r ≡ 0 → (w : List ℕ) → w ≡ zero_words (length g) → w ≡ blank_ledger house
+  ledger_cleared : (w : List ℕ) → w ≡ zero_words (length g) → w ≡ blank_ledger house
   unfolding zero_words blank_ledger
-  ledger_cleared z w we =
-      let none = cleared _ refl (sym z ∙ e) in
+  ledger_cleared w we =
+      let none = cleared _ refl e in
       let l : length g ≡ ledger_words house = eqb-true _ _ (not-false _ (search none)) in
       we ∙ ap zero_words l
 
-  pub open_done : (u w : List ℕ) → r ≡ 0 → u ≡ words (open_house n k) → w ≡ zero_words (length g) → out_both Done u w ≡ written_both (step_open house (state t) g n k)
+  pub open_done : (t u w : List ℕ) → u ≡ words (open_house n k) → w ≡ zero_words (length g) → out_both Done u w ≡ written_both (step_open house (state t) g n k)
   unfolding step_open
-  open_done u w z ue we = granted_both _ (state t) g _ Done u w r e z (λ d. out_both Done (ue d) (ledger_cleared z w we d))
+  open_done t u w ue we = granted_both _ (state t) g _ Done u w 0 e refl (λ d. out_both Done (ue d) (ledger_cleared w we d))

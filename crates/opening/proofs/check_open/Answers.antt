@@ -1,7 +1,7 @@
 -- The tests stand in the order of the cases.
 use Rattle.base.specs.Cases.{none, hit, skip}
 use Rattle.std.proofs.Common.{eq-eqb, ne_eqb}
-use Rattle.opening.proofs.open_refusal.Goals as goal
+use Rattle.opening.proofs.check_open.Goals as goal
 
 pub returns-then-g-ne-LEDGER_WORDS : goal.returns-then-g-ne-LEDGER_WORDS
 returns-then-g-ne-LEDGER_WORDS c = hit _ _ _ (rw (ne_eqb _ _ c.if-g-ne-LEDGER_WORDS.true))
