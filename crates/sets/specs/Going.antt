@@ -11,10 +11,10 @@ use Rattle.table.proofs.Words.{words_state, length_words, words_same, agree_word
 use Rattle.table.specs.Numbering.{used, record_of}
 use Rattle.table.proofs.Numbering.{used_agree, record_agree}
 use Rattle.rules.specs.Limits.{house, last_entry}
-use Rattle.rules.specs.Vector.{Vector, message_vector}
+use Rattle.rules.specs.Vector.{message_vector}
 use Rattle.rules.specs.Form.{for_desk}
 use Rattle.rules.specs.Ledger.{ledger_words, count_of, appended}
-use Rattle.rules.specs.Steps.{own_vector, gone, ledger_out}
+use Rattle.rules.specs.Steps.{gone, ledger_out}
 use Rattle.rules.specs.Sets.{nth, record_in, desks, out_to, ledger_to}
 use Rattle.laws.specs.Facts.{Near}
 use Rattle.laws.specs.Records.{message_vector_of}
@@ -22,9 +22,7 @@ use Rattle.laws.specs.Ledger.{ledger_form}
 use Rattle.laws.specs.Chain.{Releasable}
 use Rattle.laws.specs.Releasing.{agree_gone}
 use Rattle.laws.specs.Sets.{outs_message, outs_numbers, Entered, entries, desks_le}
-use Rattle.release.specs.Releases.{Outgoing}
 use Rattle.sets.specs.Ready.{Ready, Passed}
-use Rattle.sets.specs.Reading.{read_ready}
 
 -- what a message that goes out asks for: its table and its record, the ledger, and room in that where it is for the desk
 pub record Asks (t g : List ℕ) (m : ℕ) : Type 0 where
@@ -32,26 +30,6 @@ pub record Asks (t g : List ℕ) (m : ℕ) : Type 0 where
   pub ready : Ready (state t) m
   pub ledger_long : length g ≡ ledger_words house
   pub room : for_desk (state t) (record_of (state t) m) ≡ true → count_of g < last_entry
-
--- r is the record that was found for it
-module _ {t g : List ℕ} {m r : ℕ} (w : Asks t g m) (re : r ≡ record_of (state t) m) where
-  pub found_outgoing : {v : Vector} → v ≡ own_vector (state t) r → Outgoing t g r v
-  found_outgoing e =
-      record {
-        long = w.long;
-        record_lt = (read_ready (state t) m r re w.ready).record_lt;
-        ledger_long = w.ledger_long;
-        room = subst (λ r. for_desk (state t) r ≡ true → count_of g < last_entry) (sym re) w.room;
-        own = e;
-      }
-
-  pub found_gone : {u h : List ℕ} → (u ≡ words (gone (state t) r)) × (h ≡ ledger_out (state t) g m r) →
-      (u ≡ words (gone (state t) (record_of (state t) m))) × (h ≡ ledger_out (state t) g m (record_of (state t) m))
-  found_gone {u} {h} e = subst (λ r. (u ≡ words (gone (state t) r)) × (h ≡ ledger_out (state t) g m r)) re e
-
--- the ledger of a set that is not refused has its length
-pub passed_ledger : {t g l : List ℕ} → Passed t g l → length g ≡ ledger_words house
-passed_ledger {g = g} w = (ledger_form house g w.allowed.sound).long
 
 -- the table u and the ledger h are on their way from t and g: the first n of the list have gone out
 pub record Gone (t g l u h : List ℕ) (n : ℕ) : Type 0 where
@@ -72,7 +50,7 @@ record Alike (ρ σ : State) (m : ℕ) : Type 0 where
   pub payload_is : ρ (Payload (record_of σ m)) ≡ σ (Payload (record_of σ m))
 
 module _ {t g l u h : List ℕ} {n : ℕ} (w : Gone t g l u h n) where
-  pub gone_long : length u ≡ table_words
+  gone_long : length u ≡ table_words
   gone_long = ap length w.left ∙ length_words _
 
   entered_so_far : Entered house g h (desks (state t) l n)
@@ -80,7 +58,7 @@ module _ {t g l u h : List ℕ} {n : ℕ} (w : Gone t g l u h n) where
       subst (λ h. Entered house g h (desks (state t) l n)) (sym w.ledger)
       (entries house (state t) g l n w.start.allowed.sound (omega (arith, w.room, desks_le (state t) l n (length l) w.bound)))
 
-  pub gone_ledger : length h ≡ ledger_words house
+  gone_ledger : length h ≡ ledger_words house
   gone_ledger = (ledger_form house h entered_so_far.sound).long
 
   -- the next message

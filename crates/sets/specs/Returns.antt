@@ -1,48 +1,60 @@
 -- What each return of a set has to show.
-use Rattle.std.specs.Prelude.{◌≡◌, refl, Bool, true, false, not, cond, ◌||◌, List, ℕ, zero, suc, ◌+◌, ◌≤◌, ◌<◌, length, ◌==◌}
+use Rattle.std.specs.Prelude.{◌≡◌, refl, Bool, true, false, not, cond, ◌||◌, List, ℕ, zero, suc, ◌+◌, ◌≤◌, ◌<◌, length, ◌==◌, Result, Err}
 use Rattle.std.proofs.Common.{sym, ap, ◌∙◌, arith}
 use Rattle.std.proofs.Math.Bool.{or-true, or-false}
+use Rattle.std.specs.Array.{IsWholeChunk}
 use Rattle.std.specs.Int.Count.{ones}
 use borrow.Author.Tests.{eq-eqb, ne_eqb, lt-ltb, le-ltb}
-use Rattle.base.specs.Choice.{◌≤?◌, ◌<?◌}
+use Rattle.base.specs.Choice.{◌≤?◌, ◌<?◌, fails}
 use Rattle.base.specs.Ranges.{anyb}
-use Rattle.base.specs.Cases.{first_of}
+use Rattle.base.specs.Cases.{first_of, hit}
 use Rattle.table.specs.Field.{State, Degree}
 use Rattle.table.specs.Layout.{table_words}
 use Rattle.table.specs.Words.{state, words}
 use Rattle.table.proofs.Words.{words_state}
 use Rattle.rules.specs.Limits.{house, last_entry}
-use Rattle.rules.specs.Refusal.{LENGTH, FORM, LEDGER_USED_UP}
+use Rattle.rules.specs.Refusal.{LENGTH, FORM, LEDGER, LEDGER_USED_UP}
+use Rattle.rules.specs.Refused.{number, refusal_of}
 use Rattle.rules.specs.Form.{for_desk, in_form}
-use Rattle.rules.specs.Ledger.{count_of}
+use Rattle.rules.specs.Ledger.{ledger_words, count_of}
 use Rattle.rules.specs.Sets.{nth, record_in, sender_of, set_refusals, union, some_for_desk, set_may_go, desks, out_to, ledger_to, release_all, step_set}
 use Rattle.rules.specs.Step.{OutBoth, out_both, written_both, lent, set_on, release_set, step_call}
 use Rattle.rules.specs.declared.Answer.{Answer}
 use Rattle.rules.specs.declared.Answer.TheVariants.{Refused, SetReleased, SetHeld}
-use Rattle.laws.specs.Answering.{Lent, refused_both, granted_both}
+use Rattle.rules.specs.declared.refusal.Refusal.{Refusal}
+use Rattle.laws.specs.Ledger.{ledger_form}
+use Rattle.laws.specs.Answering.{refused_both, turned_away_both, granted_both}
 
--- 1 and 2, and a table that these let pass
+-- 1 and 2, and a table that these let pass: the slice t, as the array u
 pub too_short : (t g l : List ℕ) → (length t ≡ table_words → ⊥) → out_both (Refused LENGTH) t g ≡ step_call t g (release_set l)
 unfolding step_call lent
 too_short t g l ne = rw (ne_eqb (length t) table_words ne)
 
-pub out_of_form : (t g l : List ℕ) → length t ≡ table_words → in_form house (state t) ≡ false → out_both (Refused FORM) t g ≡ step_call t g (release_set l)
-unfolding step_call lent set_on
-out_of_form t g l h e = rw (eq-eqb (length t) table_words h, e) (ap (λ u. out_both (Refused FORM) u g) (words_state t h))
+module _ (t g l u : List ℕ) (whole : IsWholeChunk t u table_words) where
+  pub out_of_form : in_form house (state u) ≡ false → out_both (Refused FORM) u g ≡ step_call t g (release_set l)
+  unfolding step_call lent set_on
+  out_of_form e = rw (eq-eqb (length t) table_words whole.long, ← whole.same, e) (ap (λ u. out_both (Refused FORM) u g) (words_state u (ap length whole.same ∙ whole.long)))
 
-pub answered : (t g l : List ℕ) (o : OutBoth) → Lent t → o ≡ written_both (step_set house (state t) g l) → o ≡ step_call t g (release_set l)
-unfolding step_call lent set_on
-answered t g l o h e = e ∙ sym (rw (eq-eqb (length t) table_words h.long, h.good))
+  pub answered : (o : OutBoth) → in_form house (state u) ≡ true → o ≡ written_both (step_set house (state u) g l) → o ≡ step_call t g (release_set l)
+  unfolding step_call lent set_on
+  answered o f e = e ∙ sym (rw (eq-eqb (length t) table_words whole.long, ← whole.same, f))
 
--- 14, 4, 6, 7, 15, or none of them: n is the number of the first that applies
-module _ (t g l : List ℕ) (n : ℕ) (e : n ≡ first_of (set_refusals house (state t) g l)) where
-  pub set_refused : length t ≡ table_words → (n ≡ 0 → ⊥) → out_both (Refused n) t g ≡ written_both (step_set house (state t) g l)
+-- 14, where the ledger is of another length
+pub ledger_refused : (t g l : List ℕ) → length t ≡ table_words → (length g ≡ ledger_words house → ⊥) → out_both (Refused LEDGER) t g ≡ written_both (step_set house (state t) g l)
+unfolding step_set
+ledger_refused t g l long ne = refused_both _ t g LEDGER _ long (hit _ LEDGER _ (ap not (fails _ (λ e. ne (ledger_form house g e).long)))) (λ z. omega arith)
+
+-- it has its length, as the array h: 14, 4, 6, 7, 15, or none of them
+module _ (t g l h : List ℕ) (same : h ≡ g) where
+  pub set_refused : (found : Result Unit Refusal) (refusal : Refusal) → length t ≡ table_words → refusal_of found ≡ first_of (set_refusals house (state t) h l) →
+      found ≡ Err refusal → out_both (Refused (number refusal)) t h ≡ written_both (step_set house (state t) g l)
   unfolding step_set
-  set_refused long ne = refused_both _ t g n _ long e ne
+  set_refused found refusal long e was = rw (← same) (turned_away_both _ t h _ found refusal long e was)
 
-  pub set_granted : (a : Answer) (u w : List ℕ) → n ≡ 0 → out_both a u w ≡ written_both (release_all house (state t) g l) → out_both a u w ≡ written_both (step_set house (state t) g l)
+  pub set_granted : (a : Answer) (u w : List ℕ) → 0 ≡ first_of (set_refusals house (state t) h l) → out_both a u w ≡ written_both (release_all house (state t) h l) →
+      out_both a u w ≡ written_both (step_set house (state t) g l)
   unfolding step_set
-  set_granted a u w z h = granted_both _ (state t) g _ a u w n e z h
+  set_granted a u w e p = rw (← same) (granted_both _ (state t) h _ a u w 0 e refl p)
 
 -- some are for the desk just where their count is not 0
 positive : (b c : Bool) (n : ℕ) → b ≡ (0 <? n) → (b || c) ≡ (0 <? n + cond c 1 0)

@@ -1,20 +1,26 @@
+use mir.Val.{bool_byte}
 use Rattle.rules.specs.Sets.{desks}
 use Rattle.sets.specs.Reading.{desks_more, desks_all, desks_fit}
-use Rattle.std.proofs.Common.{refl, arith, rules}
+use Rattle.std.proofs.Common.{◌≡◌, refl, ap, ◌∙◌, Bool, true, false, ℕ, cond, arith}
 use Rattle.sets.proofs.desk_count.Goals as goal
 
-pub loop-i-init : goal.loop-i-init
-unfolding desks
-loop-i-init c = (search rules, refl)
+-- a yes counts 1
+counted : (b d : Bool) (x : ℕ) → x ≡ bool_byte b → b ≡ d → x ≡ cond d 1 0
+counted true d x e q = e ∙ ap (λ (b : Bool). cond {A = ℕ} b 1 0) q
+counted false d x e q = e ∙ ap (λ (b : Bool). cond {A = ℕ} b 1 0) q
 
-pub desk_one-n-requires : goal.desk_one-n-requires
-desk_one-n-requires c = let h = c.requires.0 in (h.long, h.ready _ c.loop-i-test.true)
+pub loop-m-init : goal.loop-m-init
+unfolding desks
+loop-m-init c = refl
+
+pub for_desk-requires : goal.for_desk-requires
+for_desk-requires c = c.requires.0.ready _ c.loop-m-test.true
 
 pub overflow_add-n : goal.overflow_add-n
-overflow_add-n c = omega (arith, desks_fit _ _ _ _ _ c.loop-i.invariant.1 c.desk_one-n.ensures, c.requires.1)
+overflow_add-n c = omega (arith, desks_fit _ _ _ _ _ c.loop-m.invariant (counted _ _ _ c.from-n.ensures c.for_desk.ensures), c.requires.1)
 
-pub loop-i-preserved : goal.loop-i-preserved
-loop-i-preserved c = (search rules, desks_more _ _ _ _ _ c.loop-i.invariant.1 c.desk_one-n.ensures)
+pub loop-m-preserved : goal.loop-m-preserved
+loop-m-preserved c = desks_more _ _ _ _ _ c.loop-m.invariant (counted _ _ _ c.from-n.ensures c.for_desk.ensures)
 
 pub returns : goal.returns
-returns c = desks_all _ _ _ _ c.loop-i.invariant.1 c.loop-i.invariant.0 c.loop-i-test.false
+returns c = desks_all _ _ _ _ c.loop-m.invariant c.loop-m.auto.m-index-end c.loop-m-test.false

@@ -1,5 +1,4 @@
 -- The calls have found the union, how many are for the desk, and whether the set may go (Found); the three cases are those of the rule.
-use Rattle.sets.specs.Going.{passed_ledger}
 use Rattle.sets.specs.Reading.{desks_bound}
 use Rattle.sets.specs.Returns.{Found, held, used_up, all_go, room}
 use Rattle.table.specs.Words.{state}
@@ -23,9 +22,6 @@ set_may_go-requires c = (c.requires.listed, c.requires.allowed.some, c.desk_coun
 
 pub returns-then-not-set_may_go : goal.returns-then-not-set_may_go
 returns-then-not-set_may_go c = held (found (goal.at.returns-then-not-set_may_go c).After-set_may_go) _ (ap not c.if-not-set_may_go.true) c.requires.listed.long
-
-pub count-requires : goal.count-requires
-count-requires c = passed_ledger c.requires
 
 -- at most 128 entries, and 16 messages
 pub overflow_add-count : goal.overflow_add-count

@@ -1,17 +1,21 @@
-use Rattle.base.specs.Ranges.{anyb_zero, anyb_step, anyb_end}
+use Rattle.base.specs.Ranges.{anyb_zero, anyb_step, anyb_at, anyb_end}
 use Rattle.rules.specs.Sets.{some_not_held}
-use Rattle.std.proofs.Common.{rules}
+use Rattle.std.proofs.Common.{sym, ◌∙◌}
 use Rattle.sets.proofs.some_not_held.Goals as goal
 
-pub loop-i-init : goal.loop-i-init
-loop-i-init c = (search rules, anyb_zero _)
+pub loop-m-init : goal.loop-m-init
+loop-m-init c = anyb_zero _
 
-pub not_held-some-requires : goal.not_held-some-requires
-not_held-some-requires c = let h = c.requires in (h.long, h.ready _ c.loop-i-test.true)
+pub not_held-requires : goal.not_held-requires
+not_held-requires c = c.requires.ready _ c.loop-m-test.true
 
-pub loop-i-preserved : goal.loop-i-preserved
-loop-i-preserved c = (search rules, anyb_step _ _ _ _ c.loop-i.invariant.1 c.not_held-some.ensures)
+pub returns-then-not_held : goal.returns-then-not_held
+unfolding some_not_held
+returns-then-not_held c = sym (anyb_at _ _ _ c.loop-m-test.true (sym c.not_held.ensures ∙ c.if-not_held.true))
+
+pub loop-m-preserved : goal.loop-m-preserved
+loop-m-preserved c = sym c.if-not_held.false ∙ anyb_step _ _ _ _ c.loop-m.invariant c.not_held.ensures
 
 pub returns : goal.returns
 unfolding some_not_held
-returns c = anyb_end _ _ _ _ c.loop-i.invariant.1 c.loop-i.invariant.0 c.loop-i-test.false
+returns c = anyb_end _ _ _ _ c.loop-m.invariant c.loop-m.auto.m-index-end c.loop-m-test.false

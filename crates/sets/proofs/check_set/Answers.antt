@@ -3,8 +3,8 @@ use Rattle.base.specs.Cases.{hit, skip, none}
 use Rattle.sets.specs.Ready.{Listed, listed, or_first, or_second}
 use Rattle.laws.specs.Sets.{some_named}
 use Rattle.std.proofs.Common.{sym, ◌∙◌}
-use Rattle.sets.proofs.set_refusal.Goals as goal
-use Rattle.sets.proofs.set_refusal.Goals.{Else-some_absent}
+use Rattle.sets.proofs.check_set.Goals as goal
+use Rattle.sets.proofs.check_set.Goals.{Else-some_absent}
 
 -- all are there
 all_listed : (c : Else-some_absent) → Listed c.args.t.now c.args.list.now
