@@ -1,41 +1,30 @@
 // One step of a house over its lent table and its lent ledger.
 #![tactic(auto)]
 
-ghost use Rattle.std.specs.Prelude.{◌≡◌, false, List, ℕ};
+ghost use Rattle.std.specs.Prelude.{◌≡◌, false, List, ℕ, MatchResult};
 ghost use Rattle.table.specs.Words.{state};
 ghost use Rattle.rules.specs.Limits.{house};
+ghost use Rattle.rules.specs.Refused.{number, answer_of};
 ghost use Rattle.rules.specs.Step.{out_both, written_both, looks_at_form, perform, step};
+ghost use Rattle.rules.specs.declared.Answer.TheVariants.{Refused};
 ghost use Rattle.laws.specs.Answering.{LentFor};
 ghost use Rattle.laws.specs.Beside.{looks_at_ledger};
-ghost use Rattle.machine.specs.Host.{Hosted};
 
-use rules::{Answer, Command, refusal};
-use table::layout;
+use rules::{Answer, Command, Refusal};
+use table::Table;
 
 // Whether a step looks at the form of the table: all but the opening do.
 pub fn looks_at_form(x: Command) -> bool
     ensures { result ≡ looks_at_form x }
 {
-    match x {
-        Command::Open(_, _) => false,
-        Command::SetDegree(_, _) => true,
-        Command::Send(_, _, _) => true,
-        Command::Release(_) => true,
-        Command::Deliver(_) => true,
-        Command::Log(_, _) => true,
-        Command::Checkpoint(_) => true,
-        Command::Tell(_, _) => true,
-        Command::Crash(_) => true,
-        Command::Hear(_, _, _) => true,
-        Command::SetGap(_) => true,
-    }
+    !matches!(x, Command::Open(_, _))
 }
 
-// A step after the host's refusals of the table: it has its length, and is in form where the step looks at that. Only the
-// opening and the release look at the ledger.
-pub fn perform(t: &mut [u32], g: &mut [u32], x: Command) -> Answer
+// A step after the host's refusals of the table, which is in form where the step looks at that. Only the opening and the
+// release look at the ledger.
+pub fn perform(t: &mut Table, g: &mut [u32], x: Command) -> Result<Answer, Refusal>
     requires { LentFor t.old x }
-    ensures { out_both result t.new g.new ≡ written_both (perform house (state t.old) g.old x) }
+    ensures { out_both (answer_of result) t.new g.new ≡ written_both (perform house (state t.old) g.old x) }
 {
     match x {
         Command::Open(n, k) => opening::open(t, g, n, k),
@@ -52,31 +41,32 @@ pub fn perform(t: &mut [u32], g: &mut [u32], x: Command) -> Answer
     }
 }
 
-// The host's refusal of a step on this table, or 0.
-fn host_refusal(t: &[u32], x: Command) -> u32
-    ensures { Hosted t.now x result }
+// Whether the table is in form, where the step looks at that.
+fn check_form(t: &Table, x: Command) -> Result<(), Refusal>
+    ensures { MatchResult result (λ _. LentFor t.now x) (λ refusal. (g : List ℕ) → out_both (Refused (number refusal)) t.now g ≡ step t.now g x) }
 {
-    if t.len() != layout::TABLE_WORDS {
-        return refusal::LENGTH;
+    if looks_at_form(x) && !form::in_form(t) {
+        return Err(Refusal::Form);
     }
-    if !looks_at_form(x) {
-        return 0;
-    }
-    if !form::in_form(t) {
-        return refusal::FORM;
-    }
-    0
+    Ok(())
+}
+
+// A step on any lent table, with the host's refusals of it.
+fn step_lent(t: &mut [u32], g: &mut [u32], x: Command) -> Result<Answer, Refusal>
+    ensures { out_both (answer_of result) t.new g.new ≡ step t.old g.old x }
+{
+    let Some(t) = t.as_mut_array() else {
+        return Err(Refusal::Length);
+    };
+    check_form(t, x)?;
+    perform(t, g, x)
 }
 
 // The step function, for every table and every ledger lent and all numbers.
 pub fn step(t: &mut [u32], g: &mut [u32], x: Command) -> Answer
     ensures { out_both result t.new g.new ≡ step t.old g.old x }
 {
-    let no = host_refusal(t, x);
-    if no != 0 {
-        return Answer::Refused(no);
-    }
-    perform(t, g, x)
+    Answer::from(step_lent(t, g, x))
 }
 
 // A step that doesn't look at the ledger, for a caller that has none at hand: it is done beside an empty one, and would be the
@@ -85,8 +75,7 @@ fn step_alone(t: &mut [u32], x: Command) -> Answer
     requires { looks_at_ledger x ≡ false }
     ensures { (g : List ℕ) → out_both result t.new g ≡ step t.old g x }
 {
-    let mut none = [0u32; 0];
-    step(t, &mut none, x)
+    step(t, &mut [], x)
 }
 
 // Each step by itself.

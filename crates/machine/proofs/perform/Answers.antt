@@ -5,9 +5,6 @@ use Rattle.rules.specs.Step.{perform}
 use Rattle.std.proofs.Common.{refl}
 use Rattle.machine.proofs.perform.Goals as goal
 
-pub open-requires : goal.open-requires
-open-requires c = c.requires.long
-
 pub set_degree-requires : goal.set_degree-requires
 set_degree-requires c = lent_as _ _ _ c.requires c.in-SetDegree.is refl
 
