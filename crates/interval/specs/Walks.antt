@@ -3,13 +3,13 @@
 use Rattle.std.specs.Prelude.{◌≡◌, refl, Bool, true, false, List, ℕ, ◌+◌, ◌-◌, ◌≤◌, ◌<◌}
 use Rattle.std.proofs.Math.Path.{sym}
 use Rattle.std.proofs.Common.{ap, ◌∙◌, subst, add-one, arith, eq-eqb, ne_eqb}
-use borrow.Author.Count.{below_none, below_more}
+use borrow.Author.Count.{below_more}
 use Rattle.base.specs.Ranges.{first_at, first_none, anyb_at, anyb_none}
 use Rattle.table.specs.Field.{State, LiveCount, Flag}
-use Rattle.table.specs.Layout.{controllers, incarnations, places}
+use Rattle.table.specs.Layout.{controllers, places}
 use Rattle.table.specs.Words.{state}
 use Rattle.table.specs.Numbering.{number_of}
-use Rattle.rules.specs.Vector.{Pair, Vector, incarnation, pair_of, place_vector, condemned_pair, condemned}
+use Rattle.rules.specs.Vector.{Pair, Vector, pair_of, place_vector, condemned_pair, condemned}
 use Rattle.rules.specs.Shared.{latest_flagged}
 use Rattle.rules.specs.Steps.{lowest_condemned}
 use Rattle.laws.specs.Found.{Highest, highest, highest_only}
@@ -63,31 +63,17 @@ come_end t hearer live flagged p w l =
 pub record Judged (t : List ℕ) (hearer live flagged p owner : ℕ) : Type 0 where
   pub come : Come t hearer live flagged p
   pub on_chain_lem : p < live
-  pub bound : owner ≤ controllers
   pub none : (k : ℕ) → k < owner → condemned_pair (state t) hearer k (pair_of (place_vector (state t) hearer p) k) ≡ false
 
 module _ (t : List ℕ) (hearer live flagged p : ℕ) where
   abbrev entries : Vector
   entries = place_vector (state t) hearer p
 
-  pub judged_first : Come t hearer live flagged p → p < live → Judged t hearer live flagged p 0
-  judged_first w l = record { come = w; on_chain_lem = l; bound = omega arith; none = below_none _ }
-
-  -- p is a place of the table, ..
+  -- p is a place of the table
   pub place_lt : (owner : ℕ) → Judged t hearer live flagged p owner → p < places
   place_lt owner w = omega (arith, w.on_chain_lem, w.come.live_is, w.come.chain.live_le)
 
-  -- .. and the entry of an owner there is of an incarnation that the table has words for
-  pub entry_near : (owner : ℕ) (entry : Pair) → Judged t hearer live flagged p owner → owner < controllers → entry ≡ pair_of entries owner → incarnation entry < incarnations
-  entry_near owner entry w l e = subst (λ q. incarnation q < incarnations) (sym e) (w.come.chain.near p (omega (arith, w.on_chain_lem, w.come.live_is)) owner l)
-
-  -- that entry is not condemned: on to the next owner
-  pub judged_more : (owner : ℕ) (entry : Pair) (b : Bool) → Judged t hearer live flagged p owner → owner < controllers → entry ≡ pair_of entries owner →
-      b ≡ condemned_pair (state t) hearer owner entry → b ≡ false → Judged t hearer live flagged p (owner + 1)
-  judged_more owner entry b w l e eb f =
-      record { come = w.come; on_chain_lem = w.on_chain_lem; bound = omega arith; none = below_more _ _ w.none (ap (condemned_pair (state t) hearer owner) (sym e) ∙ sym eb ∙ f) }
-
-  -- it is: p is the place
+  -- the entry of an owner is condemned: p is the place
   pub judged_hit : (owner : ℕ) (entry : Pair) (b : Bool) → Judged t hearer live flagged p owner → owner < controllers → entry ≡ pair_of entries owner →
       b ≡ condemned_pair (state t) hearer owner entry → b ≡ true → p ≡ lowest_condemned (state t) hearer
   unfolding lowest_condemned condemned

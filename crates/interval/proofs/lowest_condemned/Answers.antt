@@ -1,25 +1,8 @@
-use Rattle.interval.specs.Walks.{come_latest, come_first, come_end, judged_first, place_lt, entry_near, judged_more, judged_hit, judged_clear}
+use Rattle.interval.specs.Walks.{come_latest, come_first, come_end, place_lt, judged_hit, judged_clear}
 use Rattle.interval.proofs.lowest_condemned.Goals as goal
 
 pub places-init : goal.places-init
 places-init c = come_first _ _ _ _ c.requires c.live_count-live.ensures c.latest_flagged-flagged.ensures
-
-pub loop-owner-init : goal.loop-owner-init
-loop-owner-init c = judged_first _ _ _ _ _ c.places.invariant c.if-live-p.false
-
-pub place_pair-entry-requires : goal.place_pair-entry-requires
-place_pair-entry-requires c =
-    let w = c.loop-owner.invariant in
-    (w.come.chain.named, place_lt _ _ _ _ _ _ w, c.loop-owner-test.true)
-
-pub condemned_pair-requires : goal.condemned_pair-requires
-condemned_pair-requires c =
-    let w = c.loop-owner.invariant in
-    let l = c.loop-owner-test.true in
-    (w.come.chain.named, l, entry_near _ _ _ _ _ _ _ w l c.place_pair-entry.ensures)
-
-pub loop-owner-preserved : goal.loop-owner-preserved
-loop-owner-preserved c = judged_more _ _ _ _ _ _ _ _ c.loop-owner.invariant c.loop-owner-test.true c.place_pair-entry.ensures c.condemned_pair.ensures c.if-condemned_pair.false
 
 pub raise_flagged-flagged-requires : goal.raise_flagged-flagged-requires
 raise_flagged-flagged-requires c =
