@@ -1,6 +1,6 @@
 -- What starting anew and removing intervals write, one call after the other.
 use Rattle.std.specs.Prelude.{◌≡◌, refl, List, ℕ, ◌+◌, ◌-◌, ◌≤◌, set}
-use Rattle.std.proofs.Common.{sym, ap, ◌∙◌, subst, arith}
+use Rattle.std.proofs.Common.{ap, ◌∙◌}
 use Rattle.table.specs.Field.{State, Known, OfPlace, Incarnation, LiveCount, StableCount}
 use Rattle.table.specs.Change.{put, put_part, clear_places}
 use Rattle.table.specs.Words.{state, words}
@@ -9,17 +9,13 @@ use Rattle.table.specs.Numbering.{number_of, last_live}
 use Rattle.rules.specs.Limits.{last_number}
 use Rattle.rules.specs.Vector.{Vector, pair, place_vector, filtered}
 use Rattle.rules.specs.Shared.{place_record, new_vector, placed, entered, restarted, capped, drop_held, start_anew, causes, removed}
-use Rattle.laws.specs.Facts.{Near}
 use Rattle.laws.specs.Agree.{agree_drop_held, agree_entered}
 use Rattle.laws.specs.Chain.{Counts, counts_words, counts_capped, counts_restarted, Starts, starts_words, starts_causes}
 use Rattle.laws.specs.Kept.{then_capped, then_start}
 use Rattle.removal.specs.Dropping.{Sent}
 use Rattle.restart.specs.Sent.{begun_sent}
 
--- the kept vector is near, and the new one is made of it
-pub kept_near : (σ : State) (c k : ℕ) (v : Vector) → Starts σ c k → v ≡ place_vector σ c (k - 1) → Near v
-kept_near σ c k v s e = subst Near (sym e) (s.chain.near (k - 1) (omega (arith, s.kept, s.below)))
-
+-- the new vector is made of the kept one
 pub new_vector_is : (σ : State) (c k own x : ℕ) (v w : Vector) → v ≡ place_vector σ c (k - 1) → w ≡ filtered σ c v → own ≡ σ (Incarnation c) → x ≡ number_of σ c (k + 1) →
     set w c (pair (own + 1) x) ≡ new_vector σ c k
 unfolding new_vector
