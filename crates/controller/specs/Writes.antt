@@ -4,20 +4,16 @@ use Rattle.std.proofs.Common.{◌∙◌, arith, le-leb}
 use Rattle.std.proofs.lemmas.Bool.{lt-leb}
 use Rattle.base.specs.Cases.{none, hit, skip}
 use Rattle.base.specs.Lists.{length_tab}
-use Rattle.table.specs.Field.{Known, Size, StableCount}
+use Rattle.table.specs.Field.{Known, Size}
 use Rattle.table.specs.Layout.{controllers, incarnations, table_words, position}
 use Rattle.table.specs.Words.{state, words}
 use Rattle.table.proofs.Words.{words_state, fits_known, lent_part}
-use Rattle.rules.specs.Shared.{logged, checkpointed}
+use Rattle.rules.specs.Shared.{checkpointed}
 use Rattle.rules.specs.Refusal.{CONTROLLER}
 use Rattle.rules.specs.Steps.{checkpoint_refusals, step_checkpoint, told_row, told}
 use Rattle.rules.specs.Step.{out, written}
 use Rattle.rules.specs.declared.Answer.TheVariants.{Done, Refused}
 use Rattle.laws.specs.Answering.{refused, granted, leaves}
-
--- L, after the stable count was read
-pub writes_oldest : (t u : List ℕ) (c q n : ℕ) → n ≡ state t (StableCount c) → u ≡ words (logged (state t) c (n + q)) → u ≡ words (logged (state t) c (state t (StableCount c) + q))
-writes_oldest t u c q n e h = rw e at h
 
 -- T: the holder's row of the owner, from word a to word b, was lent and came back as what it is told
 pub writes_told : (t ys row : List ℕ) (owner holder a b : ℕ) → length t ≡ table_words → owner < controllers → holder < controllers → row ≡ told_row (state t) owner holder →

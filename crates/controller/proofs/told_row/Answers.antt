@@ -1,10 +1,7 @@
 use Rattle.rules.specs.Steps.{told_row}
-use Rattle.base.specs.Lists.{filled_none, filled_more, filled_done}
-use Rattle.std.proofs.Common.{max, refl, ap₂, ◌∙◌}
+use Rattle.base.specs.Lists.{filled_more, filled_done}
+use Rattle.std.proofs.Common.{max, ap₂, ◌∙◌}
 use Rattle.controller.proofs.told_row.Goals as goal
-
-pub loop-i-init : goal.loop-i-init
-loop-i-init c = filled_none 0 _ _ _ refl
 
 pub loop-i-preserved : goal.loop-i-preserved
 loop-i-preserved c = filled_more _ _ _ _ _ _ c.loop-i.invariant c.loop-i-test.true (c.max.ensures ∙ ap₂ max c.known-theirs.ensures c.known-own.ensures)
