@@ -1,6 +1,7 @@
 -- What the functions of a call count on, and what each return shows.
-use Rattle.std.specs.Prelude.{◌≡◌, false, List, ℕ, ◌+◌, ◌%◌, ◌≤◌, ◌<◌, length}
+use Rattle.std.specs.Prelude.{◌≡◌, true, false, List, ℕ, ◌+◌, ◌%◌, ◌≤◌, ◌<◌, length, None}
 use Rattle.std.proofs.Math.Path.{sym}
+use Rattle.std.specs.Array.{IsWholeChunk}
 use Rattle.std.proofs.Common.{ap, ◌∙◌, arith, eq-eqb, ne_eqb}
 use Rattle.table.specs.Field.{Size, Served, Receiver}
 use Rattle.table.specs.Change.{put}
@@ -20,7 +21,6 @@ use Rattle.rules.specs.declared.Prospect.{Prospect}
 use Rattle.laws.specs.Facts.{form, released_lt}
 use Rattle.laws.specs.Allowed.{MessageAllowed}
 use Rattle.laws.specs.Answering.{Lent, left_beside}
-use Rattle.dispatch.specs.declared.Candidate.{Candidate}
 use Rattle.dispatch.specs.Round.{Round, from_lt}
 use Rattle.dispatch.specs.Searching.{Serves, Chosen}
 
@@ -42,8 +42,8 @@ has_turn {t} {r} l a w ce =
     (from_lt w, omega (arith, released_lt f r a.record_used a.state_is, w.size_is), omega (arith, f.size_le, w.size_is))
 
 -- nobody is served
-pub call_none : {t : List ℕ} {n : ℕ} {b : Candidate} → Lent t → n ≡ state t Size → Chosen (state t) b → n ≤ b.turn → out Idle t ≡ written (dispatched house (state t))
-call_none {t} l e w h = rw (w.idle (omega arith)) (ap (out Idle) (words_state t l.long))
+pub call_none : {t : List ℕ} → Lent t → Chosen (state t) None → out Idle t ≡ written (dispatched house (state t))
+call_none {t} l w = rw w (ap (out Idle) (words_state t l.long))
 
 -- p has come of message m, in record r, and its receiver c was put
 pub call_served : (t : List ℕ) {u y : List ℕ} {m r c : ℕ} {p : Prospect} {a : Answer} → Serves (state t) r p → c ≡ state t (Receiver r) → m ≡ message_of (state t) r →
@@ -53,16 +53,17 @@ call_served t {u} {y} {m} {r} {c} {p} {a} w ce me o ye =
     let left : y ≡ words (put (comes_of (state t) m r p).left Served c) = then_put (comes_of (state t) m r p).left Served c (ap (λ (x : Out). x.table) o) ye in
     rw (w.call_is, ← ce, ← me, ← w.comes_is) (λ d. out (ap (λ (x : Out). x.answer) o d) (left d))
 
--- "1 length is not 15,152"; "2 table not in form"; and neither
-module _ (t g : List ℕ) where
-  pub too_short : (length t ≡ table_words → ⊥) → out_both (Refused LENGTH) t g ≡ step_call t g dispatch
-  unfolding step_call lent
-  too_short ne = rw (ne_eqb (length t) table_words ne)
+-- "1 length is not 15,152"; "2 table not in form"; and neither: the slice t, as the array u
+pub too_short : (t g : List ℕ) → (length t ≡ table_words → ⊥) → out_both (Refused LENGTH) t g ≡ step_call t g dispatch
+unfolding step_call lent
+too_short t g ne = rw (ne_eqb (length t) table_words ne)
 
-  pub out_of_form : length t ≡ table_words → in_form house (state t) ≡ false → out_both (Refused FORM) t g ≡ step_call t g dispatch
+module _ (t g u : List ℕ) (whole : IsWholeChunk t u table_words) where
+  pub out_of_form : in_form house (state u) ≡ false → out_both (Refused FORM) u g ≡ step_call t g dispatch
   unfolding step_call lent dispatch_on
-  out_of_form h e = rw (eq-eqb (length t) table_words h, e) (ap (λ u. out_both (Refused FORM) u g) (words_state t h))
+  out_of_form e =
+      rw (eq-eqb (length t) table_words whole.long, ← whole.same, e) (ap (λ u. out_both (Refused FORM) u g) (words_state u (ap length whole.same ∙ whole.long)))
 
-  pub answered : (a : Answer) (u : List ℕ) → Lent t → out a u ≡ written (dispatched house (state t)) → out_both a u g ≡ step_call t g dispatch
+  pub answered : (a : Answer) (y : List ℕ) → in_form house (state u) ≡ true → out a y ≡ written (dispatched house (state u)) → out_both a y g ≡ step_call t g dispatch
   unfolding step_call lent dispatch_on
-  answered a u l e = left_beside a u g _ e ∙ sym (rw (eq-eqb (length t) table_words l.long, l.good))
+  answered a y f e = left_beside a y g _ e ∙ sym (rw (eq-eqb (length t) table_words whole.long, ← whole.same, f))

@@ -1,33 +1,30 @@
 -- A test that fails leaves the candidate (best_later, best_waits); where both pass there is a new one (best_new).
-use Rattle.std.proofs.Common.{arith, ap, not}
+use Rattle.std.proofs.Common.{arith}
 use Rattle.rules.specs.Limits.{house}
 use Rattle.laws.specs.Facts.{form}
 use Rattle.laws.specs.Chain.{taken_there}
 use Rattle.dispatch.specs.Searching.{best_later, best_waits, best_new}
-use Rattle.dispatch.specs.Returns.{record_low, has_turn}
+use Rattle.dispatch.specs.Returns.{has_turn}
 use Rattle.dispatch.proofs.better.Goals as goal
-
-pub receiver-requires : goal.receiver-requires
-receiver-requires c = let a = c.requires in (a.0.long, record_low a.0 a.2.record_used)
 
 pub turn_of-i-requires : goal.turn_of-i-requires
 turn_of-i-requires c = let a = c.requires in has_turn a.0 a.2 a.1 c.receiver.ensures
 
-pub returns-then-best-i : goal.returns-then-best-i
-returns-then-best-i c =
+pub returns-then-turns_before-i : goal.returns-then-turns_before-i
+returns-then-turns_before-i c =
     let a = c.requires in
-    best_later a.3 a.1 c.receiver.ensures c.turn_of-i.ensures (omega (arith, c.if-best-i.true))
+    best_later a.3 a.1 c.receiver.ensures c.turn_of-i.ensures (omega (arith, c.if-turns_before-i.true, c.turns_before.ensures))
 
 pub prospect-p-requires : goal.prospect-p-requires
-prospect-p-requires c = let a = c.requires in (a.0.long, taken_there (form house _ a.0.good) a.2)
+prospect-p-requires c = let a = c.requires in taken_there (form house _ a.0.good) a.2
 
 pub returns-then-not-goes : goal.returns-then-not-goes
 returns-then-not-goes c =
     let a = c.requires in
-    best_waits a.3 a.1 c.receiver.ensures c.turn_of-i.ensures _ c.prospect-p.ensures _ c.goes.ensures (ap not c.if-not-goes.true)
+    best_waits a.3 a.1 c.receiver.ensures c.turn_of-i.ensures _ c.prospect-p.ensures _ c.goes.ensures c.if-not-goes.true
 
 pub returns : goal.returns
 returns c =
     let a = c.requires in
     best_new a.3 a.1 c.receiver.ensures c.turn_of-i.ensures _ c.prospect-p.ensures _ c.goes.ensures a.2
-    (omega (arith, c.if-best-i.false)) (ap not c.if-not-goes.false)
+    (omega (arith, c.if-turns_before-i.false, c.turns_before.ensures)) c.if-not-goes.false

@@ -6,11 +6,8 @@ use Rattle.dispatch.proofs.dispatch_formed.Goals as goal
 pub nonzero_rem-from : goal.nonzero_rem-from
 nonzero_rem-from c = omega (arith, some_size c.requires c.size-n.ensures)
 
-pub search-best-requires : goal.search-best-requires
-search-best-requires c = (c.requires, call_round c.requires c.size-n.ensures c.served.ensures)
+pub search-requires : goal.search-requires
+search-requires c = (c.requires, call_round c.requires c.size-n.ensures c.served.ensures)
 
-pub returns-then-n-best : goal.returns-then-n-best
-returns-then-n-best c = call_none c.requires c.size-n.ensures c.search-best.ensures c.if-n-best.true
-
-pub serve-requires : goal.serve-requires
-serve-requires c = (c.requires.long, c.search-best.ensures.serves (omega (arith, c.if-n-best.false, c.size-n.ensures)))
+pub returns-in_default : goal.returns-in_default
+returns-in_default c = call_none c.requires c.in_default.ensures

@@ -3,4 +3,4 @@ use Rattle.dispatch.specs.Returns.{call_served}
 use Rattle.dispatch.proofs.serve.Goals as goal
 
 pub returns : goal.returns
-returns c = call_served c.args.t.now c.requires.1 c.receiver-c.ensures c.message_of-m.ensures c.come_of-a.ensures c.set_served.ensures
+returns c = call_served c.args.t.now c.requires c.receiver-c.ensures c.message_of-m.ensures c.come_of-a.ensures c.set_served.ensures
