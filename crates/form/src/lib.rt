@@ -1,4 +1,5 @@
-// The check that a table is in form: every word in its range, record by record (crate `records`). It ends at the first record that isn't.
+// The check that a table is in form: every word in its range, record by record (crate `records`). It ends at the first
+// record that isn't.
 #![tactic(auto)]
 
 ghost use Rattle.std.specs.Prelude.{◌≡◌, true, ◌<◌};

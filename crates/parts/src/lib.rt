@@ -1,5 +1,6 @@
-// Whether parts of a record are in their ranges: a run of zeros, a pair, a vector, a known or end word, a message's state. No branch on a
-// word that is tested, so that several are looked at in one go; a long run branches after each block.
+// Whether parts of a record are in their ranges: a run of zeros, a pair, a vector, a known or end word, a message's
+// state. No branch on a word that is tested, so that several are looked at in one go; a long run branches after each
+// block.
 #![tactic(auto)]
 
 ghost use Rattle.std.specs.Prelude.{◌≡◌, cond, ◌+◌, ◌*◌, ◌≤◌, length};
@@ -59,7 +60,8 @@ pub fn bound(there: bool, most: u32) -> u32
     if there { most } else { 0 }
 }
 
-// The pair of `owner`, with incarnation i and number x. One test whether or not the owner is there, so that all pairs of a vector go together.
+// The pair of `owner`, with incarnation i and number x. One test whether or not the owner is there, so that all pairs
+// of a vector go together.
 pub fn pair_ok(n: u32, owner: usize, i: u32, x: u32) -> bool
     ensures { result ≡ pair_ok house n owner (pair i x) }
 {

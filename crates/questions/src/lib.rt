@@ -12,7 +12,8 @@ ghost use Rattle.questions.specs.Numbers.{formed, unformed, form_number, checkpo
 
 use table::Table;
 
-// Whether the table has its length and is in form. The head is looked at here: a table that was never opened needs no further call.
+// Whether the table has its length and is in form. The head is looked at here: a table that was never opened needs no
+// further call.
 pub fn is_formed(t: &[u32]) -> bool
     ensures { cond result formed unformed ≡ form_number t.now }
 {
@@ -22,8 +23,8 @@ pub fn is_formed(t: &[u32]) -> bool
     }
 }
 
-// Whether the newest live interval of a controller is a checkpoint. Its place is told by the live count, a word like any other: the
-// form of the table is looked at first.
+// Whether the newest live interval of a controller is a checkpoint. Its place is told by the live count, a word like
+// any other: the form of the table is looked at first.
 pub fn is_checkpoint(t: &[u32], controller: u32) -> bool
     ensures { cond result checkpoint no_checkpoint ≡ checkpoint_number t.now controller }
 {

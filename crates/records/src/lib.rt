@@ -1,5 +1,5 @@
-// Whether the words of one record are in their ranges: the head's, a controller's, a row of known and end words, a place's, a message's. No
-// branch on a word that is tested, as in the parts.
+// Whether the words of one record are in their ranges: the head's, a controller's, a row of known and end words, a
+// place's, a message's. No branch on a word that is tested, as in the parts.
 #![tactic(auto)]
 
 ghost use Rattle.std.specs.Prelude.{◌≡◌, ◌<◌};

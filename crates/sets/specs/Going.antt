@@ -1,4 +1,5 @@
--- The messages of a set going out one after the other, on the words of the table: each is on the way what it was at the start.
+-- The messages of a set going out one after the other, on the words of the table: each is on the way what it was at the
+-- start.
 use Rattle.std.specs.Prelude.{◌≡◌, refl, List, [], ◌∷◌, ◌≢◌, ℕ, suc, ◌+◌, ◌≤◌, ◌<◌, length, ◌==◌}
 use Rattle.std.proofs.Common.{sym, ◌∙◌, add-one, arith}
 use Rattle.std.proofs.Math.Path.{ap, subst}
@@ -24,7 +25,8 @@ use Rattle.laws.specs.Releasing.{agree_gone}
 use Rattle.laws.specs.Sets.{outs_message, outs_numbers, Entered, entries, desks_le}
 use Rattle.sets.specs.Ready.{Ready, Passed}
 
--- what a message that goes out asks for: its table and its record, the ledger, and room in that where it is for the desk
+-- what a message that goes out asks for: its table and its record, the ledger, and room in that where it is for the
+-- desk
 pub record Asks (t g : List ℕ) (m : ℕ) : Type 0 where
   pub long : length t ≡ table_words
   pub ready : Ready (state t) m

@@ -103,7 +103,8 @@ fn many_senders(t: &Table, list: &[u32]) -> bool
     false
 }
 
-// What refuses a set. A wrong length and a message named twice are one case, the length first: of a longer list no two are compared.
+// What refuses a set. A wrong length and a message named twice are one case, the length first: of a longer list no two
+// are compared.
 fn check_set(t: &Table, g: &[u32], list: &[u32]) -> Result<(), Refusal>
     requires { Lent t.now }
     ensures { refusal_of result ≡ first_of (set_refusals house (state t.now) g.now list.now) }
@@ -138,7 +139,8 @@ fn own_of(t: &Table, m: u32) -> vector::Vector
     release::own_vector(t, r)
 }
 
-// The union of the masks. It is the mask of the filtered vectors merged, since a merged pair is empty just where both are.
+// The union of the masks. It is the mask of the filtered vectors merged, since a merged pair is empty just where both
+// are.
 fn union_of(t: &Table, list: &[u32]) -> u32
     requires { Listed t.now list.now }
     ensures { result ≡ union (state t.now) list.now }

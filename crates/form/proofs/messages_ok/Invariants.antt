@@ -1,4 +1,5 @@
--- All sent messages before r have passed, or the first that doesn't settles the answer (allb_next, allb_stops); the rest is one run of zeros (all_messages).
+-- All sent messages before r have passed, or the first that doesn't settles the answer (allb_next, allb_stops); the
+-- rest is one run of zeros (all_messages).
 use Rattle.base.specs.Ranges.{allb}
 use Rattle.table.specs.Words.{state}
 use Rattle.rules.specs.Limits.{house}

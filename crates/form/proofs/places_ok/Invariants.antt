@@ -1,4 +1,5 @@
--- All live places before p have passed, or the first that doesn't settles the answer (allb_next, allb_stops); the rest is one run of zeros (all_places).
+-- All live places before p have passed, or the first that doesn't settles the answer (allb_next, allb_stops); the rest
+-- is one run of zeros (all_places).
 use Rattle.base.specs.Ranges.{allb}
 use Rattle.table.specs.Words.{state}
 use Rattle.rules.specs.Limits.{house}

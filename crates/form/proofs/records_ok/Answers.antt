@@ -1,4 +1,5 @@
--- The tests are those of the definition, in its order; each call promises its own, and the first that fails settles the answer.
+-- The tests are those of the definition, in its order; each call promises its own, and the first that fails settles the
+-- answer.
 use Rattle.base.specs.Cases.{all_of, failed}
 use Rattle.rules.specs.Form.{in_form}
 use Rattle.std.proofs.Common.{sym, ◌∙◌}

@@ -1,4 +1,5 @@
--- The bounds are those of the definition where the owner is there; where it isn't, at most 0 is 0, and the last test passes.
+-- The bounds are those of the definition where the owner is there; where it isn't, at most 0 is 0, and the last test
+-- passes.
 use Rattle.std.proofs.Common.{◌≡◌, refl, sym, ap, ◌∙◌, Bool, true, false, cond, ◌&&◌, ◌||◌, ℕ, arith, le-leb, eq-eqb, ne_eqb, ◌==◌}
 use mathlib.Core.Bool.{and-true, and-false, or-true}
 use Rattle.base.specs.Choice.{◌≤?◌, ◌<?◌, le?}

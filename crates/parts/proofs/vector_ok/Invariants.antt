@@ -1,4 +1,5 @@
--- The flag gathers the tests of the pairs before `owner`; a pair read from the words is that of the vector there (pair_at_lem).
+-- The flag gathers the tests of the pairs before `owner`; a pair read from the words is that of the vector there
+-- (pair_at_lem).
 use Rattle.vector.specs.At.{vector_at}
 use Rattle.base.specs.Ranges.{allb}
 use Rattle.rules.specs.Limits.{house}

@@ -1,4 +1,5 @@
--- The tests are those of the definition: the length, and then the form, of which a head that isn't in form settles the answer.
+-- The tests are those of the definition: the length, and then the form, of which a head that isn't in form settles the
+-- answer.
 use Rattle.questions.specs.Numbers.{form_number}
 use Rattle.laws.specs.Facts.{no_head}
 use Rattle.std.proofs.Common.{sym, ◌∙◌, eq-eqb, ne_eqb}

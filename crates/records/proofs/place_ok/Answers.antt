@@ -1,4 +1,5 @@
--- Each branch computes what the definition names there; vector and zeros stand together (place_vector_lem, zeros_place).
+-- Each branch computes what the definition names there; vector and zeros stand together (place_vector_lem,
+-- zeros_place).
 use Rattle.base.specs.Cases.{all_of}
 use Rattle.rules.specs.Limits.{house}
 use Rattle.rules.specs.Form.{vector_ok, place_ok}

@@ -1,4 +1,5 @@
--- The number is that of the messages before m that are for the desk (desks_more); there are no more of them than messages (desks_fit).
+-- The number is that of the messages before m that are for the desk (desks_more); there are no more of them than
+-- messages (desks_fit).
 use Rattle.table.specs.Words.{state}
 use Rattle.rules.specs.Sets.{desks}
 use Rattle.std.proofs.Common.{◌≡◌}

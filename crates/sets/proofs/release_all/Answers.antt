@@ -1,4 +1,5 @@
--- The calls have found the union, how many are for the desk, and whether the set may go (Found); the three cases are those of the rule.
+-- The calls have found the union, how many are for the desk, and whether the set may go (Found); the three cases are
+-- those of the rule.
 use Rattle.sets.specs.Reading.{desks_bound}
 use Rattle.sets.specs.Returns.{Found, held, used_up, all_go, room}
 use Rattle.table.specs.Words.{state}
