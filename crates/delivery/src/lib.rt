@@ -108,6 +108,6 @@ pub fn deliver(t: &mut Table, m: u32) -> Result<Answer, Refusal>
     ensures { out (answer_of result) t.new ≡ written (step_deliver house (state t.old) m) }
 {
     let r = table::find_record(t, m);
-    message::check_message(t, r, Status::Released)?;
+    message::check_message(t, r, Status::Released as u32)?;
     deliver_record(t, m, r)
 }

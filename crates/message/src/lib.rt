@@ -24,7 +24,7 @@ use rules::{Answer, Refusal};
 use table::{Status, Table, layout};
 
 // The words of a message record, lent from inside the table.
-pub fn write_message(
+fn write_message(
     d: &mut [u32],
     state: Status,
     sender: u32,
@@ -137,14 +137,14 @@ pub fn send(t: &mut Table, sender: u32, receiver: u32, payload: u32) -> Result<A
 }
 
 // What refuses a step on the message in record r, which must be in the wanted state.
-pub fn check_message(t: &Table, r: usize, wanted: Status) -> Result<(), Refusal>
+pub fn check_message(t: &Table, r: usize, wanted: u32) -> Result<(), Refusal>
     requires { Lent t.now }
-    ensures { refusal_of result ≡ first_of (message_refusals (state t.now) r (word wanted)) }
+    ensures { refusal_of result ≡ first_of (message_refusals (state t.now) r wanted) }
 {
     if table::records_used(t) as usize <= r {
         return Err(Refusal::Message);
     }
-    if table::message_state(t, r) != u32::from(wanted) {
+    if table::message_state(t, r) != wanted {
         return Err(Refusal::State);
     }
     Ok(())

@@ -46,7 +46,7 @@ pub fn store_vector(t: &mut Table, r: usize, v: vector::Vector)
 }
 
 // The message in record r goes out with the vector v, and has the state st.
-pub fn let_out(t: &mut Table, r: usize, v: vector::Vector, st: Status)
+fn let_out(t: &mut Table, r: usize, v: vector::Vector, st: Status)
     requires { r < messages }
     ensures { t.new ≡ words (let_out (state t.old) r v (word st)) }
 {
@@ -122,7 +122,7 @@ pub fn check_release(t: &Table, g: &[u32], r: usize) -> Result<(), Refusal>
     if !ledger::is_sound(g) {
         return Err(Refusal::Ledger);
     }
-    message::check_message(t, r, Status::Held)
+    message::check_message(t, r, Status::Held as u32)
 }
 
 // R m, on a table in form.

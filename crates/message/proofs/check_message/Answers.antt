@@ -12,10 +12,10 @@ returns-then-records_used-r c = rw (← c.records_used.ensures, le-leb _ _ c.if-
 pub message_state-requires : goal.message_state-requires
 message_state-requires c = search record_there
 
-pub returns-then-message_state-from : goal.returns-then-message_state-from
+pub returns-then-message_state-wanted : goal.returns-then-message_state-wanted
 unfolding first_of
-returns-then-message_state-from c = rw (← c.records_used.ensures, lt-leb _ _ c.if-records_used-r.false, ← c.message_state.ensures, ← c.from.ensures, ne_eqb _ _ c.if-message_state-from.true)
+returns-then-message_state-wanted c = rw (← c.records_used.ensures, lt-leb _ _ c.if-records_used-r.false, ← c.message_state.ensures, ne_eqb _ _ c.if-message_state-wanted.true)
 
 pub returns : goal.returns
 unfolding first_of
-returns c = rw (← c.records_used.ensures, lt-leb _ _ c.if-records_used-r.false, ← c.message_state.ensures, ← c.from.ensures, eq-eqb _ _ c.if-message_state-from.false)
+returns c = rw (← c.records_used.ensures, lt-leb _ _ c.if-records_used-r.false, ← c.message_state.ensures, eq-eqb _ _ c.if-message_state-wanted.false)
