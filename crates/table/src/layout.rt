@@ -1,4 +1,4 @@
-// The lent table's positions, sizes, limits and states by name: the only word positions in the code. The definitions have the same
+// The lent table's positions, sizes and limits by name: the only word positions in the code. The definitions have the same
 // numbers in specs/Layout.antt; every contract over the table ties the two.
 
 // How many there are of each.
@@ -55,17 +55,6 @@ pub const LAST_SERVED: u32 = 7;
 
 // The receiver that is no controller: the desk.
 pub const DESK: u32 = 8;
-
-// States of a message. 0 is unused; 4, lost, is in form, but no step gives it.
-pub const HELD: u32 = 1;
-
-pub const RELEASED: u32 = 2;
-
-pub const DELIVERED: u32 = 3;
-
-pub const DROPPED: u32 = 5;
-
-pub const PUBLISHED: u32 = 6;
 
 // The head.
 pub const SIZE: usize = 0;
