@@ -1,5 +1,5 @@
--- The walks along a chain: up to the lowest condemned place, with the number of the latest checkpoint as a running figure (H), and
--- down to the latest checkpoint (X).
+-- The walks along a chain: up to the lowest condemned place, with the number of the latest checkpoint as a running
+-- figure (H), and down to the latest checkpoint (X).
 use Rattle.std.specs.Prelude.{◌≡◌, refl, Bool, true, false, List, ℕ, ◌+◌, ◌-◌, ◌≤◌, ◌<◌}
 use Rattle.std.proofs.Math.Path.{sym}
 use Rattle.std.proofs.Common.{ap, ◌∙◌, subst, add-one, arith, eq-eqb, ne_eqb}
@@ -15,9 +15,9 @@ use Rattle.rules.specs.Steps.{lowest_condemned}
 use Rattle.laws.specs.Found.{Highest, highest, highest_only}
 use Rattle.laws.specs.Chain.{Chain}
 
--- The walk of H along the hearer's `live` intervals has come to place p, with `flagged` as its running figure. W3: "At each place the
--- walk comes to, it is proved that no earlier place above 0 holds a condemned entry, and that the figure is the highest flagged number
--- below this place."
+-- The walk of H along the hearer's `live` intervals has come to place p, with `flagged` as its running figure. W3: "At
+-- each place the walk comes to, it is proved that no earlier place above 0 holds a condemned entry, and that the figure
+-- is the highest flagged number below this place."
 pub record Come (t : List ℕ) (hearer live flagged p : ℕ) : Type 0 where
   -- "no earlier place above 0 holds a condemned entry"
   pub clean : (q : ℕ) → q < p → 1 ≤ q → condemned (state t) hearer (place_vector (state t) hearer q) ≡ false

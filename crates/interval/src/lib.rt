@@ -1,4 +1,5 @@
-// The places of a controller's chain: writing an interval record, freeing places, the latest checkpoint, and the walk of H.
+// The places of a controller's chain: writing an interval record, freeing places, the latest checkpoint, and the walk
+// of H.
 #![tactic(auto)]
 
 ghost use Rattle.std.specs.Prelude.{◌≡◌, ◌+◌, ◌≤◌, ◌<◌, length};
@@ -66,8 +67,8 @@ pub fn clear_places(t: &mut Table, c: usize, p: usize, q: usize)
     clear(&mut t[from..to]);
 }
 
-// Whether no place is left for an interval after the k-th of c. It asks what the number of that interval needs, though it doesn't make
-// it yet.
+// Whether no place is left for an interval after the k-th of c. It asks what the number of that interval needs, though
+// it doesn't make it yet.
 pub fn no_place(t: &Table, c: usize, k: u32) -> bool
     requires { (c < controllers) × (k ≤ places) × (last_live (state t.now) c ≤ last_number) }
     ensures { result ≡ no_place house (state t.now) c k }
@@ -107,8 +108,9 @@ pub struct Stop {
     pub flagged: u32,
 }
 
-// The walk of H upwards: to the lowest place above 0 whose vector holds a condemned entry, or past the last live one. The figure
-// begins as that of place 0 alone. What holds at each place that the walk comes to is `Come` in specs/Walks.antt.
+// The walk of H upwards: to the lowest place above 0 whose vector holds a condemned entry, or past the last live one.
+// The figure begins as that of place 0 alone. What holds at each place that the walk comes to is `Come` in
+// specs/Walks.antt.
 pub fn lowest_condemned(t: &Table, hearer: usize) -> Stop
     requires { Chain (state t.now) hearer }
     ensures { (result.place ≡ lowest_condemned (state t.now) hearer) × (result.flagged ≡ latest_flagged (state t.now) hearer result.place) }

@@ -1,5 +1,5 @@
--- The places from q on and below k are not flagged, so that the answer for k is that for q. Numbers of c are bounded, so that this
--- one fits (number_fits).
+-- The places from q on and below k are not flagged, so that the answer for k is that for q. Numbers of c are bounded,
+-- so that this one fits (number_fits).
 use Rattle.table.specs.Words.{state}
 use Rattle.rules.specs.Shared.{latest_flagged}
 use Rattle.std.proofs.Common.{◌≡◌}

@@ -1,5 +1,5 @@
--- At place p none below it holds a condemned entry, and the figure is the highest flagged number below it (Come); at each owner
--- none before it condemns p (Judged).
+-- At place p none below it holds a condemned entry, and the figure is the highest flagged number below it (Come); at
+-- each owner none before it condemns p (Judged).
 use Rattle.interval.specs.Walks.{Come, Judged}
 use Rattle.std.proofs.Common.{◌-◌}
 use Rattle.interval.proofs.lowest_condemned.Given as goal
