@@ -15,7 +15,8 @@ ghost use Rattle.removal.specs.Dropping.{Sent};
 
 use table::{Status, Table, layout};
 
-// The state of the cause in record r of an interval that c lost or undid: it is offered again, unless it is condemned to c.
+// The state of the cause in record r of an interval that c lost or undid: it is offered again, unless it is condemned
+// to c.
 pub fn fate_of(t: &Table, c: usize, r: usize) -> Status
     requires { Chain (state t.now) c × (r < messages) }
     ensures { word result ≡ offered_again (state t.now) c r }

@@ -1,5 +1,5 @@
--- The cause's record gets its state (settle_write); where it can be no cause no word is written (settle_keep). One that can be stands in a record of the table
--- (causing_there).
+-- The cause's record gets its state (settle_write); where it can be no cause no word is written (settle_keep). One that
+-- can be stands in a record of the table (causing_there).
 use Rattle.std.proofs.Common.{rules}
 use Rattle.removal.specs.Settling.{settle_write, settle_keep, causing_there}
 use Rattle.removal.proofs.settle_cause.Goals as goal

@@ -1,4 +1,5 @@
--- Before place p the causes of the places from k on and below p have their states (Walk), and no other word has changed.
+-- Before place p the causes of the places from k on and below p have their states (Walk), and no other word has
+-- changed.
 use Rattle.table.specs.Words.{state}
 use Rattle.removal.specs.Settling.{Walk}
 use Rattle.removal.proofs.settle_causes.Given as goal
