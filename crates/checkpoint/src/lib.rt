@@ -58,8 +58,8 @@ pub fn replay(t: &Table, c: usize, k: u32) -> u32
     x - flagged
 }
 
-// Whether the newest interval of c stands the gap or more above the latest checkpoint. A gap of 0 is off, and the chain is not
-// looked at.
+// Whether the newest interval of c stands the gap or more above the latest checkpoint. A gap of 0 is off, and the chain
+// is not looked at.
 pub fn forced(t: &Table, c: usize) -> bool
     requires { Counts (state t.now) c }
     ensures { result ≡ forced (state t.now) c }

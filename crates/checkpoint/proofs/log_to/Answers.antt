@@ -1,4 +1,5 @@
--- Numbers of c are bounded, so that this one fits (number_fits). Two words are put, with what was read before (writes_logged).
+-- Numbers of c are bounded, so that this one fits (number_fits). Two words are put, with what was read before
+-- (writes_logged).
 use Rattle.laws.specs.Numbers.{number_fits}
 use Rattle.checkpoint.specs.Writes.{writes_logged}
 use Rattle.std.proofs.Common.{rules}

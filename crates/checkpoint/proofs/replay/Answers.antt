@@ -1,5 +1,5 @@
--- Numbers of c are bounded, so that this one fits (number_fits). The latest checkpoint has a number of the first k places
--- (flagged_le), so that the difference is the one of the definition.
+-- Numbers of c are bounded, so that this one fits (number_fits). The latest checkpoint has a number of the first k
+-- places (flagged_le), so that the difference is the one of the definition.
 use Rattle.std.proofs.Common.{arith, rules}
 use Rattle.table.specs.Words.{state}
 use Rattle.laws.specs.Numbers.{number_fits}
