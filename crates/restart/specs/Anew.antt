@@ -41,7 +41,8 @@ begins t t₁ t₂ c k own x v eo ex ev e₁ e₂ =
     called (λ σ. entered σ c (k + 1) (own + 1) x) _ e₁ e₂ (agree_entered _ _ (agree_words _ e₁) c (k + 1) refl refl)
     ∙ (λ d. words (entered (placed (state t) c k (eo d + 1) (ex d) (ev d)) c (k + 1) (eo d + 1) (ex d)))
 
--- the new incarnation has begun: the start has its counts, was checkpointed, if that was due, and held messages were dropped in the records in use
+-- the new incarnation has begun: the start has its counts, was checkpointed, if that was due, and held messages were
+-- dropped in the records in use
 module _ (t t₁ : List ℕ) (c k : ℕ) (s : Starts (state t) c k) (e₁ : t₁ ≡ words (restarted (state t) c k)) where
   pub begun_counts : Counts (state t₁) c
   begun_counts = counts_words _ c e₁ (counts_restarted (state t) c k s)
