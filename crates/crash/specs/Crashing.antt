@@ -21,8 +21,8 @@ use Rattle.laws.specs.Answering.{Lent, granted}
 use Rattle.laws.specs.Chain.{Chain, chain_of_lem, Starts, starts_put, starts_words}
 use Rattle.laws.specs.Kept.{then_removed}
 
--- The code has read n, how many controllers there are, k, the stable count, whether a place is left after that, and i, the incarnation:
--- which refusal applies.
+-- The code has read n, how many controllers there are, k, the stable count, whether a place is left after that, and i,
+-- the incarnation: which refusal applies.
 module _ (t : List ℕ) (c n : ℕ) (en : n ≡ state t Size) where
   abbrev cases : List Case
   cases = crash_refusals house (state t) c

@@ -33,7 +33,8 @@ pub fn check_crash(t: &Table, c: u32) -> Result<(), Refusal>
     Ok(())
 }
 
-// The intervals of c that are not stable are lost. c's own end word is written first: their causes are judged by it too.
+// The intervals of c that are not stable are lost. c's own end word is written first: their causes are judged by it
+// too.
 pub fn lose(t: &mut Table, c: usize)
     requires { Starts (state t.old) c (state t.old (StableCount c)) }
     ensures { t.new ≡ words (crashed (state t.old) c) }

@@ -1,5 +1,5 @@
--- There is room, so that the number fits (room_fits). The answer's numbers are read before the words change, and these are those of
--- the rule (crash_done).
+-- There is room, so that the number fits (room_fits). The answer's numbers are read before the words change, and these
+-- are those of the rule (crash_done).
 use Rattle.std.proofs.Common.{arith}
 use Rattle.laws.specs.Numbers.{room_fits}
 use Rattle.crash.specs.Crashing.{crash_done}

@@ -1,5 +1,5 @@
--- There is room, so that the number fits (room_fits). The end word is that of the rule, and the intervals are removed on a table
--- with it (lost_words).
+-- There is room, so that the number fits (room_fits). The end word is that of the rule, and the intervals are removed
+-- on a table with it (lost_words).
 use Rattle.std.proofs.Common.{arith}
 use Rattle.laws.specs.Numbers.{room_fits}
 use Rattle.crash.specs.Crashing.{lost_starts, lost_words}
