@@ -24,7 +24,8 @@ module _ (t t₁ : List ℕ) (hearer j k : ℕ) (s : Starts (state t) hearer k) 
   unfolding rolled_back
   undone_words t₂ all e₂ = then_removed _ hearer k kept_starts e₁ e₂ ∙ ap (λ j. words (removed (logged_to (state t) hearer j) hearer k)) all
 
--- what is answered and left where the intervals of the hearer from place k on are undone, for the crash of the owner's incarnation i
+-- what is answered and left where the intervals of the hearer from place k on are undone, for the crash of the owner's
+-- incarnation i
 abbrev pub undoing : State → ℕ → ℕ → ℕ → ℕ → After
 undoing σ hearer owner i k = after (Rolled hearer (number_of σ hearer k) (σ (LiveCount hearer) - k) (replayed σ hearer k) owner i) (rolled_back σ hearer k)
 

@@ -28,8 +28,8 @@ pub fn roll_back(t: &mut Table, hearer: usize, k: u32)
     restart::remove_intervals(t, hearer, k);
 }
 
-// The same, with the answer to it, which names the crash of the owner's incarnation i; `flagged` is the number of the latest
-// checkpoint that is kept.
+// The same, with the answer to it, which names the crash of the owner's incarnation i; `flagged` is the number of the
+// latest checkpoint that is kept.
 pub fn undo(t: &mut Table, hearer: usize, owner: usize, i: usize, k: u32, flagged: u32) -> Answer
     requires { Starts (state t.old) hearer k × (flagged ≡ latest_flagged (state t.old) hearer k) × (owner < controllers) × (i < incarnations) }
     ensures { out result t.new ≡ written (undoing (state t.old) hearer owner i k) }

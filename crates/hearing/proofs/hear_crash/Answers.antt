@@ -1,5 +1,5 @@
--- On the noted table the walk finds the place that the rule names: none (hear_none), one too late (hear_late), or one from which
--- on intervals are undone (hear_undone); its figure is the one that `undo` asks for.
+-- On the noted table the walk finds the place that the rule names: none (hear_none), one too late (hear_late), or one
+-- from which on intervals are undone (hear_undone); its figure is the one that `undo` asks for.
 use Rattle.hearing.specs.Hearing.{Walked, heard_chain, hear_none, hear_late, hear_starts, hear_undone}
 use Rattle.hearing.proofs.hear_crash.Goals as goal
 use Rattle.hearing.proofs.hear_crash.Goals.{After-lowest_condemned-stop}

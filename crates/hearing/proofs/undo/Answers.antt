@@ -1,5 +1,6 @@
--- There is room, so that the number fits (room_fits). The answer's numbers are read before the words change (undo_done); the latest
--- checkpoint has a number of the kept intervals (flagged_le), so that the difference is the one of the definition (replay_is).
+-- There is room, so that the number fits (room_fits). The answer's numbers are read before the words change
+-- (undo_done); the latest checkpoint has a number of the kept intervals (flagged_le), so that the difference is the one
+-- of the definition (replay_is).
 use Rattle.std.proofs.Common.{arith}
 use Rattle.laws.specs.Numbers.{room_fits}
 use Rattle.table.specs.Words.{state}
