@@ -88,8 +88,8 @@ pub fn checkpoint(t: &mut Table, c: u32) -> Result<Answer, Refusal>
     }
 }
 
-// What the holder knows of the owner once the owner has told it: for each incarnation the larger of the holder's word and
-// the owner's own.
+// What the holder knows of the owner once the owner has told it: for each incarnation the larger of the holder's word
+// and the owner's own.
 pub fn told_row(t: &Table, owner: usize, holder: usize) -> [u32; layout::INCARNATIONS]
     requires { (owner < controllers) × (holder < controllers) }
     ensures { result ≡ told_row (state t.now) owner holder }

@@ -1,4 +1,5 @@
--- The tests stand in the order of the cases; what was read is put for the words, and each test has its outcome. A controller of the house has its words (sized_named, sized_stable).
+-- The tests stand in the order of the cases; what was read is put for the words, and each test has its outcome. A
+-- controller of the house has its words (sized_named, sized_stable).
 use Rattle.base.specs.Cases.{first_of}
 use Rattle.std.proofs.Common.{le-leb}
 use borrow.Author.Tests.{lt-leb}
