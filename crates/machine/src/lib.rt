@@ -22,6 +22,7 @@ pub fn looks_at_form(x: Command) -> bool
 
 // A step after the host's refusals of the table, which is in form where the step looks at that. Only the opening and the
 // release look at the ledger.
+#[tactic(auto, using(laws::specs::Answering::by_command, laws::specs::Answering::left_beside, laws::specs::Answering::lent_as), unfolding(rules::specs::Step::perform))]
 pub fn perform(t: &mut Table, g: &mut [u32], x: Command) -> Result<Answer, Refusal>
     requires { LentFor t.old x }
     ensures { out_both (answer_of result) t.new g.new ≡ written_both (perform house (state t.old) g.old x) }
