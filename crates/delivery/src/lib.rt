@@ -29,7 +29,7 @@ pub fn add_interval(t: &mut Table, c: usize, m: u32, r: usize, v: vector::Vector
     w[c] = [i, x];
     interval::write_place(t, c, live as usize, i, x, m, 0, w);
     table::set_live_count(t, c, live + 1);
-    table::set_message_state(t, r, Status::Delivered);
+    table::set_message_state(t, r, Status::Delivered as u32);
 }
 
 // This new interval begins, and is checkpointed if the gap asks for it.
@@ -85,7 +85,7 @@ pub fn come_of(t: &mut Table, m: u32, r: usize, p: Prospect) -> Result<Answer, R
 {
     match p {
         Prospect::WouldDrop(owner, i) => {
-            table::set_message_state(t, r, Status::Dropped);
+            table::set_message_state(t, r, Status::Dropped as u32);
             Ok(Answer::Dropped(m, owner, i))
         }
         Prospect::WouldWait => Ok(Answer::Waits(m)),

@@ -7,7 +7,6 @@ ghost use Rattle.table.specs.Field.{OfMessage};
 ghost use Rattle.table.specs.Change.{put_part};
 ghost use Rattle.table.specs.Layout.{messages, message_words};
 ghost use Rattle.table.specs.Words.{state, words};
-ghost use Rattle.table.specs.Status.{word};
 ghost use Rattle.table.specs.Numbering.{used, next_message};
 ghost use Rattle.rules.specs.Limits.{house};
 ghost use Rattle.rules.specs.Vector.{place_vector, filtered};
@@ -24,9 +23,9 @@ use rules::{Answer, Refusal};
 use table::{Status, Table, layout};
 
 // The words of a message record, lent from inside the table.
-fn write_message(
+pub fn write_message(
     d: &mut [u32],
-    state: Status,
+    state: u32,
     sender: u32,
     receiver: u32,
     i: u32,
@@ -35,9 +34,9 @@ fn write_message(
     v: vector::Vector,
 )
     requires { length d.old ≡ message_words }
-    ensures { d.new ≡ message_record (word state) sender receiver i x payload v }
+    ensures { d.new ≡ message_record state sender receiver i x payload v }
 {
-    d[layout::STATE_WORD] = u32::from(state);
+    d[layout::STATE_WORD] = state;
     d[layout::SENDER_WORD] = sender;
     d[layout::RECEIVER_WORD] = receiver;
     d[layout::SENDING_INCARNATION_WORD] = i;
@@ -66,7 +65,7 @@ pub fn write_held(
     let to = from + layout::MESSAGE_WORDS;
     write_message(
         &mut t[from..to],
-        Status::Held,
+        Status::Held as u32,
         sender,
         receiver,
         i,

@@ -9,7 +9,6 @@ ghost use Rattle.table.specs.Field.{OfMessage, message_head};
 ghost use Rattle.table.specs.Change.{put_part};
 ghost use Rattle.table.specs.Layout.{messages};
 ghost use Rattle.table.specs.Words.{state, words};
-ghost use Rattle.table.specs.Status.{word};
 ghost use Rattle.rules.specs.Limits.{house, last_entry};
 ghost use Rattle.rules.specs.Vector.{flat};
 ghost use Rattle.rules.specs.Form.{state_published, for_desk};
@@ -46,9 +45,9 @@ pub fn store_vector(t: &mut Table, r: usize, v: vector::Vector)
 }
 
 // The message in record r goes out with the vector v, and has the state st.
-fn let_out(t: &mut Table, r: usize, v: vector::Vector, st: Status)
+pub fn let_out(t: &mut Table, r: usize, v: vector::Vector, st: u32)
     requires { r < messages }
-    ensures { t.new ≡ words (let_out (state t.old) r v (word st)) }
+    ensures { t.new ≡ words (let_out (state t.old) r v st) }
 {
     store_vector(t, r, v);
     table::set_message_state(t, r, st);
@@ -60,7 +59,7 @@ pub fn publish(t: &mut Table, g: &mut Ledger, m: u32, r: usize, v: vector::Vecto
     ensures { (t.new ≡ words (let_out (state t.old) r v state_published)) × (g.new ≡ appended g.old (entry_of (state t.old) m r)) }
 {
     let payload = table::payload(t, r);
-    let_out(t, r, v, Status::Published);
+    let_out(t, r, v, Status::Published as u32);
     ledger::append(g, m, payload);
 }
 
@@ -73,7 +72,7 @@ pub fn go_out(t: &mut Table, g: &mut Ledger, m: u32, r: usize, v: vector::Vector
         publish(t, g, m, r, v);
         return;
     }
-    let_out(t, r, v, Status::Released);
+    let_out(t, r, v, Status::Released as u32);
 }
 
 // Whether the message in record r may go out with this mask.

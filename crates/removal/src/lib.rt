@@ -49,7 +49,7 @@ pub fn settle_cause(t: &mut Table, c: usize, p: usize)
     let r = table::find_record(t, m);
     if causing(t, r) {
         let s = fate_of(t, c, r);
-        table::set_message_state(t, r, s);
+        table::set_message_state(t, r, u32::from(s));
     }
 }
 
@@ -79,7 +79,7 @@ pub fn drop_one(t: &mut Table, c: usize, x: u32, r: usize)
     ensures { t.new ≡ words (put (state t.old) (MessageState r) (held_or_dropped (state t.old) c x r)) }
 {
     if orphaned(t, c, x, r) {
-        table::set_message_state(t, r, Status::Dropped);
+        table::set_message_state(t, r, Status::Dropped as u32);
     }
 }
 

@@ -7,7 +7,6 @@ ghost use Rattle.table.specs.Field.{OfController, OfPlace, OfMessage, Known, End
 ghost use Rattle.table.specs.Change.{put};
 ghost use Rattle.table.specs.Layout.{controllers, incarnations, places, messages, table_words, position};
 ghost use Rattle.table.specs.Words.{state, words};
-ghost use Rattle.table.specs.Status.{word};
 ghost use Rattle.table.specs.Numbering.{number_of, used, last_given, record_of, message_of};
 
 pub mod layout;
@@ -202,11 +201,11 @@ pub fn message_state(t: &Table, r: usize) -> u32
     t[layout::MESSAGE_STATE + r * layout::MESSAGE_WORDS]
 }
 
-pub fn set_message_state(t: &mut Table, r: usize, s: Status)
+pub fn set_message_state(t: &mut Table, r: usize, x: u32)
     requires { r < messages }
-    ensures { t.new ≡ words (put (state t.old) (MessageState r) (word s)) }
+    ensures { t.new ≡ words (put (state t.old) (MessageState r) x) }
 {
-    t[layout::MESSAGE_STATE + r * layout::MESSAGE_WORDS] = u32::from(s);
+    t[layout::MESSAGE_STATE + r * layout::MESSAGE_WORDS] = x;
 }
 
 pub fn sender(t: &Table, r: usize) -> u32

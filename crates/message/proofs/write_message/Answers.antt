@@ -1,7 +1,6 @@
 -- Six words are stored one by one, and the part after them comes back as the flat vector (headed).
 use Rattle.table.specs.Field.{message_head}
 use Rattle.table.specs.Layout.{vector_words}
-use Rattle.table.specs.Status.{word}
 use Rattle.rules.specs.Vector.{flat}
 use Rattle.rules.specs.Steps.{message_record}
 use Rattle.base.specs.Splice.{headed}
@@ -11,5 +10,5 @@ use Rattle.message.proofs.write_message.Goals as goal
 pub returns : goal.returns
 unfolding message_record
 returns c =
-    rw (c.write_vector.ensures, c.from.ensures)
-    (headed (word c.args.state ∷ c.args.sender ∷ c.args.receiver ∷ c.args.i ∷ c.args.x ∷ c.args.payload ∷ []) c.args.d.now (flat _) message_head vector_words refl c.requires)
+    rw c.write_vector.ensures
+    (headed (c.args.state ∷ c.args.sender ∷ c.args.receiver ∷ c.args.i ∷ c.args.x ∷ c.args.payload ∷ []) c.args.d.now (flat _) message_head vector_words refl c.requires)
