@@ -1,6 +1,6 @@
 -- Laws of a session in its buffers, for the code that takes bytes. `o` is the buffer of answers before a line is written, `u`
 -- after it.
-use Rattle.std.specs.Prelude.{◌≡◌, refl, false, ◌≢◌, ℕ, ◌+◌, ◌-◌, ◌≤◌, ◌<◌, length, get_or, set, take, drop}
+use Rattle.std.specs.Prelude.{◌≡◌, refl, false, Some, None, ◌≢◌, ℕ, ◌+◌, ◌-◌, ◌≤◌, ◌<◌, length, get_or, set, take, drop}
 use Rattle.std.proofs.Common.{sym, ap, ap₂, ◌∙◌, arith, suc-ne-zero, add-one, length-append, take_all, take-suc, take-suc-set, drop-drop, length-take-le, eq-eqb, ne_eqb}
 use mathlib.Core.List.{List, [], ◌∷◌, ◌++◌, foldl, foldl-append}
 use Rattle.std.proofs.lemmas.List.{length-replicate, get_or-replicate, take-append-le}
@@ -17,20 +17,19 @@ use Rattle.rules.specs.declared.Answer.{Answer}
 use Rattle.rules.specs.declared.Command.{Command}
 use Rattle.formed.specs.Carry.{FormKnown}
 use Rattle.lines.specs.Lines.{line_feed, parse, answer_line, bad_line}
-use Rattle.lines.specs.declared.Parsed.TheVariants.{Asks, Bad}
 use Rattle.printing.specs.Parts.{Short}
 use Rattle.printing.proofs.Writing.{written_take}
 use Rattle.lines.specs.Program.{reply, reply_to, first_table, first_ledger}
 use Rattle.session.specs.Taking.{Session, session, begun, line_room, ended, taken, taken_all, finished, served, paid, after, stored, stored_all}
 
 -- a line that asked for x is answered by a
-pub ended_asked : (t g l : List ℕ) {w h o u : List ℕ} {at r : ℕ} {x : Command} {a : Answer} → parse l ≡ Asks x → out_both a w h ≡ step t g x →
+pub ended_asked : (t g l : List ℕ) {w h o u : List ℕ} {at r : ℕ} {x : Command} {a : Answer} → parse l ≡ Some x → out_both a w h ≡ step t g x →
     Short o at (answer_line a) u r → at ≤ length o → session w h [] (take r u) ≡ ended (session t g l (take at o))
 unfolding ended reply reply_to
 ended_asked t g l {w} {h} p e f b = rw (p, sym e) (ap (session w h []) (written_take f.written b))
 
 -- a line that asked for nothing is answered `bad`
-pub ended_bad : (t g l : List ℕ) {o u : List ℕ} {at r : ℕ} → parse l ≡ Bad → Short o at bad_line u r → at ≤ length o →
+pub ended_bad : (t g l : List ℕ) {o u : List ℕ} {at r : ℕ} → parse l ≡ None → Short o at bad_line u r → at ≤ length o →
     session t g [] (take r u) ≡ ended (session t g l (take at o))
 unfolding ended reply reply_to
 ended_bad t g l p f b = rw p (ap (session t g []) (written_take f.written b))

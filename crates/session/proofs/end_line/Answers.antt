@@ -6,7 +6,7 @@ use Rattle.session.proofs.Buffers.{ended_asked, ended_bad}
 use Rattle.session.proofs.end_line.Goals as goal
 
 pub slice_bounds-parse-end : goal.slice_bounds-parse-end
-slice_bounds-parse-end c = sym (length-take-le _ c.args.line.now (omega (arith, c.requires.1)))
+slice_bounds-parse-end c = sym (length-take-le _ c.args.line.now (omega (arith, c.told-line, c.requires.1)))
 
 pub returns-in_default : goal.returns-in_default
 returns-in_default c =
@@ -23,7 +23,7 @@ returns c =
     let answered = c.write_answer-end.ensures in
     let e = c.step_carried-r.ensures in
     record {
-      answers = ended_asked _ _ _ (sym c.parse.ensures ∙ c.in-Asks.is) e.answered answered (omega arith);
+      answers = ended_asked _ _ _ (sym c.parse.ensures ∙ c.in-Some.is) e.answered answered (omega arith);
       room = (refl, omega (arith, answered.written.ends), answered.fits, written_drop answered.written (omega arith));
       form_known = e.form_known;
     }

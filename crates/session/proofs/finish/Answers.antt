@@ -10,7 +10,7 @@ pub returns : goal.returns
 returns c =
     let e = c.end_line.ensures in
     record {
-      answers = finished_more _ _ _ _ c.requires.1 c.if-n-eq0.false e.answers;
+      answers = finished_more _ _ _ _ (omega (arith, c.told-line, c.requires.1)) c.if-n-eq0.false e.answers;
       room = (e.room.0, omega (arith, e.room.2), e.room.3);
       form_known = e.form_known;
     }

@@ -19,9 +19,9 @@ pub returns-then-n-ge-LINE_ROOM : goal.returns-then-n-ge-LINE_ROOM
 returns-then-n-ge-LINE_ROOM c =
     let pre = c.requires in
     record {
-      answers = taken_full _ _ _ _ _ _ c.if-b-eq-LINE_FEED.false pre.1 pre.2 c.if-n-ge-LINE_ROOM.true;
-      room = (pre.2, omega arith, omega arith, refl);
-      kept_line = stored_full _ _ _ _ _ _ c.if-b-eq-LINE_FEED.false pre.1 pre.2 c.if-n-ge-LINE_ROOM.true;
+      answers = taken_full _ _ _ _ _ _ c.if-b-eq-LINE_FEED.false c.told-line pre.1 c.if-n-ge-LINE_ROOM.true;
+      room = (pre.1, omega arith, omega arith, refl);
+      kept_line = stored_full _ _ _ _ _ _ c.if-b-eq-LINE_FEED.false c.told-line pre.1 c.if-n-ge-LINE_ROOM.true;
       form_known = pre.0;
     }
 
@@ -29,8 +29,8 @@ pub returns : goal.returns
 returns c =
     let pre = c.requires in
     record {
-      answers = taken_more _ _ _ _ _ _ c.if-b-eq-LINE_FEED.false pre.1 c.if-n-ge-LINE_ROOM.false;
+      answers = taken_more _ _ _ _ _ _ c.if-b-eq-LINE_FEED.false c.told-line c.if-n-ge-LINE_ROOM.false;
       room = (omega arith, omega arith, omega arith, refl);
-      kept_line = stored_more _ _ _ _ _ _ c.if-b-eq-LINE_FEED.false pre.1 pre.2;
+      kept_line = stored_more _ _ _ _ _ _ c.if-b-eq-LINE_FEED.false c.told-line pre.1;
       form_known = pre.0;
     }
