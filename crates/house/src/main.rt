@@ -41,17 +41,15 @@ fn again(rt: HostRuntime, what: &str, error: Error) -> bool {
     }
 }
 
-// The first n bytes of the output are written out; answers whether they were. After a write that failed there is no other.
-fn write_out(rt: HostRuntime, out: &[u8], n: usize) -> bool
-    requires { n ≤ length out.now }
-{
+// The bytes are written out; answers whether they were. After a write that failed there is no other.
+fn write_out(rt: HostRuntime, bytes: &[u8]) -> bool {
     let mut done = 0;
     // A proved loop has to end, and nothing says that signals do: the range is one that no run uses up.
     for _ in 0..u64::MAX {
-        if done == n {
+        if done == bytes.len() {
             return true;
         }
-        match rt.write_some(&out[done..n]) {
+        match rt.write_some(&bytes[done..]) {
             Ok(0) => {
                 let _ = eprintln!(rt; "house: write: nothing was taken");
                 return false;
@@ -110,8 +108,7 @@ fn main(rt: HostRuntime) {
         );
         kept = p.line;
         formed = p.formed;
-        let owed = p.owed;
-        if !write_out(rt, &out, owed) {
+        if !write_out(rt, &out[..p.owed]) {
             return;
         }
         if n == 0 {

@@ -6,10 +6,6 @@ pub loop-init : goal.loop-init
 loop-init c = record {
   reached = reached_first;
   form_known = first_unformed;
-  ledger_long = search rules;
-  line_long = search rules;
-  bytes_long = search rules;
-  out_long = search rules;
   kept_le = search rules;
 }
 
@@ -20,9 +16,5 @@ loop-preserved c =
     record {
       reached = reached_next (take c.in-Some.n c.read_in.new.bytes) c.loop.invariant.reached (λ z. c.if-n-eq0.false (sym long ∙ z)) e.answers;
       form_known = e.form_known;
-      ledger_long = search rules;
-      line_long = search rules;
-      bytes_long = search rules;
-      out_long = search rules;
       kept_le = e.room.0;
     }
