@@ -1,5 +1,5 @@
 -- What the code of a run has to show.
-use Rattle.std.specs.Prelude.{◌≡◌, Bool, true, false, List, [], ◌∷◌, ◌++◌, ℕ, suc, ◌+◌, ◌*◌, ◌/◌, ◌%◌, ◌≤◌, set, drop}
+use Rattle.std.specs.Prelude.{◌≡◌, Bool, true, false, Some, List, [], ◌∷◌, ◌++◌, ℕ, suc, ◌+◌, ◌*◌, ◌/◌, ◌%◌, ◌≤◌, set, drop}
 use Rattle.std.proofs.Math.Path.{refl, sym, ap}
 use Rattle.std.proofs.Common.{◌∙◌, append_assoc, append-nil, add-one, arith, length-append, length-take, drop_of_length-le, take_at, take_all, eq-eqb, ne_eqb, eqb-true, ◌==◌}
 use Rattle.std.proofs.Math.ListN.{length, take}
@@ -14,7 +14,6 @@ use Rattle.rules.specs.Step.{out_both, step}
 use Rattle.rules.specs.declared.Answer.{Answer}
 use Rattle.rules.specs.declared.Command.{Command}
 use Rattle.reporting.specs.Values.{value_words, value_count}
-use Rattle.lines.specs.declared.Parsed.TheVariants.{Asks}
 use Rattle.run.specs.Call.{unknown_letter, wrong_values, Returned, returned, reported, taken, step_taken, letter_taken}
 use Rattle.run.specs.Run.{step_words, answer_words, no_values, asked_by, known, call_by, ran_all, one_more, ran_to, lengths_fit, run}
 use Rattle.run.specs.Running.{form_of, in_answer}
@@ -28,17 +27,17 @@ module _ (t : List ℕ) where
   unfolding form_of
   form_long e = rw (eq-eqb (length t) table_words e)
 
--- a step was done; its values came back in a part of the answer's words that was lent, and then its number was stored
-pub step_done : (t g v d : List ℕ) (x : Command) {u h ys : List ℕ} {y : Answer} {number : ℕ} → length d ≡ answer_words → out_both y u h ≡ step t g x →
-    number ≡ (report y).number → ys ≡ value_words y → returned ran_all u h (set (take 1 d ++ (ys ++ drop 6 (drop 1 d))) 0 number) ≡ in_answer (taken t g v (Asks x))
-step_done t g v d x {u} {h} {ys} {number = number} l s n m = ap (returned ran_all u h) (stored d l) ∙ ap in_answer (step_taken t g v x s n m)
+-- a step was done; its number was stored in the first of the answer's words, and its values came back in the others, which were lent
+pub step_done : (t g v d : List ℕ) (x : Command) (k : ℕ) {u h ys : List ℕ} {y : Answer} {number : ℕ} → length d ≡ k + 1 → out_both y u h ≡ step t g x →
+    number ≡ (report y).number → ys ≡ value_words y → returned ran_all u h (take 1 (set d 0 number) ++ (ys ++ drop k (drop 1 (set d 0 number)))) ≡ in_answer (taken t g v (Some x))
+step_done t g v d x k {u} {h} {ys} {number = number} l s n m = ap (returned ran_all u h) (stored d l) ∙ ap in_answer (step_taken t g v x s n m)
   where
-    stored : (d : List ℕ) → length d ≡ answer_words → set (take 1 d ++ (ys ++ drop 6 (drop 1 d))) 0 number ≡ number ∷ ys
+    stored : (d : List ℕ) → length d ≡ k + 1 → take 1 (set d 0 number) ++ (ys ++ drop k (drop 1 (set d 0 number))) ≡ number ∷ ys
     stored [] l = absurd (omega arith)
-    stored (a ∷ d) l = ap (λ (r : List ℕ). number ∷ (ys ++ r)) (drop_of_length-le d {i = 6} (omega arith)) ∙ ap (λ (r : List ℕ). number ∷ r) (append-nil ys)
+    stored (a ∷ d) l = ap (λ (r : List ℕ). number ∷ (ys ++ r)) (drop_of_length-le d {i = k} (omega arith)) ∙ ap (λ (r : List ℕ). number ∷ r) (append-nil ys)
 
 -- an answer has as many words as there is room for
-answer_length : (t g v : List ℕ) (x : Command) → length (in_answer (taken t g v (Asks x))).values ≡ answer_words
+answer_length : (t g v : List ℕ) (x : Command) → length (in_answer (taken t g v (Some x))).values ≡ answer_words
 unfolding taken reported
 answer_length t g v x = ap suc (value_count (step t g x).answer)
 
@@ -52,14 +51,14 @@ behind i answers d rest l e =
 
 module _ (steps : List ℕ) (i : ℕ) where
   -- step i was taken, and its answer's words came back
-  pub step_answered : (t g answers rest : List ℕ) (x : Command) {u h d : List ℕ} → (i + 1) * answer_words ≤ length answers → asked_by steps i ≡ Asks x →
-      returned ran_all u h d ≡ in_answer (taken t g no_values (Asks x)) →
+  pub step_answered : (t g answers rest : List ℕ) (x : Command) {u h d : List ℕ} → (i + 1) * answer_words ≤ length answers → asked_by steps i ≡ Some x →
+      returned ran_all u h d ≡ in_answer (taken t g no_values (Some x)) →
       returned ran_all u h (take ((i + 1) * answer_words) (take (i * answer_words) answers ++ (d ++ rest))) ≡ one_more steps (returned ran_all t g (take (i * answer_words) answers)) i
   unfolding one_more
   step_answered t g answers rest x {u} {h} {d} l q e =
       let before = take (i * answer_words) answers in
       let long : length d ≡ answer_words = ap (λ (r : Returned). length r.values) e ∙ answer_length t g no_values x in
-      let called : taken t g no_values (Asks x) ≡ call_by t g steps i = letter_taken t g no_values _ _ _ _ _ refl q refl in
+      let called : taken t g no_values (Some x) ≡ call_by t g steps i = letter_taken t g no_values _ _ _ _ _ refl q refl in
       ap (returned ran_all u h) (behind i answers d rest l long)
       ∙ ap (λ (r : Returned). returned ran_all r.table r.ledger (before ++ r.values)) (e ∙ ap in_answer called)
 

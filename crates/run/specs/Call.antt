@@ -1,6 +1,6 @@
 -- A call of the C interface that asks for a step by its letter: which step it is, what it returns, and what stands in the three
 -- buffers after it.
-use Rattle.std.specs.Prelude.{◌≡◌, cond, List, ℕ, length, ◌==◌}
+use Rattle.std.specs.Prelude.{◌≡◌, cond, Option, Some, None, List, ℕ, length, ◌==◌}
 use Rattle.std.proofs.Math.Path.{sym}
 use Rattle.std.proofs.Common.{ap, ◌∙◌, eq-eqb, ne_eqb}
 use Rattle.rules.specs.Report.{report}
@@ -9,8 +9,6 @@ use Rattle.rules.specs.declared.Answer.{Answer}
 use Rattle.rules.specs.declared.Command.{Command}
 use Rattle.reporting.specs.Values.{value_room, value_words}
 use Rattle.lines.specs.Lines.{step_of}
-use Rattle.lines.specs.declared.Parsed.{Parsed}
-use Rattle.lines.specs.declared.Parsed.TheVariants.{Asks, Bad}
 
 -- what a call returns that is no answer: out of the way of the numbers that answers have
 abbrev pub unknown_letter : ℕ
@@ -33,9 +31,9 @@ unfoldable pub reported : OutBoth → Returned
 reported o = returned (report o.answer).number o.table o.ledger (value_words o.answer)
 
 -- the step that a letter asks for; an unknown one changes nothing
-unfoldable pub taken : List ℕ → List ℕ → List ℕ → Parsed → Returned
-taken t g v (Asks x) = reported (step t g x)
-taken t g v Bad = returned unknown_letter t g v
+unfoldable pub taken : List ℕ → List ℕ → List ℕ → Option Command → Returned
+taken t g v (Some x) = reported (step t g x)
+taken t g v None = returned unknown_letter t g v
 
 -- neither does a value buffer of another length, which is looked at first; else the call returns r
 unfoldable pub handled : List ℕ → List ℕ → List ℕ → Returned → Returned
@@ -52,7 +50,7 @@ answer_given o {u} {h} {w} {y} {r} s n m = (λ d. returned (n d) u h (m d)) ∙ 
 
 -- the same of a step that was taken
 pub step_taken : (t g v : List ℕ) (x : Command) {u h w : List ℕ} {y : Answer} {r : ℕ} → out_both y u h ≡ step t g x → r ≡ (report y).number → w ≡ value_words y →
-    returned r u h w ≡ taken t g v (Asks x)
+    returned r u h w ≡ taken t g v (Some x)
 unfolding taken
 step_taken t g v x = answer_given (step t g x)
 
@@ -67,6 +65,6 @@ module _ (t g v : List ℕ) (r : Returned) where
   right_values e h = h ∙ sym (rw (eq-eqb (length v) value_room e))
 
 -- the letter asks for p
-pub letter_taken : (t g v : List ℕ) (l a b c d : ℕ) {p : Parsed} {r : Returned} → length v ≡ value_room → step_of l a b c ≡ p → r ≡ taken t g v p → r ≡ call t g v l a b c d
+pub letter_taken : (t g v : List ℕ) (l a b c d : ℕ) {p : Option Command} {r : Returned} → length v ≡ value_room → step_of l a b c ≡ p → r ≡ taken t g v p → r ≡ call t g v l a b c d
 unfolding call
 letter_taken t g v l a b c d e q h = right_values t g v _ e h ∙ sym (ap (λ p. handled t g v (taken t g v p)) q)

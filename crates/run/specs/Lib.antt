@@ -1,3 +1,4 @@
 pub mod Call
+pub mod Faults
 pub mod Run
 pub mod Running

@@ -1,12 +1,12 @@
 -- Many steps in one call: a list of steps, and the answers to them. They are the same steps done one by one, by `call`.
-use Rattle.std.specs.Prelude.{◌≡◌, refl, Bool, true, false, cond, ◌&&◌, List, [], ◌∷◌, ◌++◌, ℕ, zero, suc, ◌+◌, ◌*◌, ◌/◌, ◌%◌, length, get_or, replicate, ◌==◌}
+use Rattle.std.specs.Prelude.{◌≡◌, refl, Bool, cond, Option, ◌&&◌, List, [], ◌∷◌, ◌++◌, ℕ, zero, suc, ◌+◌, ◌*◌, ◌/◌, ◌%◌, length, get_or, replicate, ◌==◌}
+use Rattle.std.specs.Option.{is_some}
 use Rattle.base.specs.Ranges.{allb}
 use Rattle.rules.specs.Report.{report}
 use Rattle.rules.specs.declared.Answer.TheVariants.{Done}
+use Rattle.rules.specs.declared.Command.{Command}
 use Rattle.reporting.specs.Values.{value_room}
 use Rattle.lines.specs.Lines.{step_of}
-use Rattle.lines.specs.declared.Parsed.{Parsed}
-use Rattle.lines.specs.declared.Parsed.TheVariants.{Asks, Bad}
 use Rattle.run.specs.Call.{unknown_letter, wrong_values, Returned, returned, call}
 
 -- "five words a step (letter, a, b, c, d), seven an answer (number, six values)"
@@ -21,12 +21,11 @@ abbrev pub step_word : List ℕ → ℕ → ℕ → ℕ
 step_word steps i k = get_or steps (i * step_words + k) 0
 
 -- which step it asks for, and whether its letter is known
-abbrev pub asked_by : List ℕ → ℕ → Parsed
+abbrev pub asked_by : List ℕ → ℕ → Option Command
 asked_by steps i = step_of (step_word steps i 0) (step_word steps i 1) (step_word steps i 2) (step_word steps i 3)
 
-abbrev pub known : Parsed → Bool
-known (Asks x) = true
-known Bad = false
+abbrev pub known : Option Command → Bool
+known p = is_some p
 
 -- step i by itself, with room for its values
 abbrev pub no_values : List ℕ

@@ -2,18 +2,16 @@
 // from then on known.
 #![tactic(auto)]
 
-ghost use Rattle.std.specs.Prelude.{◌≡◌, true, ◌+◌, ◌*◌, ◌≤◌, length, take};
+ghost use Rattle.std.specs.Prelude.{◌≡◌, true, Some, ◌+◌, ◌*◌, ◌≤◌, length, take};
 ghost use Rattle.base.specs.Ranges.{allb};
 ghost use Rattle.rules.specs.Step.{out_both, step};
-ghost use Rattle.lines.specs.declared.Parsed.TheVariants.{Asks};
 ghost use Rattle.run.specs.Call.{returned, taken};
+ghost use Rattle.run.specs.Faults.{number, number_of};
 ghost use Rattle.run.specs.Run.{step_words, answer_words, no_values, asked_by, known, ran_all, one_more, ran_to, lengths_fit, run};
 ghost use Rattle.run.specs.Running.{form_of, in_answer};
 
 use formed::Carried;
-use lines::Parsed;
-use rules::{Answer, Command, refusal};
-use table::layout;
+use rules::{Answer, Command, Refusal};
 
 // A step of the list: its letter and its numbers a, b, c, d, of which no step has the last yet.
 const STEP_WORDS: usize = 5;
@@ -33,23 +31,32 @@ const NUMBER_WORD: usize = 0;
 
 const FIRST_VALUE: usize = 1;
 
-// What a run returns that is done, and what a call returns besides the numbers of the answers.
-const RAN_ALL: u32 = 0;
+// Why a call changes nothing, where that is no answer: what the C interface returns besides the numbers of the answers.
+#[derive(Clone, Copy, PartialEq, Eq)]
+pub enum Fault {
+    UnknownLetter = 100,
+    WrongValues = 101,
+}
 
-pub const UNKNOWN_LETTER: u32 = 100;
+impl From<Fault> for u32 {
+    ghost from_gives = { λ fault n. n ≡ number fault };
 
-pub const WRONG_VALUES: u32 = 101;
+    fn from(fault: Fault) -> u32 {
+        fault as u32
+    }
+}
 
 // Whether so many words are those of whole steps and of as many whole answers.
 fn lengths_fit(steps: usize, answers: usize) -> bool
     ensures { result ≡ lengths_fit steps answers }
 {
-    (steps % STEP_WORDS == 0)
-        & ((answers % ANSWER_WORDS == 0) & (steps / STEP_WORDS == answers / ANSWER_WORDS))
+    steps % STEP_WORDS == 0
+        && answers % ANSWER_WORDS == 0
+        && steps / STEP_WORDS == answers / ANSWER_WORDS
 }
 
 // What step i of the list asks.
-fn asked_by(steps: &[u32], i: usize) -> Parsed
+fn asked_by(steps: &[u32], i: usize) -> Option<Command>
     requires { (i + 1) * step_words ≤ length steps.now }
     ensures { result ≡ asked_by steps.now i }
 {
@@ -62,25 +69,14 @@ fn asked_by(steps: &[u32], i: usize) -> Parsed
     )
 }
 
-fn is_known(p: Parsed) -> bool
-    ensures { result ≡ known p }
-{
-    match p {
-        Parsed::Asks(_) => true,
-        Parsed::Bad => false,
-    }
-}
-
 // Whether the letters of the first n steps are known.
 fn letters_known(steps: &[u32], n: usize) -> bool
     requires { n * step_words ≤ length steps.now }
     ensures { result ≡ allb n (λ i. known (asked_by steps.now i)) }
 {
     let mut all = true;
-    let mut i = 0;
-    while i < n {
-        all = all & is_known(asked_by(steps, i));
-        i += 1;
+    for i in 0..n {
+        all &= asked_by(steps, i).is_some();
     }
     all
 }
@@ -89,10 +85,10 @@ fn letters_known(steps: &[u32], n: usize) -> bool
 fn form_of(t: &[u32]) -> bool
     ensures { result ≡ form_of t.now }
 {
-    if t.len() != layout::TABLE_WORDS {
-        return false;
+    match t.as_array() {
+        None => false,
+        Some(t) => form::in_form(t),
     }
-    form::in_form(t)
 }
 
 // A step on a table of which it is known whether it has its length and is in form.
@@ -101,27 +97,25 @@ fn step_known(t: &mut [u32], g: &mut [u32], formed: bool, x: Command) -> Carried
     ensures answered { out_both result.answer t.new g.new ≡ step t.old g.old x }
     ensures form_known { result.formed ≡ form_of t.new }
 {
-    if t.len() != layout::TABLE_WORDS {
+    let Some(t) = t.as_mut_array() else {
         return Carried {
-            answer: Answer::Refused(refusal::LENGTH),
+            answer: Answer::Refused(u32::from(Refusal::Length)),
             formed: false,
         };
-    }
+    };
     formed::step_carried(t, g, formed, x)
 }
 
 // A step, with its answer's number and values in the words d. Says whether the table that is left is in form.
 fn answer_step(t: &mut [u32], g: &mut [u32], formed: bool, x: Command, d: &mut [u32]) -> bool
     requires { (formed ≡ form_of t.old) × (length d.old ≡ answer_words) }
-    ensures answered { returned ran_all t.new g.new d.new ≡ in_answer (taken t.old g.old no_values (Asks x)) }
+    ensures answered { returned ran_all t.new g.new d.new ≡ in_answer (taken t.old g.old no_values (Some x)) }
     ensures form_known { result ≡ form_of t.new }
 {
     let done = step_known(t, g, formed, x);
-    let a = done.answer;
-    let from = FIRST_VALUE;
-    let to = ANSWER_WORDS;
-    let number = reporting::give_answer(a, &mut d[from..to]);
+    let (number, values) = reporting::report(done.answer);
     d[NUMBER_WORD] = number;
+    d[FIRST_VALUE..].copy_from_slice(&values);
     done.formed
 }
 
@@ -138,7 +132,7 @@ fn run_step(
     ensures answered { returned ran_all t.new g.new (take ((i + 1) * answer_words) answers.new) ≡ one_more steps.now (returned ran_all t.old g.old (take (i * answer_words) answers.old)) i }
     ensures form_known { result ≡ form_of t.new }
 {
-    let Parsed::Asks(x) = asked_by(steps, i) else {
+    let Some(x) = asked_by(steps, i) else {
         return formed;
     };
     let from = i * ANSWER_WORDS;
@@ -152,24 +146,22 @@ fn run_steps(t: &mut [u32], g: &mut [u32], steps: &[u32], n: usize, answers: &mu
     ensures { returned ran_all t.new g.new answers.new ≡ ran_to t.old g.old steps.now n }
 {
     let mut formed = form_of(t);
-    let mut i = 0;
-    while i < n {
+    for i in 0..n {
         formed = run_step(t, g, formed, steps, i, answers);
-        i += 1;
     }
 }
 
 // The steps of the list, one by one, each answer in its words. Where the lengths don't fit or a letter is unknown, nothing is done.
-pub fn run(t: &mut [u32], g: &mut [u32], steps: &[u32], answers: &mut [u32]) -> u32
-    ensures { returned result t.new g.new answers.new ≡ run t.old g.old steps.now answers.old }
+pub fn run(t: &mut [u32], g: &mut [u32], steps: &[u32], answers: &mut [u32]) -> Result<(), Fault>
+    ensures { returned (number_of result) t.new g.new answers.new ≡ run t.old g.old steps.now answers.old }
 {
     if !lengths_fit(steps.len(), answers.len()) {
-        return WRONG_VALUES;
+        return Err(Fault::WrongValues);
     }
     let n = steps.len() / STEP_WORDS;
     if !letters_known(steps, n) {
-        return UNKNOWN_LETTER;
+        return Err(Fault::UnknownLetter);
     }
     run_steps(t, g, steps, n, answers);
-    RAN_ALL
+    Ok(())
 }

@@ -9,14 +9,8 @@ loop-i-init c = (omega arith, allb_zero _)
 pub asked_by-requires : goal.asked_by-requires
 asked_by-requires c = omega (arith, c.requires)
 
-pub overflow_add-i : goal.overflow_add-i
-overflow_add-i c = omega arith
-
-pub loop-i-smaller : goal.loop-i-smaller
-loop-i-smaller c = omega arith
-
 pub loop-i-preserved : goal.loop-i-preserved
-loop-i-preserved c = (omega arith, allb_step _ _ _ _ c.loop-i.invariant.1 (c.is_known-all.ensures ∙ ap known c.asked_by.ensures))
+loop-i-preserved c = (omega arith, allb_step _ _ _ _ c.loop-i.invariant.1 (c.is_some-all.ensures ∙ ap known c.asked_by.ensures))
 
 pub returns : goal.returns
 returns c = allb_end _ _ _ _ c.loop-i.invariant.1 c.loop-i.invariant.0 c.loop-i-test.false

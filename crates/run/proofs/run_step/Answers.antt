@@ -10,6 +10,6 @@ returns-in_default c = absurd (true≢false (sym c.requires.3 ∙ ap known (sym 
 pub returns : goal.returns
 returns c =
     record {
-      answered = step_answered _ _ _ _ c.args.answers.now _ _ c.requires.2 (sym c.asked_by.ensures ∙ c.in-Asks.is) c.answer_step.ensures.answered;
+      answered = step_answered _ _ _ _ c.args.answers.now _ _ c.requires.2 (sym c.asked_by.ensures ∙ c.in-Some.is) c.answer_step.ensures.answered;
       form_known = c.answer_step.ensures.form_known;
     }

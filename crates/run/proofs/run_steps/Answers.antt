@@ -11,12 +11,6 @@ run_step-formed-requires c =
     let inv = c.loop-i.invariant in
     (inv.1, omega (arith, c.requires.0), omega (arith, c.requires.1, inv.5), allb_get _ _ _ c.requires.2 c.loop-i-test.true)
 
-pub overflow_add-i : goal.overflow_add-i
-overflow_add-i c = omega arith
-
-pub loop-i-smaller : goal.loop-i-smaller
-loop-i-smaller c = omega arith
-
 pub loop-i-preserved : goal.loop-i-preserved
 loop-i-preserved c =
     let inv = c.loop-i.invariant in
