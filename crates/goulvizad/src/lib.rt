@@ -2,24 +2,16 @@
 // that the caller lends. include/goulvizad.h documents it.
 #![tactic(auto)]
 
-ghost use Rattle.std.specs.Prelude.{◌≡◌, List, ℕ, length};
+ghost use Rattle.std.specs.Prelude.{◌≡◌, List, ℕ};
 ghost use Rattle.goulvizad.specs.Call.{gap_call, set_call, dispatch_call};
-ghost use Rattle.lines.specs.declared.Parsed.TheVariants.{Asks};
 ghost use Rattle.questions.specs.Numbers.{form_number, checkpoint_number};
-ghost use Rattle.reporting.specs.Values.{value_room};
-ghost use Rattle.run.specs.Call.{returned, taken, call};
+ghost use Rattle.run.specs.Call.{returned, call};
 ghost use Rattle.run.specs.Run.{run};
 
-use lines::Parsed;
-use rules::Command;
+use run::Fault;
 
-// A step that is asked for, and its answer.
-fn take_step(t: &mut [u32], g: &mut [u32], x: Command, values: &mut [u32]) -> u32
-    requires { length values.old ≡ value_room }
-    ensures { returned result t.new g.new values.new ≡ taken t.old g.old values.old (Asks x) }
-{
-    reporting::give_answer(machine::step(t, g, x), values)
-}
+// What a run returns that is done: the number of the answer `done`.
+const RAN_ALL: u32 = 0;
 
 // One step, by its letter. The value buffer is looked at first, then the letter; d is a number that no step has yet.
 #[unsafe(no_mangle)]
@@ -35,13 +27,13 @@ pub extern "C" fn goulvizad_step(
 ) -> u32
     ensures { returned result t.new g.new values.new ≡ call t.old g.old values.old letter a b c d }
 {
-    if values.len() != reporting::VALUES {
-        return run::WRONG_VALUES;
-    }
-    let Parsed::Asks(x) = parsing::step_of(letter, a, b, c) else {
-        return run::UNKNOWN_LETTER;
+    let Some(values) = values.as_mut_array() else {
+        return u32::from(Fault::WrongValues);
     };
-    take_step(t, g, x, values)
+    let Some(x) = parsing::step_of(letter, a, b, c) else {
+        return u32::from(Fault::UnknownLetter);
+    };
+    reporting::give_answer(machine::step(t, g, x), values)
 }
 
 // A list of steps, as one after the other; the form of the table is looked at once.
@@ -54,7 +46,10 @@ pub extern "C" fn goulvizad_run(
 ) -> u32
     ensures { returned result t.new g.new answers.new ≡ run t.old g.old steps.now answers.old }
 {
-    run::run(t, g, steps, answers)
+    match run::run(t, g, steps, answers) {
+        Ok(()) => RAN_ALL,
+        Err(fault) => u32::from(fault),
+    }
 }
 
 // The step that sets the gap, which has no letter. It doesn't look at the ledger: whatever it is, it stays.
@@ -62,9 +57,9 @@ pub extern "C" fn goulvizad_run(
 pub extern "C" fn goulvizad_set_gap(t: &mut [u32], gap: u32, values: &mut [u32]) -> u32
     ensures { (g : List ℕ) → returned result t.new g values.new ≡ gap_call t.old g values.old gap }
 {
-    if values.len() != reporting::VALUES {
-        return run::WRONG_VALUES;
-    }
+    let Some(values) = values.as_mut_array() else {
+        return u32::from(Fault::WrongValues);
+    };
     let answer = machine::set_gap(t, gap);
     reporting::give_answer(answer, values)
 }
@@ -79,9 +74,9 @@ pub extern "C" fn goulvizad_release_set(
 ) -> u32
     ensures { returned result t.new g.new values.new ≡ set_call t.old g.old values.old messages.now }
 {
-    if values.len() != reporting::VALUES {
-        return run::WRONG_VALUES;
-    }
+    let Some(values) = values.as_mut_array() else {
+        return u32::from(Fault::WrongValues);
+    };
     reporting::give_answer(sets::release_set(t, g, messages), values)
 }
 
@@ -90,9 +85,9 @@ pub extern "C" fn goulvizad_release_set(
 pub extern "C" fn goulvizad_dispatch(t: &mut [u32], values: &mut [u32]) -> u32
     ensures { (g : List ℕ) → returned result t.new g values.new ≡ dispatch_call t.old g values.old }
 {
-    if values.len() != reporting::VALUES {
-        return run::WRONG_VALUES;
-    }
+    let Some(values) = values.as_mut_array() else {
+        return u32::from(Fault::WrongValues);
+    };
     let said = dispatch::dispatch(t);
     reporting::give_answer(said, values)
 }
@@ -102,7 +97,7 @@ pub extern "C" fn goulvizad_dispatch(t: &mut [u32], values: &mut [u32]) -> u32
 pub extern "C" fn goulvizad_in_form(t: &[u32]) -> u32
     ensures { result ≡ form_number t.now }
 {
-    questions::form_number(t)
+    u32::from(questions::is_formed(t))
 }
 
 // Whether the newest live interval of a controller is a checkpoint, so that a caller can see one that the gap has forced.
@@ -110,5 +105,5 @@ pub extern "C" fn goulvizad_in_form(t: &[u32]) -> u32
 pub extern "C" fn goulvizad_is_checkpoint(t: &[u32], controller: u32) -> u32
     ensures { result ≡ checkpoint_number t.now controller }
 {
-    questions::checkpoint_number(t, controller)
+    u32::from(questions::is_checkpoint(t, controller))
 }
