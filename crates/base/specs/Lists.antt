@@ -51,10 +51,6 @@ module _ {A : Type 0} (d : A) (n : ℕ) (f : ℕ → A) where
   pub filled_done : (i : ℕ) (v : List A) → Filled d n f i v → n ≤ i → v ≡ tab n f
   filled_done i v r h = tab_of d n f v r.size (λ (k : ℕ) (q : k < n). r.done k (omega arith))
 
--- a list is given by its own elements
-pub tab_get_d : {A : Type 0} (d : A) (n : ℕ) (l : List A) → length l ≡ n → tab n (λ (i : ℕ). get_or l i d) ≡ l
-tab_get_d d n l e = sym (tab_of d n (λ (i : ℕ). get_or l i d) l e (λ (i : ℕ) (h : i < n). refl))
-
 -- two functions that agree below n give one list
 pub tab_same : {A : Type 0} (n : ℕ) (f g : ℕ → A) → ((i : ℕ) → i < n → f i ≡ g i) → tab n f ≡ tab n g
 unfolding tab

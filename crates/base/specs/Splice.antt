@@ -49,7 +49,3 @@ headed h d ys k n e l =
     let q : sets d 0 h ≡ h ++ drop k d = sets-eq h d 0 (omega arith) ∙ ap (λ (i : ℕ). h ++ drop i d) z in
     let r : drop n (drop k d) ≡ [] = drop-drop n k d ∙ drop_of_length-le d {i = k + n} (omega arith) in
     rw (q, take_at h (drop k d) k e, drop_at h (drop k d) k e, r, append-nil ys)
-
--- words stored one by one in a part that has as many are those of the part
-pub stored_all_lem : (d h : List ℕ) → length d ≡ length h → sets d 0 h ≡ h
-stored_all_lem d h l = sets-eq h d 0 (omega arith) ∙ ap (λ (r : List ℕ). h ++ r) (drop_of_length-le d {i = 0 + length h} (omega arith)) ∙ append-nil h

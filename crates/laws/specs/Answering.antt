@@ -1,5 +1,5 @@
 -- What code that answers a step has to show: the host's refusals, the step's own, and a step that is done.
-use Rattle.std.specs.Prelude.{◌≡◌, refl, Bool, true, false, not, cond, ◌&&◌, List, ℕ, length, Result, Ok, Err}
+use Rattle.std.specs.Prelude.{◌≡◌, refl, Bool, true, false, not, cond, ◌&&◌, List, ℕ, length, Result, Err}
 use Rattle.std.proofs.Common.{sym, ap, ◌∙◌, arith, eq-eqb, ne_eqb}
 use Rattle.base.specs.Cases.{Case, first_of}
 use Rattle.table.specs.Field.{State}
@@ -45,19 +45,10 @@ unfolding refusing
 granted cases σ o a u e h =
     h ∙ sym (ap (λ (b : Bool). written (cond b o (record { answer = Refused (first_of cases); left = σ }))) (eq-eqb (first_of cases) 0 (sym e)))
 
--- the same where code has found the number of the first case, and it is 0
-pub granted_by : (cases : List Case) (σ : State) (o : After) (a : Answer) (u : List ℕ) (n : ℕ) → n ≡ first_of cases → n ≡ 0 → out a u ≡ written o →
-    out a u ≡ written (refusing cases σ o)
-granted_by cases σ o a u n e z = granted cases σ o a u (sym z ∙ e)
-
--- the same of what the code found: what refuses the step, and that nothing does
+-- the same of what the code found
 pub turned_away : (cases : List Case) (t : List ℕ) (o : After) (found : Result Unit Refusal) (refusal : Refusal) → length t ≡ table_words →
     refusal_of found ≡ first_of cases → found ≡ Err refusal → out (Refused (number refusal)) t ≡ written (refusing cases (state t) o)
 turned_away cases t o found refusal l e w = refused cases t (number refusal) o l (sym (ap refusal_of w) ∙ e) (λ z. let p = number_positive refusal in omega arith)
-
-pub let_through : (cases : List Case) (σ : State) (o : After) (a : Answer) (u : List ℕ) (found : Result Unit Refusal) (done : Unit) →
-    refusal_of found ≡ first_of cases → found ≡ Ok done → out a u ≡ written o → out a u ≡ written (refusing cases σ o)
-let_through cases σ o a u found done e w = granted_by cases σ o a u (refusal_of found) e (ap refusal_of w)
 
 -- an answer that leaves the words of a state
 pub leaves : (a : Answer) (u : List ℕ) (σ : State) → u ≡ words σ → out a u ≡ written (record { answer = a; left = σ })
@@ -81,10 +72,6 @@ pub turned_away_both : (cases : List Case) (t g : List ℕ) (o : AfterBoth) (fou
     refusal_of found ≡ first_of cases → found ≡ Err refusal → out_both (Refused (number refusal)) t g ≡ written_both (refusing_both cases (state t) g o)
 turned_away_both cases t g o found refusal l e w =
     refused_both cases t g (number refusal) o l (sym (ap refusal_of w) ∙ e) (λ z. let p = number_positive refusal in omega arith)
-
-pub let_through_both : (cases : List Case) (σ : State) (g : List ℕ) (o : AfterBoth) (a : Answer) (u h : List ℕ) (found : Result Unit Refusal) (done : Unit) →
-    refusal_of found ≡ first_of cases → found ≡ Ok done → out_both a u h ≡ written_both o → out_both a u h ≡ written_both (refusing_both cases σ g o)
-let_through_both cases σ g o a u h found done e w = granted_both cases σ g o a u h (refusal_of found) e (ap refusal_of w)
 
 -- a step beside which the ledger stays
 pub left_beside : (a : Answer) (u g : List ℕ) (o : After) → out a u ≡ written o → out_both a u g ≡ written_both (beside o g)
