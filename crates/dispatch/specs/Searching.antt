@@ -44,9 +44,6 @@ module _ (σ : State) (c r : ℕ) where
 pub record Passed (σ : State) (low r : ℕ) : Type 0 where
   pub none : (c j : ℕ) → low ≤ j → j < r → servable house σ c j ≡ false
 
-pub passed_none : (σ : State) (r : ℕ) → Passed σ r r
-passed_none σ r = record { none = λ c j l h. absurd (omega arith) }
-
 pub passed_more : {σ : State} {low r x : ℕ} → Passed σ low r → x ≡ σ (MessageState r) → (x ≡ state_released → ⊥) → Passed σ low (r + 1)
 passed_more {σ} {low} {r} w e ne =
     record {

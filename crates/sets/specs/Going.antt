@@ -146,11 +146,3 @@ module _ {t g l u h : List ℕ} {n : ℕ} (w : Gone t g l u h n) (nl : n < lengt
         left = e ∙ next ∙ ap (λ k. words (out_to (state t) l k)) (sym (add-one n));
         ledger = q ∙ entry ∙ ap (ledger_to (state t) g l) (sym (add-one n));
       }
-
--- all have gone out
-module _ {t g l u h : List ℕ} {n : ℕ} (w : Gone t g l u h n) (nl : length l ≤ n) where
-  pub gone_all : u ≡ words (out_to (state t) l (length l))
-  gone_all = let e : n ≡ length l = omega (arith, w.bound) in w.left ∙ ap (λ k. words (out_to (state t) l k)) e
-
-  pub gone_entries : h ≡ ledger_to (state t) g l (length l)
-  gone_entries = let e : n ≡ length l = omega (arith, w.bound) in w.ledger ∙ ap (ledger_to (state t) g l) e

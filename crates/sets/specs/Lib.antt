@@ -1,5 +1,5 @@
 pub mod Ready
-pub mod Reading
+pub mod Desks
 pub mod Gathering
 pub mod Going
 pub mod Returns

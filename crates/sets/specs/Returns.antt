@@ -102,7 +102,3 @@ module _ {t l : List ℕ} {k n : ℕ} {b : Bool} (f : Found t l k n b) (g : List
         out_both (SetReleased k) u y ≡ written_both (release_all house (state t) g l)
     unfolding release_all
     all_go p ue ye = rw (← f.union_is, ← f.goes, h, ← ce, ← f.desks_are, le-ltb last_entry (c + n) p, ue, ye)
-
-    -- there is room for all that are for the desk
-    pub room : c + n ≤ last_entry → count_of g + desks (state t) l (length l) ≤ last_entry
-    room p = omega (arith, f.desks_are)

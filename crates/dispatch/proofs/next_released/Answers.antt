@@ -1,10 +1,7 @@
-use Rattle.dispatch.specs.Searching.{passed_none, passed_more}
+use Rattle.dispatch.specs.Searching.{passed_more}
 use Rattle.dispatch.specs.Returns.{record_low}
 use Rattle.std.proofs.Common.{arith, sym, ◌∙◌}
 use Rattle.dispatch.proofs.next_released.Goals as goal
-
-pub loop-r-init : goal.loop-r-init
-loop-r-init c = passed_none _ _
 
 pub message_state-requires : goal.message_state-requires
 message_state-requires c = record_low c.requires (omega (arith, c.loop-r-test.true, c.records_used-used.ensures))

@@ -1,4 +1,4 @@
-use Rattle.base.specs.Ranges.{allb_zero, allb_next, allb_stops, allb_end}
+use Rattle.base.specs.Ranges.{allb_zero, allb_next, allb_stops}
 use Rattle.std.proofs.Common.{ap, not}
 use Rattle.form.proofs.all_places_ok.Goals as goal
 
@@ -10,6 +10,3 @@ returns-then-not-places_ok c = allb_stops _ _ _ _ c.loop-c-test.true c.places_ok
 
 pub loop-c-preserved : goal.loop-c-preserved
 loop-c-preserved c = allb_next _ _ _ c.loop-c.invariant c.places_ok.ensures (ap not c.if-not-places_ok.false)
-
-pub returns : goal.returns
-returns c = allb_end _ _ _ _ c.loop-c.invariant c.loop-c.auto.c-end c.loop-c-test.false

@@ -1,4 +1,4 @@
-use Rattle.base.specs.Ranges.{allb_zero, allb_next, allb_stops, allb_end}
+use Rattle.base.specs.Ranges.{allb_zero, allb_next, allb_stops}
 use Rattle.std.proofs.Common.{ap, not}
 use Rattle.form.proofs.all_rows_ok.Goals as goal
 
@@ -10,6 +10,3 @@ returns-then-not-rows_ok c = allb_stops _ _ _ _ c.loop-holder-test.true c.rows_o
 
 pub loop-holder-preserved : goal.loop-holder-preserved
 loop-holder-preserved c = allb_next _ _ _ c.loop-holder.invariant c.rows_ok.ensures (ap not c.if-not-rows_ok.false)
-
-pub returns : goal.returns
-returns c = allb_end _ _ _ _ c.loop-holder.invariant c.loop-holder.auto.holder-end c.loop-holder-test.false

@@ -7,9 +7,3 @@ use Rattle.form.proofs.in_form.Goals as goal
 pub returns-then-not-head_ok : goal.returns-then-not-head_ok
 unfolding in_form
 returns-then-not-head_ok c = sym (failed _ (sym c.head_ok.ensures ∙ c.if-not-head_ok.true) (λ w. search w))
-
-pub records_ok-requires : goal.records_ok-requires
-records_ok-requires c = sym c.head_ok.ensures ∙ c.if-not-head_ok.false
-
-pub returns : goal.returns
-returns c = c.records_ok.ensures

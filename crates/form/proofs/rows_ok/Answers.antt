@@ -1,4 +1,4 @@
-use Rattle.base.specs.Ranges.{allb_zero, allb_next, allb_stops, allb_end}
+use Rattle.base.specs.Ranges.{allb_zero, allb_next, allb_stops}
 use Rattle.std.proofs.Common.{ap, not}
 use Rattle.form.proofs.rows_ok.Goals as goal
 
@@ -10,6 +10,3 @@ returns-then-not-row_ok c = allb_stops _ _ _ _ c.loop-owner-test.true c.row_ok.e
 
 pub loop-owner-preserved : goal.loop-owner-preserved
 loop-owner-preserved c = allb_next _ _ _ c.loop-owner.invariant c.row_ok.ensures (ap not c.if-not-row_ok.false)
-
-pub returns : goal.returns
-returns c = allb_end _ _ _ _ c.loop-owner.invariant c.loop-owner.auto.owner-end c.loop-owner-test.false

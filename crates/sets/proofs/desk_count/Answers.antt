@@ -1,6 +1,6 @@
 use mir.Val.{bool_byte}
 use Rattle.rules.specs.Sets.{desks}
-use Rattle.sets.specs.Reading.{desks_more, desks_all, desks_fit}
+use Rattle.sets.specs.Desks.{desks_more, desks_fit}
 use Rattle.std.proofs.Common.{◌≡◌, refl, ap, ◌∙◌, Bool, true, false, ℕ, cond, arith}
 use Rattle.sets.proofs.desk_count.Goals as goal
 
@@ -13,14 +13,8 @@ pub loop-m-init : goal.loop-m-init
 unfolding desks
 loop-m-init c = refl
 
-pub for_desk-requires : goal.for_desk-requires
-for_desk-requires c = c.requires.0.ready _ c.loop-m-test.true
-
 pub overflow_add-n : goal.overflow_add-n
 overflow_add-n c = omega (arith, desks_fit _ _ _ _ _ c.loop-m.invariant (counted _ _ _ c.from-n.ensures c.for_desk.ensures), c.requires.1)
 
 pub loop-m-preserved : goal.loop-m-preserved
 loop-m-preserved c = desks_more _ _ _ _ _ c.loop-m.invariant (counted _ _ _ c.from-n.ensures c.for_desk.ensures)
-
-pub returns : goal.returns
-returns c = desks_all _ _ _ _ c.loop-m.invariant c.loop-m.auto.m-index-end c.loop-m-test.false

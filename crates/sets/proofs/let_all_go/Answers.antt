@@ -1,4 +1,4 @@
-use Rattle.sets.specs.Going.{gone_none, gone_asks, gone_more, gone_all, gone_entries}
+use Rattle.sets.specs.Going.{gone_none, gone_asks, gone_more}
 use Rattle.sets.proofs.let_all_go.Goals as goal
 
 pub loop-m-init : goal.loop-m-init
@@ -11,6 +11,3 @@ pub loop-m-preserved : goal.loop-m-preserved
 loop-m-preserved c =
     let e = c.let_go.ensures in
     gone_more c.loop-m.invariant c.loop-m-test.true e.0 e.1
-
-pub returns : goal.returns
-returns c = let w = c.loop-m.invariant in (gone_all w c.loop-m-test.false, gone_entries w c.loop-m-test.false)

@@ -3,14 +3,8 @@ use Rattle.rules.specs.Sets.{many_senders}
 use Rattle.std.proofs.Common.{sym, eq-eqb, ne_eqb}
 use Rattle.sets.proofs.many_senders.Goals as goal
 
-pub sender_of-sender-requires : goal.sender_of-sender-requires
-sender_of-sender-requires c = c.requires.0.ready 0 c.requires.1
-
 pub loop-m-init : goal.loop-m-init
 loop-m-init c = anyb_zero _
-
-pub sender_of-requires : goal.sender_of-requires
-sender_of-requires c = c.requires.0.ready _ c.loop-m-test.true
 
 pub returns-then-sender_of-sender : goal.returns-then-sender_of-sender
 unfolding many_senders

@@ -1,7 +1,7 @@
 -- The calls have found the union, how many are for the desk, and whether the set may go (Found); the three cases are
 -- those of the rule.
-use Rattle.sets.specs.Reading.{desks_bound}
-use Rattle.sets.specs.Returns.{Found, held, used_up, all_go, room}
+use Rattle.sets.specs.Desks.{desks_bound}
+use Rattle.sets.specs.Returns.{Found, held, used_up, all_go}
 use Rattle.table.specs.Words.{state}
 use Rattle.rules.specs.Limits.{house}
 use Rattle.laws.specs.Ledger.{ledger_form}
@@ -11,15 +11,6 @@ use Rattle.sets.proofs.release_all.Goals.{After-set_may_go}
 
 found : (c : After-set_may_go) → Found c.args.t.now c.args.list.now c.union_of-mask.result c.desk_count-n.result c.set_may_go.result
 found c = record { union_is = c.union_of-mask.ensures; desks_are = c.desk_count-n.ensures; goes = c.set_may_go.ensures }
-
-pub union_of-mask-requires : goal.union_of-mask-requires
-union_of-mask-requires c = c.requires.listed
-
-pub desk_count-n-requires : goal.desk_count-n-requires
-desk_count-n-requires c = (c.requires.listed, c.requires.allowed.most)
-
-pub set_may_go-requires : goal.set_may_go-requires
-set_may_go-requires c = (c.requires.listed, c.requires.allowed.some, c.desk_count-n.ensures)
 
 pub returns-then-not-set_may_go : goal.returns-then-not-set_may_go
 returns-then-not-set_may_go c = held (found (goal.at.returns-then-not-set_may_go c).After-set_may_go) _ (ap not c.if-not-set_may_go.true) c.requires.listed.long
@@ -33,10 +24,6 @@ overflow_add-count c =
 pub returns-then-count-n : goal.returns-then-count-n
 returns-then-count-n c =
     used_up (found (goal.at.returns-then-count-n c).After-set_may_go) _ (ap not c.if-not-set_may_go.false) c.count.ensures c.if-count-n.true c.requires.listed.long
-
-pub let_all_go-requires : goal.let_all_go-requires
-let_all_go-requires c =
-    (c.requires, room (found (goal.at.let_all_go-requires c).After-set_may_go) c.args.g.now (ap not c.if-not-set_may_go.false) c.count.ensures c.if-count-n.false)
 
 pub returns : goal.returns
 returns c =

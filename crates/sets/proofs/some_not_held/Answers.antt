@@ -6,9 +6,6 @@ use Rattle.sets.proofs.some_not_held.Goals as goal
 pub loop-m-init : goal.loop-m-init
 loop-m-init c = anyb_zero _
 
-pub not_held-requires : goal.not_held-requires
-not_held-requires c = c.requires.ready _ c.loop-m-test.true
-
 pub returns-then-not_held : goal.returns-then-not_held
 unfolding some_not_held
 returns-then-not_held c = sym (anyb_at _ _ _ c.loop-m-test.true (sym c.not_held.ensures ∙ c.if-not_held.true))

@@ -4,9 +4,6 @@ use Rattle.sets.proofs.union_of.Goals as goal
 pub loop-m-init : goal.loop-m-init
 loop-m-init c = gathered_none _ _
 
-pub own_of-requires : goal.own_of-requires
-own_of-requires c = c.requires.ready _ c.loop-m-test.true
-
 pub loop-m-preserved : goal.loop-m-preserved
 loop-m-preserved c = gathered_more _ _ _ _ _ _ c.loop-m.invariant c.own_of.ensures c.merge_vector-both.ensures
 

@@ -1,23 +1,14 @@
--- Of the messages of a set: their senders, and how many are for the desk.
-use Rattle.std.specs.Prelude.{◌≡◌, Bool, true, false, cond, List, ℕ, zero, suc, ◌+◌, ◌≤◌, ◌<◌, length}
+-- How many messages of a set are for the desk.
+use Rattle.std.specs.Prelude.{◌≡◌, Bool, true, false, cond, List, ℕ, zero, suc, ◌+◌, ◌≤◌}
 use Rattle.std.proofs.Common.{sym, ap, ◌∙◌, add-one, arith}
 use Rattle.table.specs.Field.{State}
-use Rattle.table.specs.Layout.{controllers}
 use Rattle.rules.specs.Form.{for_desk}
-use Rattle.rules.specs.Sets.{record_in, sender_of, desks}
-use Rattle.sets.specs.Ready.{Ready}
+use Rattle.rules.specs.Sets.{record_in, desks}
 
--- the sender of a message is a controller of the table
-pub sender_below : (σ : State) (m s : ℕ) → Ready σ m → s ≡ sender_of σ m → s < controllers
-sender_below σ m s w e = omega (arith, w.sender_lt)
-
--- how many are for the desk: one more, all, and at most as many as there are
+-- one more, and at most as many as there are
 pub desks_more : (σ : State) (l : List ℕ) (i n x : ℕ) → n ≡ desks σ l i → x ≡ cond (for_desk σ (record_in σ l i)) 1 0 → n + x ≡ desks σ l (i + 1)
 unfolding desks
 desks_more σ l i n x ne xe = (λ d. ne d + xe d) ∙ ap (desks σ l) (sym (add-one i))
-
-pub desks_all : (σ : State) (l : List ℕ) (i n : ℕ) → n ≡ desks σ l i → i ≤ length l → length l ≤ i → n ≡ desks σ l (length l)
-desks_all σ l i n e a b = let z : i ≡ length l = omega arith in e ∙ ap (desks σ l) z
 
 one_le : (b : Bool) → cond b 1 0 ≤ 1
 one_le true = omega arith
