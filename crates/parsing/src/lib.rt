@@ -9,45 +9,24 @@ use rules::Command;
 
 const RADIX: u64 = lines::RADIX as u64;
 
-// The letters of the steps, in the order of document 01.
-const OPEN: u32 = b'O' as u32;
-
-const SET_DEGREE: u32 = b'K' as u32;
-
-const SEND: u32 = b'S' as u32;
-
-const RELEASE: u32 = b'R' as u32;
-
-const DELIVER: u32 = b'D' as u32;
-
-const LOG: u32 = b'L' as u32;
-
-const CHECKPOINT: u32 = b'C' as u32;
-
-const TELL: u32 = b'T' as u32;
-
-const CRASH: u32 = b'X' as u32;
-
-const HEAR: u32 = b'H' as u32;
-
 // The step of a letter and its numbers; a step doesn't look at numbers that it hasn't.
 #[tactic(auto, unfolding(lines::specs::Lines::step_of))]
 pub fn step_of(letter: u32, a: u32, b: u32, c: u32) -> Option<Command>
     ensures { result ≡ step_of letter a b c }
 {
-    match letter {
-        OPEN => Some(Command::Open(a, b)),
-        SET_DEGREE => Some(Command::SetDegree(a, b)),
-        SEND => Some(Command::Send(a, b, c)),
-        RELEASE => Some(Command::Release(a)),
-        DELIVER => Some(Command::Deliver(a)),
-        LOG => Some(Command::Log(a, b)),
-        CHECKPOINT => Some(Command::Checkpoint(a)),
-        TELL => Some(Command::Tell(a, b)),
-        CRASH => Some(Command::Crash(a)),
-        HEAR => Some(Command::Hear(a, b, c)),
-        _ => None,
-    }
+    Some(match u8::try_from(letter).ok()? {
+        b'O' => Command::Open(a, b),
+        b'K' => Command::SetDegree(a, b),
+        b'S' => Command::Send(a, b, c),
+        b'R' => Command::Release(a),
+        b'D' => Command::Deliver(a),
+        b'L' => Command::Log(a, b),
+        b'C' => Command::Checkpoint(a),
+        b'T' => Command::Tell(a, b),
+        b'X' => Command::Crash(a),
+        b'H' => Command::Hear(a, b, c),
+        _ => return None,
+    })
 }
 
 // How many numbers a step has; the last is one that no letter asks for.
