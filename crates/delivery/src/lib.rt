@@ -14,6 +14,7 @@ ghost use Rattle.laws.specs.Allowed.{Room};
 ghost use Rattle.laws.specs.Answering.{Lent};
 ghost use Rattle.laws.specs.Chain.{Counts, Taken};
 
+use interval::Interval;
 use rules::{Answer, Prospect, Refusal};
 use table::{Status, Table};
 
@@ -27,7 +28,14 @@ pub fn add_interval(t: &mut Table, c: usize, m: u32, r: usize, v: vector::Vector
     let x = table::number_of(t, c, live + 1);
     let mut w = v;
     w[c] = [i, x];
-    interval::write_place(t, c, live as usize, i, x, m, 0, w);
+    let added = Interval {
+        incarnation: i,
+        number: x,
+        cause: m,
+        flag: 0,
+        vector: w,
+    };
+    interval::write_place(t, c, live as usize, &added);
     table::set_live_count(t, c, live + 1);
     table::set_message_state(t, r, Status::Delivered as u32);
 }

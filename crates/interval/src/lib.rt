@@ -17,37 +17,38 @@ ghost use Rattle.interval.specs.LentPlaces.{zero_words};
 use table::{Table, layout};
 use vector::Vector;
 
+// What stands in a place: an interval, by its incarnation and number, its cause and flag, and its vector.
+#[derive(Clone, Copy)]
+pub struct Interval {
+    pub incarnation: u32,
+    pub number: u32,
+    pub cause: u32,
+    pub flag: u32,
+    pub vector: Vector,
+}
+
 // The 20 words of a place, lent from inside the table, become an interval's record.
-pub fn write_interval(d: &mut [u32], i: u32, x: u32, cause: u32, flag: u32, v: Vector)
+pub fn write_interval(d: &mut [u32], it: &Interval)
     requires { length d.old ≡ place_words }
-    ensures { d.new ≡ place_record i x cause flag v }
+    ensures { d.new ≡ place_record it.now.incarnation it.now.number it.now.cause it.now.flag it.now.vector }
 {
-    d[layout::PLACE_INCARNATION_WORD] = i;
-    d[layout::PLACE_NUMBER_WORD] = x;
-    d[layout::CAUSE_WORD] = cause;
-    d[layout::FLAG_WORD] = flag;
+    d[layout::PLACE_INCARNATION_WORD] = it.incarnation;
+    d[layout::PLACE_NUMBER_WORD] = it.number;
+    d[layout::CAUSE_WORD] = it.cause;
+    d[layout::FLAG_WORD] = it.flag;
     let from = layout::PLACE_HEAD;
     let to = layout::PLACE_WORDS;
-    vector::write_vector(&mut d[from..to], v);
+    vector::write_vector(&mut d[from..to], it.vector);
 }
 
 // Place p of c becomes an interval's record; no other word is written.
-pub fn write_place(
-    t: &mut Table,
-    c: usize,
-    p: usize,
-    i: u32,
-    x: u32,
-    cause: u32,
-    flag: u32,
-    v: Vector,
-)
+pub fn write_place(t: &mut Table, c: usize, p: usize, it: &Interval)
     requires { (c < controllers) × (p < places) }
-    ensures { t.new ≡ words (put_part (state t.old) (OfPlace c p 0) 0 (place_record i x cause flag v)) }
+    ensures { t.new ≡ words (put_part (state t.old) (OfPlace c p 0) 0 (place_record it.now.incarnation it.now.number it.now.cause it.now.flag it.now.vector)) }
 {
     let from = table::place_at(c, p);
     let to = from + layout::PLACE_WORDS;
-    write_interval(&mut t[from..to], i, x, cause, flag, v);
+    write_interval(&mut t[from..to], it);
 }
 
 // All words of a part become 0.

@@ -12,6 +12,7 @@ ghost use Rattle.rules.specs.Refused.{refusal_of, answer_of};
 ghost use Rattle.laws.specs.Allowed.{OpenAllowed};
 ghost use Rattle.opening.specs.Opened.{begins_at};
 
+use interval::Interval;
 use rules::{Answer, Refusal};
 use table::{Table, layout};
 use vector::Vector;
@@ -59,8 +60,14 @@ pub fn open_controller(t: &mut Table, c: usize, k: u32)
     let to = from + layout::CONTROLLER_WORDS;
     write_controller(&mut t[from..to], k);
     table::set_known(t, c, c, 0, 1);
-    let v = first_vector(c);
-    interval::write_place(t, c, 0, 0, 1, 0, 1, v);
+    let first = Interval {
+        incarnation: 0,
+        number: 1,
+        cause: 0,
+        flag: 1,
+        vector: first_vector(c),
+    };
+    interval::write_place(t, c, 0, &first);
 }
 
 // Every word becomes 0, the head gets n and its last controller as the one served last, and each of the n controllers

@@ -22,10 +22,9 @@ unfolding new_vector
 new_vector_is σ c k own x v w ev ew eo ex = rw (ew, ev, eo, ex)
 
 -- places from k on were freed, and place k written
-pub places : (t t₁ t₂ : List ℕ) (c k live i x : ℕ) (v : Vector) → live ≡ state t (LiveCount c) → t₁ ≡ words (clear_places (state t) c k live) →
-    t₂ ≡ words (put_part (state t₁) (OfPlace c k 0) 0 (place_record i x 0 0 v)) → t₂ ≡ words (placed (state t) c k i x v)
-unfolding placed
-places t t₁ t₂ c k live i x v e e₁ e₂ = then_part _ (OfPlace c k 0) 0 _ (e₁ ∙ ap (λ n. words (clear_places (state t) c k n)) e) e₂
+pub places : (t t₁ t₂ : List ℕ) (c k live : ℕ) (w : List ℕ) → live ≡ state t (LiveCount c) → t₁ ≡ words (clear_places (state t) c k live) →
+    t₂ ≡ words (put_part (state t₁) (OfPlace c k 0) 0 w) → t₂ ≡ words (put_part (clear_places (state t) c k (state t (LiveCount c))) (OfPlace c k 0) 0 w)
+places t t₁ t₂ c k live w e e₁ e₂ = then_part _ (OfPlace c k 0) 0 _ (e₁ ∙ ap (λ n. words (clear_places (state t) c k n)) e) e₂
 
 -- four words were put
 pub enters : (t t₁ t₂ t₃ t₄ : List ℕ) (c k i x : ℕ) → t₁ ≡ words (put (state t) (Incarnation c) i) → t₂ ≡ words (put (state t₁) (LiveCount c) k) →
@@ -35,8 +34,8 @@ enters t t₁ t₂ t₃ t₄ c k i x e₁ e₂ e₃ e₄ = then_put _ (Known c c
 
 -- the place is written, and the incarnation entered
 pub begins : (t t₁ t₂ : List ℕ) (c k own x : ℕ) (v : Vector) → own ≡ state t (Incarnation c) → x ≡ number_of (state t) c (k + 1) → v ≡ new_vector (state t) c k →
-    t₁ ≡ words (placed (state t) c k (own + 1) x v) → t₂ ≡ words (entered (state t₁) c (k + 1) (own + 1) x) → t₂ ≡ words (restarted (state t) c k)
-unfolding restarted
+    t₁ ≡ words (put_part (clear_places (state t) c k (state t (LiveCount c))) (OfPlace c k 0) 0 (place_record (own + 1) x 0 0 v)) → t₂ ≡ words (entered (state t₁) c (k + 1) (own + 1) x) → t₂ ≡ words (restarted (state t) c k)
+unfolding restarted placed
 begins t t₁ t₂ c k own x v eo ex ev e₁ e₂ =
     called (λ σ. entered σ c (k + 1) (own + 1) x) _ e₁ e₂ (agree_entered _ _ (agree_words _ e₁) c (k + 1) refl refl)
     ∙ (λ d. words (entered (placed (state t) c k (eo d + 1) (ex d) (ev d)) c (k + 1) (eo d + 1) (ex d)))

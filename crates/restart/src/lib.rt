@@ -2,11 +2,14 @@
 #![tactic(auto)]
 
 ghost use Rattle.std.specs.Prelude.{◌≡◌, ◌<◌};
+ghost use Rattle.table.specs.Field.{OfPlace, LiveCount};
+ghost use Rattle.table.specs.Change.{put_part, clear_places};
 ghost use Rattle.table.specs.Layout.{controllers, incarnations};
 ghost use Rattle.table.specs.Words.{state, words};
-ghost use Rattle.rules.specs.Shared.{new_vector, placed, entered, restarted, start_anew, removed};
+ghost use Rattle.rules.specs.Shared.{new_vector, place_record, entered, restarted, start_anew, removed};
 ghost use Rattle.laws.specs.Chain.{Starts};
 
+use interval::Interval;
 use table::Table;
 use vector::Vector;
 
@@ -21,15 +24,15 @@ pub fn new_vector(t: &Table, c: usize, k: u32) -> Vector
     v
 }
 
-// Freed places become 0, and place k gets the new interval: its incarnation i, its number x and its vector v.
-pub fn write_start(t: &mut Table, c: usize, k: u32, i: u32, x: u32, v: Vector)
+// Freed places become 0, and place k gets the new interval.
+pub fn write_start(t: &mut Table, c: usize, k: u32, it: &Interval)
     requires { Starts (state t.old) c k }
-    ensures { t.new ≡ words (placed (state t.old) c k i x v) }
+    ensures { t.new ≡ words (put_part (clear_places (state t.old) c k (state t.old (LiveCount c))) (OfPlace c k 0) 0 (place_record it.now.incarnation it.now.number it.now.cause it.now.flag it.now.vector)) }
 {
     let live = table::live_count(t, c) as usize;
     let p = k as usize;
     interval::clear_places(t, c, p, live);
-    interval::write_place(t, c, p, i, x, 0, 0, v);
+    interval::write_place(t, c, p, it);
 }
 
 // The controller is in incarnation i, with k intervals live and stable, the last of them x.
@@ -48,11 +51,15 @@ pub fn begin_incarnation(t: &mut Table, c: usize, k: u32)
     requires { Starts (state t.old) c k }
     ensures { t.new ≡ words (restarted (state t.old) c k) }
 {
-    let i = table::incarnation(t, c) + 1;
-    let x = table::number_of(t, c, k + 1);
-    let v = new_vector(t, c, k);
-    write_start(t, c, k, i, x, v);
-    enter(t, c, k + 1, i, x);
+    let start = Interval {
+        incarnation: table::incarnation(t, c) + 1,
+        number: table::number_of(t, c, k + 1),
+        cause: 0,
+        flag: 0,
+        vector: new_vector(t, c, k),
+    };
+    write_start(t, c, k, &start);
+    enter(t, c, k + 1, start.incarnation, start.number);
 }
 
 // Starting anew at c after the k-th interval. The start may be checkpointed as it begins.

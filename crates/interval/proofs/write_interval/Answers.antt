@@ -7,4 +7,6 @@ use Rattle.interval.proofs.write_interval.Goals as goal
 
 pub returns : goal.returns
 unfolding place_record
-returns c = rw c.write_vector.ensures (headed (c.args.i ∷ c.args.x ∷ c.args.cause ∷ c.args.flag ∷ []) c.args.d.now (flat _) 4 16 refl c.requires)
+returns c =
+    let it = c.args.it.now in
+    rw c.write_vector.ensures (headed (it.incarnation ∷ it.number ∷ it.cause ∷ it.flag ∷ []) c.args.d.now (flat _) 4 16 refl c.requires)

@@ -6,4 +6,4 @@ use Rattle.opening.proofs.open_controller.Goals as goal
 pub returns : goal.returns
 returns c =
     let part = controller_lent _ _ _ _ _ _ c.told-t c.requires c.write_controller.ensures c.controller_at-from.ensures refl in
-    begun_at c.args.t.now _ _ _ _ c.args.k _ part c.set_known.ensures c.first_vector-v.ensures c.write_place.ensures
+    begun_at c.args.t.now _ _ _ _ c.args.k _ part c.set_known.ensures c.first_vector.ensures c.write_place.ensures
