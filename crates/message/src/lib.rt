@@ -22,57 +22,42 @@ ghost use Rattle.laws.specs.Chain.{Chain};
 use rules::{Answer, Refusal};
 use table::{Status, Table, layout};
 
+// What is sent: the payload, from the sender to the receiver, with the sending interval's incarnation, number and
+// vector.
+#[derive(Clone, Copy)]
+pub struct Message {
+    pub sender: u32,
+    pub receiver: u32,
+    pub incarnation: u32,
+    pub number: u32,
+    pub payload: u32,
+    pub vector: vector::Vector,
+}
+
 // The words of a message record, lent from inside the table.
-pub fn write_message(
-    d: &mut [u32],
-    state: u32,
-    sender: u32,
-    receiver: u32,
-    i: u32,
-    x: u32,
-    payload: u32,
-    v: vector::Vector,
-)
+pub fn write_message(d: &mut [u32], state: u32, it: &Message)
     requires { length d.old ≡ message_words }
-    ensures { d.new ≡ message_record state sender receiver i x payload v }
+    ensures { d.new ≡ message_record state it.now.sender it.now.receiver it.now.incarnation it.now.number it.now.payload it.now.vector }
 {
     d[layout::STATE_WORD] = state;
-    d[layout::SENDER_WORD] = sender;
-    d[layout::RECEIVER_WORD] = receiver;
-    d[layout::SENDING_INCARNATION_WORD] = i;
-    d[layout::SENDING_NUMBER_WORD] = x;
-    d[layout::PAYLOAD_WORD] = payload;
+    d[layout::SENDER_WORD] = it.sender;
+    d[layout::RECEIVER_WORD] = it.receiver;
+    d[layout::SENDING_INCARNATION_WORD] = it.incarnation;
+    d[layout::SENDING_NUMBER_WORD] = it.number;
+    d[layout::PAYLOAD_WORD] = it.payload;
     let from = layout::MESSAGE_HEAD;
     let to = layout::MESSAGE_WORDS;
-    vector::write_vector(&mut d[from..to], v);
+    vector::write_vector(&mut d[from..to], it.vector);
 }
 
 // The words of record r, of a message that is held.
-pub fn write_held(
-    t: &mut Table,
-    r: usize,
-    sender: u32,
-    receiver: u32,
-    i: u32,
-    x: u32,
-    payload: u32,
-    v: vector::Vector,
-)
+pub fn write_held(t: &mut Table, r: usize, it: &Message)
     requires { r < messages }
-    ensures { t.new ≡ words (put_part (state t.old) (OfMessage r 0) 0 (message_record state_held sender receiver i x payload v)) }
+    ensures { t.new ≡ words (put_part (state t.old) (OfMessage r 0) 0 (message_record state_held it.now.sender it.now.receiver it.now.incarnation it.now.number it.now.payload it.now.vector)) }
 {
     let from = table::message_at(r);
     let to = from + layout::MESSAGE_WORDS;
-    write_message(
-        &mut t[from..to],
-        Status::Held as u32,
-        sender,
-        receiver,
-        i,
-        x,
-        payload,
-        v,
-    );
+    write_message(&mut t[from..to], Status::Held as u32, it);
 }
 
 // Whether no record is left for a message.
@@ -116,12 +101,17 @@ pub fn send_newest(t: &mut Table, sender: u32, receiver: u32, payload: u32) -> A
 {
     let c = sender as usize;
     let newest = table::live_count(t, c) as usize - 1;
-    let i = table::place_incarnation(t, c, newest);
-    let x = table::place_number(t, c, newest);
-    let v = newest_vector(t, c);
+    let message = Message {
+        sender,
+        receiver,
+        incarnation: table::place_incarnation(t, c, newest),
+        number: table::place_number(t, c, newest),
+        payload,
+        vector: newest_vector(t, c),
+    };
     let r = table::records_used(t) as usize;
     let m = table::last_given(t) + 1;
-    write_held(t, r, sender, receiver, i, x, payload, v);
+    write_held(t, r, &message);
     table::set_sent_count(t, m);
     Answer::Sent(m)
 }

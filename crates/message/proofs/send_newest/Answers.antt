@@ -10,5 +10,5 @@ overflow_add-m c = search next_fits
 pub returns : goal.returns
 returns c =
     let a = c.args in
-    writes_sent a.t.now _ _ a.sender a.receiver a.payload _ _ _ _ _ _ c.live_count.ensures c.place_incarnation-i.ensures c.place_number-x.ensures
-    c.newest_vector-v.ensures c.records_used-r.ensures c.last_given-m.ensures c.write_held.ensures c.set_sent_count.ensures
+    writes_sent a.t.now _ _ a.sender a.receiver a.payload _ _ _ _ _ _ c.live_count.ensures c.place_incarnation.ensures c.place_number.ensures
+    c.newest_vector.ensures c.records_used-r.ensures c.last_given-m.ensures c.write_held.ensures c.set_sent_count.ensures

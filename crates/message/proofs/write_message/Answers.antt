@@ -10,5 +10,6 @@ use Rattle.message.proofs.write_message.Goals as goal
 pub returns : goal.returns
 unfolding message_record
 returns c =
+    let it = c.args.it.now in
     rw c.write_vector.ensures
-    (headed (c.args.state ∷ c.args.sender ∷ c.args.receiver ∷ c.args.i ∷ c.args.x ∷ c.args.payload ∷ []) c.args.d.now (flat _) message_head vector_words refl c.requires)
+    (headed (c.args.state ∷ it.sender ∷ it.receiver ∷ it.incarnation ∷ it.number ∷ it.payload ∷ []) c.args.d.now (flat _) message_head vector_words refl c.requires)
