@@ -1,5 +1,5 @@
--- The calls of the C interface that no letter asks for. A step by its letter is in crates/run/specs/Call.antt, a list of such steps in
--- crates/run/specs/Run.antt, and the questions in crates/questions/specs/Numbers.antt.
+-- The calls of the C interface that no letter asks for. A step by its letter is in crates/run/specs/Call.antt, a list
+-- of such steps in crates/run/specs/Run.antt, and the questions in crates/questions/specs/Numbers.antt.
 use Rattle.std.specs.Prelude.{List, ℕ}
 use Rattle.rules.specs.Step.{step, release_set, dispatch, step_call}
 use Rattle.rules.specs.declared.Command.TheVariants.{SetGap}

@@ -1,5 +1,5 @@
-// The C interface: one step, a list of steps, the step that sets the gap, the release of a set, the dispatcher, and two questions, on buffers
-// that the caller lends. include/goulvizad.h documents it.
+// The C interface: one step, a list of steps, the step that sets the gap, the release of a set, the dispatcher, and two
+// questions, on buffers that the caller lends. include/goulvizad.h documents it.
 #![tactic(auto)]
 
 ghost use Rattle.std.specs.Prelude.{◌≡◌, List, ℕ};
@@ -100,7 +100,8 @@ pub extern "C" fn goulvizad_in_form(t: &[u32]) -> u32
     u32::from(questions::is_formed(t))
 }
 
-// Whether the newest live interval of a controller is a checkpoint, so that a caller can see one that the gap has forced.
+// Whether the newest live interval of a controller is a checkpoint, so that a caller can see one that the gap has
+// forced.
 #[unsafe(no_mangle)]
 pub extern "C" fn goulvizad_is_checkpoint(t: &[u32], controller: u32) -> u32
     ensures { result ≡ checkpoint_number t.now controller }

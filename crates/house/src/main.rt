@@ -1,5 +1,6 @@
-// The program: it reads bytes, hands them to `session`, and writes out what is owed before it reads again. What is owed, for
-// any bytes, is proved there; that this loop hands over all that it reads, and writes all that is owed, can only be read here.
+// The program: it reads bytes, hands them to `session`, and writes out what is owed before it reads again. What is
+// owed, for any bytes, is proved there; that this loop hands over all that it reads, and writes all that is owed, can
+// only be read here.
 #![tactic(auto)]
 
 ghost use Rattle.std.specs.Prelude.{◌≤◌, length, IfSome};
@@ -15,8 +16,8 @@ const READ_ROOM: usize = 512;
 // Each byte that is read may end a line.
 const OUT_ROOM: usize = READ_ROOM * ANSWER_ROOM;
 
-// Says why a call has failed, in the system's words, without the number that the library puts behind them; with it, where there is
-// no memory to take it away.
+// Says why a call has failed, in the system's words, without the number that the library puts behind them; with it,
+// where there is no memory to take it away.
 fn fail(rt: HostRuntime, what: &str, error: Error) -> io::Result<()> {
     let Ok(text) = format!(in rt.alloc(); "{error}") else {
         return eprintln!(rt; "house: {what}: {error}");
@@ -28,8 +29,8 @@ fn fail(rt: HostRuntime, what: &str, error: Error) -> io::Result<()> {
     eprintln!(rt; "house: {what}: {words}")
 }
 
-// Whether a call that has failed is to be made again: a signal came first. Otherwise it says why, unless nobody reads the output
-// any more, which is no fault.
+// Whether a call that has failed is to be made again: a signal came first. Otherwise it says why, unless nobody reads
+// the output any more, which is no fault.
 fn again(rt: HostRuntime, what: &str, error: Error) -> bool {
     match error.kind() {
         ErrorKind::Interrupted => true,

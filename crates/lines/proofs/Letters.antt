@@ -1,5 +1,5 @@
--- W4: "New steps get a line in `house` only where a request names the letter." It names none for the gap: no letter asks for it, and no
--- line does.
+-- W4: "New steps get a line in `house` only where a request names the letter." It names none for the gap: no letter
+-- asks for it, and no line does.
 use Rattle.std.specs.Prelude.{◌≡◌, refl, Bool, true, false, cond, Option, Some, None, List, [], ◌∷◌, map, ℕ, length, get_or}
 use Rattle.std.proofs.Common.{sym, ap, ◌∙◌, true≢false, ◌==◌}
 use Prim.Native.Char.{code}

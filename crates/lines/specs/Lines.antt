@@ -1,5 +1,5 @@
--- Document 01, "The program and its lines": what a line asks, and the line of an answer. Bytes are numbers, without the line
--- feed that ends a line of input.
+-- Document 01, "The program and its lines": what a line asks, and the line of an answer. Bytes are numbers, without the
+-- line feed that ends a line of input.
 use Rattle.std.specs.Prelude.{Bool, true, cond, Option, Some, None, ◌&&◌, List, [], ◌∷◌, ◌++◌, map, ℕ, zero, suc, ◌+◌, ◌-◌, ◌*◌, ◌/◌, ◌%◌, length, get_or, ◌==◌}
 use Prim.Native.Char.{code}
 use Rattle.base.specs.Choice.{◌≤?◌, ◌<?◌}
@@ -36,8 +36,9 @@ largest = 4294967295
 abbrev pub radix : ℕ
 radix = 10
 
--- "Letters are those of the program": the step of a letter and its numbers in their order. A step doesn't look at numbers that
--- it hasn't. W4: "New steps get a line in `house` only where a request names the letter", and it names none for its own.
+-- "Letters are those of the program": the step of a letter and its numbers in their order. A step doesn't look at
+-- numbers that it hasn't. W4: "New steps get a line in `house` only where a request names the letter", and it names
+-- none for its own.
 unfoldable pub step_of : ℕ → ℕ → ℕ → ℕ → Option Command
 step_of letter a b c =
     cond (letter == code "O") (Some (Open a b))

@@ -131,7 +131,8 @@ line_none s w l e d = sym (rw (le-leb (length s) longest_line l) (ap asked e ∙
     none_in (l ∷ []) ws d = absurd (d refl)
     none_in (l ∷ b ∷ w) ws d = refl
 
--- A reader of a line whose letter is b has read n fields behind it. Their numbers are the first n of ns, and the others are 0.
+-- A reader of a line whose letter is b has read n fields behind it. Their numbers are the first n of ns, and the others
+-- are 0.
 pub record Line (s : List ℕ) (b : ℕ) (ns : List ℕ) (n : ℕ) : Type 0 where
   pub asks : parse s ≡ asks_with b (take n ns) (drop n (drop 1 (fields s)))
   pub few : n ≤ most_numbers

@@ -1,5 +1,5 @@
--- Laws of bytes written one after the other, of the digits of a number, and of the code that writes a line. `o` is the list
--- that is written to, as it was at first, and `u` as it is then.
+-- Laws of bytes written one after the other, of the digits of a number, and of the code that writes a line. `o` is the
+-- list that is written to, as it was at first, and `u` as it is then.
 use Rattle.std.specs.Prelude.{◌≡◌, refl, List, [], ◌∷◌, ◌++◌, ℕ, zero, suc, ◌+◌, ◌-◌, ◌*◌, ◌/◌, ◌%◌, ◌≤◌, ◌<◌, ◌^◌, length, get_or, set, take, drop}
 use Rattle.std.proofs.Common.{sym, ap, ap₂, ◌∙◌, subst, append_assoc, append-nil, pow-suc, add-one, arith, length-append, length-drop, length-set, take-append-drop, drop-drop, take-suc, take_all, length-take-le, take_at, drop_at, lt-ltb, le-ltb}
 use Rattle.std.proofs.lemmas.List.{set_split, take-set-le, drop-set-add}

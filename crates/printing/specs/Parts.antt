@@ -1,4 +1,5 @@
--- Bytes written at a place of a list, as the contracts of the code that writes them say it, and the room that they need.
+-- Bytes written at a place of a list, as the contracts of the code that writes them say it, and the room that they
+-- need.
 use Rattle.std.specs.Prelude.{◌≡◌, List, ℕ, ◌+◌, ◌*◌, ◌≤◌, length}
 use Rattle.base.specs.Splice.{splice}
 use Rattle.lines.specs.Lines.{most_digits}

@@ -1,4 +1,5 @@
--- The values of an answer in a buffer of the C interface. Which they are, and the answer's number, is in the rules' Report.antt.
+-- The values of an answer in a buffer of the C interface. Which they are, and the answer's number, is in the rules'
+-- Report.antt.
 use Rattle.std.specs.Prelude.{◌≡◌, List, ℕ, length, get_or}
 use Rattle.base.specs.Lists.{tab, length_tab}
 use Rattle.rules.specs.Report.{report}

@@ -27,7 +27,8 @@ module _ (t : List ℕ) where
   unfolding form_of
   form_long e = rw (eq-eqb (length t) table_words e)
 
--- a step was done; its number was stored in the first of the answer's words, and its values came back in the others, which were lent
+-- a step was done; its number was stored in the first of the answer's words, and its values came back in the others,
+-- which were lent
 pub step_done : (t g v d : List ℕ) (x : Command) (k : ℕ) {u h ys : List ℕ} {y : Answer} {number : ℕ} → length d ≡ k + 1 → out_both y u h ≡ step t g x →
     number ≡ (report y).number → ys ≡ value_words y → returned ran_all u h (take 1 (set d 0 number) ++ (ys ++ drop k (drop 1 (set d 0 number)))) ≡ in_answer (taken t g v (Some x))
 step_done t g v d x k {u} {h} {ys} {number = number} l s n m = ap (returned ran_all u h) (stored d l) ∙ ap in_answer (step_taken t g v x s n m)

@@ -1,5 +1,5 @@
--- A call of the C interface that asks for a step by its letter: which step it is, what it returns, and what stands in the three
--- buffers after it.
+-- A call of the C interface that asks for a step by its letter: which step it is, what it returns, and what stands in
+-- the three buffers after it.
 use Rattle.std.specs.Prelude.{◌≡◌, cond, Option, Some, None, List, ℕ, length, ◌==◌}
 use Rattle.std.proofs.Math.Path.{sym}
 use Rattle.std.proofs.Common.{ap, ◌∙◌, eq-eqb, ne_eqb}

@@ -57,7 +57,8 @@ ran_to t g steps (suc i) = one_more steps (ran_to t g steps i) i
 abbrev pub lengths_fit : ℕ → ℕ → Bool
 lengths_fit steps answers = (steps % step_words == 0) && ((answers % answer_words == 0) && (steps / step_words == answers / answer_words))
 
--- A run: all steps one by one. Where the lengths don't fit, which is looked at first, or a letter is unknown, nothing is done.
+-- A run: all steps one by one. Where the lengths don't fit, which is looked at first, or a letter is unknown, nothing
+-- is done.
 unfoldable pub run : List ℕ → List ℕ → List ℕ → List ℕ → Returned
 run t g steps answers =
     let n = length steps / step_words in

@@ -1,5 +1,5 @@
-// Many steps in one call, over the lent words of the steps and of their answers. The form of the table is looked at once, and
-// from then on known.
+// Many steps in one call, over the lent words of the steps and of their answers. The form of the table is looked at
+// once, and from then on known.
 #![tactic(auto)]
 
 ghost use Rattle.std.specs.Prelude.{◌≡◌, true, Some, ◌+◌, ◌*◌, ◌≤◌, length, take};
@@ -151,7 +151,8 @@ fn run_steps(t: &mut [u32], g: &mut [u32], steps: &[u32], n: usize, answers: &mu
     }
 }
 
-// The steps of the list, one by one, each answer in its words. Where the lengths don't fit or a letter is unknown, nothing is done.
+// The steps of the list, one by one, each answer in its words. Where the lengths don't fit or a letter is unknown,
+// nothing is done.
 pub fn run(t: &mut [u32], g: &mut [u32], steps: &[u32], answers: &mut [u32]) -> Result<(), Fault>
     ensures { returned (number_of result) t.new g.new answers.new ≡ run t.old g.old steps.now answers.old }
 {

@@ -1,5 +1,5 @@
--- Laws of a session in its buffers, for the code that takes bytes. `o` is the buffer of answers before a line is written, `u`
--- after it.
+-- Laws of a session in its buffers, for the code that takes bytes. `o` is the buffer of answers before a line is
+-- written, `u` after it.
 use Rattle.std.specs.Prelude.{◌≡◌, refl, false, Some, None, ◌≢◌, ℕ, ◌+◌, ◌-◌, ◌≤◌, ◌<◌, length, get_or, set, take, drop}
 use Rattle.std.proofs.Common.{sym, ap, ap₂, ◌∙◌, arith, suc-ne-zero, add-one, length-append, take_all, take-suc, take-suc-set, drop-drop, length-take-le, eq-eqb, ne_eqb}
 use mathlib.Core.List.{List, [], ◌∷◌, ◌++◌, foldl, foldl-append}

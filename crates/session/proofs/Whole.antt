@@ -1,5 +1,5 @@
--- The program writes what `house_writes` says, wherever its input is cut into reads. What it has written at any time, even where
--- a write broke off, is a first part of that.
+-- The program writes what `house_writes` says, wherever its input is cut into reads. What it has written at any time,
+-- even where a write broke off, is a first part of that.
 use Rattle.std.specs.Prelude.{◌≡◌, refl, ℕ, take, drop}
 use Rattle.std.proofs.Common.{sym, ap, ◌∙◌, take-append-drop}
 use mathlib.Core.List.{List, [], ◌∷◌, ◌++◌, append_assoc, append-nil, foldl-append, flatten}
@@ -49,8 +49,8 @@ unfolding flatten
 flatten_then [] last = append-nil last
 flatten_then (r ∷ reads) last = ap (λ (x : List ℕ). r ++ x) (flatten_then reads last) ∙ sym (append_assoc r (flatten reads) last)
 
--- Whatever is still to be read, and wherever the writing broke off, at byte k, what came out is a first part of what the
--- definition says.
+-- Whatever is still to be read, and wherever the writing broke off, at byte k, what came out is a first part of what
+-- the definition says.
 pub first_part : (reads : List (List ℕ)) (rest : List ℕ) (k : ℕ) → FirstPart (take k (written_for begun reads)) (house_writes (flatten reads ++ rest))
 first_part reads rest k =
     let f = and_then reads rest begun in

@@ -1,12 +1,12 @@
--- The same taken byte by byte, as it is read: what the contracts of the code cite. Whole.antt proves that it writes what
--- `house_writes` says, wherever the input is cut into reads.
+-- The same taken byte by byte, as it is read: what the contracts of the code cite. Whole.antt proves that it writes
+-- what `house_writes` says, wherever the input is cut into reads.
 use Rattle.std.specs.Prelude.{cond, ℕ, ◌+◌, length, set, take, ◌==◌}
 use mathlib.Core.List.{List, [], ◌∷◌, ◌++◌, foldl}
 use Rattle.lines.specs.Lines.{line_feed, longest_line}
 use Rattle.lines.specs.Program.{reply, first_table, first_ledger}
 
--- what there is between two bytes: the table, the ledger, the bytes of a line that hasn't ended, and the answers that are yet
--- to be written
+-- what there is between two bytes: the table, the ledger, the bytes of a line that hasn't ended, and the answers that
+-- are yet to be written
 pub record Session : Type 0 where
   pub table : List ℕ
   pub ledger : List ℕ
@@ -56,8 +56,8 @@ after reads = foldl (λ (s : Session) (bytes : List ℕ). paid (taken_all s byte
 abbrev pub held : List ℕ → List ℕ → List ℕ → ℕ → List ℕ → ℕ → Session
 held t g line n out owed = session t g (take n line) (take owed out)
 
--- And all bytes of the buffer of a line: one byte more is put behind those that it has, where there is room, and what longer lines
--- have left stays behind them.
+-- And all bytes of the buffer of a line: one byte more is put behind those that it has, where there is room, and what
+-- longer lines have left stays behind them.
 unfoldable pub stored : Session → List ℕ → ℕ → List ℕ
 stored s buffer b = cond (b == line_feed) buffer (set buffer (length s.line) b)
 

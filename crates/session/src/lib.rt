@@ -1,5 +1,5 @@
-// The program between its reads and its writes: the bytes of its input become steps on the table and the ledger, and lines of
-// answers.
+// The program between its reads and its writes: the bytes of its input become steps on the table and the ledger, and
+// lines of answers.
 #![tactic(auto)]
 
 ghost use Rattle.std.specs.Prelude.{◌≡◌, [], ◌+◌, ◌*◌, ◌≤◌, length, take, drop};
@@ -16,7 +16,8 @@ pub const LINE_ROOM: usize = LONGEST_LINE + 1;
 // The buffer of a line.
 pub type Line = [u8; LINE_ROOM];
 
-// How many bytes of a line that hasn't ended are there, how many bytes of answers are owed, and whether the table is in form.
+// How many bytes of a line that hasn't ended are there, how many bytes of answers are owed, and whether the table is in
+// form.
 #[derive(Clone, Copy)]
 pub struct Progress {
     pub line: usize,
@@ -142,8 +143,8 @@ fn finish(
     end_line(t, g, formed, line, n, out, 0)
 }
 
-// A read, after n bytes of a line that hasn't ended; one without bytes is the end of the input. Its answers stand at the start
-// of `out`, whose other bytes stay. `formed` says whether the table is in form.
+// A read, after n bytes of a line that hasn't ended; one without bytes is the end of the input. Its answers stand at
+// the start of `out`, whose other bytes stay. `formed` says whether the table is in form.
 pub fn serve(
     t: &mut Table,
     g: &mut [u32],

@@ -1,5 +1,5 @@
--- The table, the ledger and the line that hasn't ended are those after some reads (Reached): before the first, and after each
--- one more. Whether the table is in form is known: the first isn't. The counts stay within their buffers.
+-- The table, the ledger and the line that hasn't ended are those after some reads (Reached): before the first, and
+-- after each one more. Whether the table is in form is known: the first isn't. The counts stay within their buffers.
 use Rattle.std.proofs.Common.{◌≤◌, take}
 use Rattle.formed.specs.Carry.{FormKnown}
 use Rattle.session.specs.Taking.{line_room}

@@ -1,4 +1,5 @@
--- At b the reader has the value of the digits before it, and finds what `number` says with the digits that are left (Reader).
+-- At b the reader has the value of the digits before it, and finds what `number` says with the digits that are left
+-- (Reader).
 use Rattle.parsing.proofs.Digits.{Reader}
 use Rattle.parsing.proofs.number.Given as goal
 

@@ -1,4 +1,5 @@
--- Behind each field that was a number, the line asks what its letter asks with the numbers read and the fields left (Line).
+-- Behind each field that was a number, the line asks what its letter asks with the numbers read and the fields left
+-- (Line).
 use Rattle.std.proofs.Common.{◌≡◌, length}
 use Rattle.parsing.proofs.Reading.{Line}
 use Rattle.parsing.proofs.parse.Given as goal

@@ -1,5 +1,5 @@
--- Each return is an end of a run: lengths that don't fit, an unknown letter, all steps done (wrong_lengths, unknown_letter_lem,
--- all_ran).
+-- Each return is an end of a run: lengths that don't fit, an unknown letter, all steps done (wrong_lengths,
+-- unknown_letter_lem, all_ran).
 use Rattle.run.proofs.Running.{fitted, wrong_lengths, unknown_letter_lem, all_ran}
 use Rattle.std.proofs.Common.{sym, ◌∙◌}
 use Rattle.run.proofs.run.Goals as goal

@@ -1,5 +1,6 @@
--- The line that is read has as many bytes as asked; its answer is the one of a line that has ended (ended_asked, ended_bad). What
--- is known of the form is what the step says of it, and stays as it was beside a line that asks for none.
+-- The line that is read has as many bytes as asked; its answer is the one of a line that has ended (ended_asked,
+-- ended_bad). What is known of the form is what the step says of it, and stays as it was beside a line that asks for
+-- none.
 use Rattle.std.proofs.Common.{refl, sym, ◌∙◌, arith, length-take-le}
 use Rattle.printing.proofs.Writing.{written_drop}
 use Rattle.session.proofs.Buffers.{ended_asked, ended_bad}

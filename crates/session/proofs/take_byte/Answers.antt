@@ -1,5 +1,5 @@
--- Each return is a case of a byte: a line feed, one that has no room, another (taken_feed, taken_full, taken_more, and the same of
--- the buffer of the line).
+-- Each return is a case of a byte: a line feed, one that has no room, another (taken_feed, taken_full, taken_more, and
+-- the same of the buffer of the line).
 use Rattle.std.proofs.Common.{refl, arith}
 use Rattle.session.proofs.Buffers.{taken_feed, taken_more, taken_full, stored_feed, stored_more, stored_full}
 use Rattle.session.proofs.take_byte.Goals as goal
