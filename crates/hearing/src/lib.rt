@@ -19,6 +19,17 @@ ghost use Rattle.hearing.specs.Hearing.{Hears};
 use rules::{Answer, Refusal};
 use table::{Table, layout};
 
+// Who hears of which crash: the one that ended the owner's incarnation.
+#[derive(Clone, Copy)]
+pub struct Hearing {
+    pub hearer: usize,
+    pub owner: usize,
+    pub incarnation: usize,
+    ghost hearer_lt: { hearer < controllers },
+    ghost owner_lt: { owner < controllers },
+    ghost incarnation_lt: { incarnation < incarnations },
+}
+
 // The intervals of the hearer from place k on are undone.
 pub fn roll_back(t: &mut Table, hearer: usize, k: u32)
     requires { Starts (state t.old) hearer k }
@@ -28,39 +39,44 @@ pub fn roll_back(t: &mut Table, hearer: usize, k: u32)
     restart::remove_intervals(t, hearer, k);
 }
 
-// The same, with the answer to it, which names the crash of the owner's incarnation i; `flagged` is the number of the
-// latest checkpoint that is kept.
-pub fn undo(t: &mut Table, hearer: usize, owner: usize, i: usize, k: u32, flagged: u32) -> Answer
-    requires { Starts (state t.old) hearer k × (flagged ≡ latest_flagged (state t.old) hearer k) × (owner < controllers) × (i < incarnations) }
-    ensures { out result t.new ≡ written (undoing (state t.old) hearer owner i k) }
+// The same, with the answer to it, which names the crash; `flagged` is the number of the latest checkpoint that is
+// kept.
+pub fn undo(t: &mut Table, h: Hearing, k: u32, flagged: u32) -> Answer
+    requires { Starts (state t.old) h.hearer k × (flagged ≡ latest_flagged (state t.old) h.hearer k) }
+    ensures { out result t.new ≡ written (undoing (state t.old) h.hearer h.owner h.incarnation k) }
 {
-    let live = table::live_count(t, hearer);
-    let x = table::number_of(t, hearer, k);
+    let live = table::live_count(t, h.hearer);
+    let x = table::number_of(t, h.hearer, k);
     let again = x - flagged;
-    roll_back(t, hearer, k);
-    Answer::Rolled(hearer as u32, x, live - k, again, owner as u32, i as u32)
+    roll_back(t, h.hearer, k);
+    Answer::Rolled(
+        h.hearer as u32,
+        x,
+        live - k,
+        again,
+        h.owner as u32,
+        h.incarnation as u32,
+    )
 }
 
-// The end word of the owner's incarnation i is copied to the hearer, and the hearer's known word is raised to it.
-pub fn note(t: &mut Table, hearer: usize, owner: usize, i: usize)
-    requires { (hearer < controllers) × (owner < controllers) × (i < incarnations) }
-    ensures { t.new ≡ words (noted (state t.old) hearer owner i) }
+// The end word of the owner's incarnation is copied to the hearer, and the hearer's known word is raised to it.
+pub fn note(t: &mut Table, h: Hearing)
+    ensures { t.new ≡ words (noted (state t.old) h.hearer h.owner h.incarnation) }
 {
-    let end = table::end(t, owner, owner, i);
-    let known = table::known(t, hearer, owner, i);
-    table::set_end(t, hearer, owner, i, end);
+    let end = table::end(t, h.owner, h.owner, h.incarnation);
+    let known = table::known(t, h.hearer, h.owner, h.incarnation);
+    table::set_end(t, h.hearer, h.owner, h.incarnation, end);
     if known < end {
-        table::set_known(t, hearer, owner, i, end);
+        table::set_known(t, h.hearer, h.owner, h.incarnation, end);
     }
 }
 
 // The two words get their old values back.
-pub fn take_back(t: &mut Table, hearer: usize, owner: usize, i: usize, known: u32)
-    requires { (hearer < controllers) × (owner < controllers) × (i < incarnations) }
-    ensures { t.new ≡ words (put (put (state t.old) (End hearer owner i) 0) (Known hearer owner i) known) }
+pub fn take_back(t: &mut Table, h: Hearing, known: u32)
+    ensures { t.new ≡ words (put (put (state t.old) (End h.hearer h.owner h.incarnation) 0) (Known h.hearer h.owner h.incarnation) known) }
 {
-    table::set_end(t, hearer, owner, i, 0);
-    table::set_known(t, hearer, owner, i, known);
+    table::set_end(t, h.hearer, h.owner, h.incarnation, 0);
+    table::set_known(t, h.hearer, h.owner, h.incarnation, known);
 }
 
 // What refuses H before the hearer's places are looked at.
@@ -85,21 +101,21 @@ pub fn check_hear(t: &Table, hearer: u32, owner: u32, i: u32) -> Result<(), Refu
 }
 
 // H, where none of these applies. Where it would have to undo in the last incarnation, the noted words are taken back.
-pub fn hear_crash(t: &mut Table, hearer: usize, owner: usize, i: usize) -> Result<Answer, Refusal>
-    requires { Hears t.old hearer owner i }
-    ensures { out (answer_of result) t.new ≡ written (hear (state t.old) hearer owner i) }
+pub fn hear_crash(t: &mut Table, h: Hearing) -> Result<Answer, Refusal>
+    requires { Hears t.old h.hearer h.owner h.incarnation }
+    ensures { out (answer_of result) t.new ≡ written (hear (state t.old) h.hearer h.owner h.incarnation) }
 {
-    let known = table::known(t, hearer, owner, i);
-    note(t, hearer, owner, i);
-    let stop = interval::lowest_condemned(t, hearer);
-    if table::live_count(t, hearer) as usize <= stop.place {
-        return Ok(Answer::Heard(hearer as u32));
+    let known = table::known(t, h.hearer, h.owner, h.incarnation);
+    note(t, h);
+    let stop = interval::lowest_condemned(t, h.hearer);
+    if table::live_count(t, h.hearer) as usize <= stop.place {
+        return Ok(Answer::Heard(h.hearer as u32));
     }
-    if layout::LAST_INCARNATION <= table::incarnation(t, hearer) {
-        take_back(t, hearer, owner, i, known);
+    if layout::LAST_INCARNATION <= table::incarnation(t, h.hearer) {
+        take_back(t, h, known);
         return Err(Refusal::IncarnationsUsedUp);
     }
-    Ok(undo(t, hearer, owner, i, stop.place as u32, stop.flagged))
+    Ok(undo(t, h, stop.place as u32, stop.flagged))
 }
 
 // H, on a table in form.
@@ -108,5 +124,10 @@ pub fn hear(t: &mut Table, hearer: u32, owner: u32, i: u32) -> Result<Answer, Re
     ensures { out (answer_of result) t.new ≡ written (step_hear (state t.old) hearer owner i) }
 {
     check_hear(t, hearer, owner, i)?;
-    hear_crash(t, hearer as usize, owner as usize, i as usize)
+    let h = Hearing {
+        hearer: hearer as usize,
+        owner: owner as usize,
+        incarnation: i as usize,
+    };
+    hear_crash(t, h)
 }

@@ -6,7 +6,7 @@ use Rattle.hearing.proofs.hear_crash.Goals.{After-lowest_condemned-stop}
 
 -- what is known where the walk has found a place
 walked : (c : After-lowest_condemned-stop) → let s = c.args in
-    Walked s.t.now c.note.new.t s.hearer s.owner s.i c.known-known.result c.lowest_condemned-stop.result.place
+    Walked s.t.now c.note.new.t s.h.hearer s.h.owner s.h.incarnation c.known-known.result c.lowest_condemned-stop.result.place
 walked c =
     record {
       hears = c.requires;
@@ -31,8 +31,6 @@ undo-requires c =
     let w = walked (goal.at.undo-requires c).After-lowest_condemned-stop in (
       hear_starts w c.live_count.ensures c.if-live_count-stop.false c.incarnation.ensures c.if-incarnation-ge-LAST_INCARNATION.false,
       c.lowest_condemned-stop.ensures.1,
-      w.hears.owner_lt,
-      w.hears.incarnation_lt,
     )
 
 pub returns : goal.returns

@@ -13,7 +13,7 @@ pub number_of-x-requires : goal.number_of-x-requires
 number_of-x-requires c = let s = c.requires.0 in (s.chain.named, room_fits s.room _ (omega arith))
 
 pub overflow_sub-again : goal.overflow_sub-again
-overflow_sub-again c = omega (arith, c.number_of-x.ensures, c.requires.1, flagged_le (state c.args.t.now) c.args.hearer c.args.k)
+overflow_sub-again c = omega (arith, c.number_of-x.ensures, c.requires.1, flagged_le (state c.args.t.now) c.args.h.hearer c.args.k)
 
 pub returns : goal.returns
 returns c = search (undo_done, replay_is)
