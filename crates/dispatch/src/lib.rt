@@ -28,32 +28,43 @@ pub struct Candidate {
     pub comes: Prospect,
 }
 
+// The round of a call: the n controllers, one turn each, beginning with `from`.
+#[derive(Clone, Copy)]
+struct Turns {
+    from: usize,
+    n: usize,
+    ghost from_lt: { from < n },
+    ghost n_le: { n ≤ controllers },
+}
+
+impl Turns {
+    // The turn of controller c.
+    fn of(self, c: usize) -> usize
+        requires { c < self.n }
+        ensures { Turn self.from self.n c result }
+    {
+        if self.from <= c {
+            return c - self.from;
+        }
+        c + self.n - self.from
+    }
+
+    // How many turns come before that of the candidate: all n, where there is nobody yet.
+    fn ahead_of(self, best: Option<Candidate>) -> usize
+        ensures { result ≡ turns_before self.n best }
+    {
+        match best {
+            None => self.n,
+            Some(b) => b.turn,
+        }
+    }
+}
+
 // Whether a message would be delivered or dropped.
 fn goes(p: Prospect) -> bool
     ensures { result ≡ goes p }
 {
     matches!(p, Prospect::WouldDrop(_, _) | Prospect::WouldBegin)
-}
-
-// The turn of controller c in the round of n that begins with `from`.
-fn turn_of(from: usize, n: usize, c: usize) -> usize
-    requires { (from < n) × (c < n) × (n ≤ controllers) }
-    ensures { Turn from n c result }
-{
-    if from <= c {
-        return c - from;
-    }
-    c + n - from
-}
-
-// How many turns of the round come before that of the candidate: all n, where there is nobody yet.
-fn turns_before(n: usize, best: Option<Candidate>) -> usize
-    ensures { result ≡ turns_before n best }
-{
-    match best {
-        None => n,
-        Some(b) => b.turn,
-    }
 }
 
 // The first record from `low` on whose message is released. Most messages of a house were delivered long ago, and a
@@ -73,12 +84,12 @@ fn next_released(t: &Table, low: usize) -> Option<usize>
 
 // The candidate after a look at record r, whose message is released: that message, where its receiver has an earlier
 // turn and it would go. What would come of it is asked last.
-fn better(t: &Table, from: usize, n: usize, best: Option<Candidate>, r: usize) -> Option<Candidate>
-    requires { Lent t.now × Round (state t.now) from n × MessageAllowed (state t.now) r state_released × Best (state t.now) n r best }
-    ensures { Best (state t.now) n (r + 1) result }
+fn better(t: &Table, turns: Turns, best: Option<Candidate>, r: usize) -> Option<Candidate>
+    requires { Lent t.now × Round (state t.now) turns.from turns.n × MessageAllowed (state t.now) r state_released × Best (state t.now) turns.n r best }
+    ensures { Best (state t.now) turns.n (r + 1) result }
 {
-    let i = turn_of(from, n, table::receiver(t, r) as usize);
-    if turns_before(n, best) <= i {
+    let i = turns.of(table::receiver(t, r) as usize);
+    if turns.ahead_of(best) <= i {
         return best;
     }
     let p = delivery::prospect(t, r);
@@ -94,15 +105,15 @@ fn better(t: &Table, from: usize, n: usize, best: Option<Candidate>, r: usize) -
 
 // Whom a call serves: one pass over the records in use, which ends where the first controller of the round has a
 // message.
-fn search(t: &Table, from: usize, n: usize) -> Option<Candidate>
-    requires { Lent t.now × Round (state t.now) from n }
+fn search(t: &Table, turns: Turns) -> Option<Candidate>
+    requires { Lent t.now × Round (state t.now) turns.from turns.n }
     ensures { Chosen (state t.now) result }
 {
     let mut best = None;
     let mut low = 0;
     while let Some(r) = next_released(t, low) {
-        best = better(t, from, n, best, r);
-        if turns_before(n, best) == 0 {
+        best = better(t, turns, best, r);
+        if turns.ahead_of(best) == 0 {
             return best;
         }
         low = r + 1;
@@ -129,7 +140,7 @@ fn dispatch_formed(t: &mut Table) -> Result<Answer, Refusal>
 {
     let n = table::size(t) as usize;
     let from = (table::served(t) as usize + 1) % n;
-    let Some(best) = search(t, from, n) else {
+    let Some(best) = search(t, Turns { from, n }) else {
         return Ok(Answer::Idle);
     };
     serve(t, best.r, best.comes)

@@ -4,10 +4,10 @@ use Rattle.rules.specs.Limits.{house}
 use Rattle.std.proofs.Common.{sym, ◌∙◌, le_refl}
 use Rattle.dispatch.proofs.search.Goals as goal
 
-pub returns-then-turns_before-eq0 : goal.returns-then-turns_before-eq0
-returns-then-turns_before-eq0 c =
+pub returns-then-ahead_of-eq0 : goal.returns-then-ahead_of-eq0
+returns-then-ahead_of-eq0 c =
     let a = c.requires in
-    chosen_first _ (form house _ a.0.good) a.1.size_is c.better-best.ensures (sym c.turns_before.ensures ∙ c.if-turns_before-eq0.true)
+    chosen_first _ (form house _ a.0.good) a.1.size_is c.better-best.ensures (sym c.ahead_of.ensures ∙ c.if-ahead_of-eq0.true)
 
 pub returns : goal.returns
 returns c =

@@ -6,7 +6,7 @@ use Rattle.std.proofs.Common.{◌-◌}
 use Rattle.dispatch.proofs.search.Given as goal
 
 abbrev pub invariant-loop-r : goal.invariant-loop-r
-invariant-loop-r l = Best (state l.t) l.n l.low l.best
+invariant-loop-r l = Best (state l.t) l.turns.n l.low l.best
 
 abbrev pub decreases-loop-r : goal.decreases-loop-r
 decreases-loop-r l = used (state l.t) - l.low
