@@ -1,10 +1,9 @@
 -- Laws of a session in its buffers, for the code that takes bytes. `o` is the buffer of answers before a line is
 -- written, `u` after it.
 use Rattle.std.specs.Prelude.{◌≡◌, refl, false, Some, None, ◌≢◌, ℕ, ◌+◌, ◌-◌, ◌≤◌, ◌<◌, length, get_or, set, take, drop}
-use Rattle.std.proofs.Common.{sym, ap, ap₂, ◌∙◌, arith, suc-ne-zero, add-one, length-append, take_all, take-suc, take-suc-set, drop-drop, length-take-le, eq-eqb, ne_eqb}
+use Rattle.std.proofs.Common.{sym, ap, ◌∙◌, arith, suc-ne-zero, add-one, length-append, take_all, take-suc, take-suc-set, drop-drop, length-take-le, eq-eqb, ne_eqb}
 use mathlib.Core.List.{List, [], ◌∷◌, ◌++◌, foldl, foldl-append}
 use Rattle.std.proofs.lemmas.List.{length-replicate, get_or-replicate, take-append-le}
-use Rattle.std.proofs.Math.Seq.{set_out}
 use Rattle.std.proofs.lemmas.Bool.{lt-leb}
 use Rattle.base.specs.Cases.{failed}
 use Rattle.table.specs.Field.{Size}
@@ -19,8 +18,8 @@ use Rattle.formed.specs.Carry.{FormKnown}
 use Rattle.lines.specs.Lines.{line_feed, parse, answer_line, bad_line}
 use Rattle.printing.specs.Parts.{Short}
 use Rattle.printing.proofs.Writing.{written_take}
-use Rattle.lines.specs.Program.{reply, reply_to, first_table, first_ledger}
-use Rattle.session.specs.Taking.{Session, session, begun, line_room, ended, taken, taken_all, finished, served, paid, after, stored, stored_all}
+use Rattle.lines.specs.Program.{reply, reply_to, first_table}
+use Rattle.session.specs.Taking.{Session, session, begun, line_room, ended, taken, taken_all, finished, served, paid, after}
 
 -- a line that asked for x is answered by a
 pub ended_asked : (t g l : List ℕ) {w h o u : List ℕ} {at r : ℕ} {x : Command} {a : Answer} → parse l ≡ Some x → out_both a w h ≡ step t g x →
@@ -39,48 +38,22 @@ pub taken_feed : (s : Session) (b : ℕ) {r : Session} → b ≡ line_feed → r
 unfolding taken
 taken_feed s b e h = rw (eq-eqb b line_feed e) h
 
--- another byte, where there is room for it
-pub taken_more : (t g line owed : List ℕ) (n b : ℕ) → b ≢ line_feed → length line ≡ line_room → n < line_room →
-    session t g (take (n + 1) (set line n b)) owed ≡ taken (session t g (take n line) owed) b
+-- another byte
+pub taken_more : (t g line owed : List ℕ) (b : ℕ) {more : List ℕ} → b ≢ line_feed → more ≡ take line_room (line ++ b ∷ []) → session t g more owed ≡ taken (session t g line owed) b
 unfolding taken
-taken_more t g line owed n b e l h =
+taken_more t g line owed b ne e = rw (ne_eqb b line_feed ne) (ap (λ (x : List ℕ). session t g x owed) e)
+
+-- A byte more in the buffer of a line of which n bytes count, where there is room for it, and where there is none.
+pub pushed : (line : List ℕ) (n b : ℕ) → length line ≡ line_room → n < line_room → take (n + 1) (set line n b) ≡ take line_room (take n line ++ b ∷ [])
+pushed line n b l h =
     let q : take (n + 1) (set line n b) ≡ take n line ++ b ∷ [] = ap (λ (k : ℕ). take k (set line n b)) (add-one n) ∙ take-suc-set line n b (omega arith) in
     let z : length (take n line ++ b ∷ []) ≤ line_room = omega (arith, length-append (take n line) (b ∷ []), length-take-le n line (omega arith)) in
-    rw (ne_eqb b line_feed e) (ap (λ (x : List ℕ). session t g x owed) (q ∙ sym (take_all line_room (take n line ++ b ∷ []) z)))
+    q ∙ sym (take_all line_room (take n line ++ b ∷ []) z)
 
--- another byte, where there is none
-pub taken_full : (t g line owed : List ℕ) (n b : ℕ) → b ≢ line_feed → length line ≡ line_room → n ≤ line_room → line_room ≤ n →
-    session t g (take n line) owed ≡ taken (session t g (take n line) owed) b
-unfolding taken
-taken_full t g line owed n b e l h k =
+pub pushed_full : (line : List ℕ) (n b : ℕ) → length line ≡ line_room → n ≤ line_room → line_room ≤ n → take n line ≡ take line_room (take n line ++ b ∷ [])
+pushed_full line n b l h k =
     let z : length (take n line) ≡ n = length-take-le n line (omega arith) in
-    rw (ne_eqb b line_feed e) (ap (λ (x : List ℕ). session t g x owed) (sym (take-append-le line_room (take n line) (b ∷ []) (omega arith) ∙ take_all line_room (take n line) (omega arith))))
-
--- what each of them does to the buffer of the line
-pub stored_feed : (s : Session) (buffer : List ℕ) (b : ℕ) → b ≡ line_feed → buffer ≡ stored s buffer b
-unfolding stored
-stored_feed s buffer b e = rw (eq-eqb b line_feed e)
-
-pub stored_more : (t g line owed : List ℕ) (n b : ℕ) → b ≢ line_feed → length line ≡ line_room → n ≤ line_room → set line n b ≡ stored (session t g (take n line) owed) line b
-unfolding stored
-stored_more t g line owed n b e l h = rw (ne_eqb b line_feed e, length-take-le n line (omega arith))
-
-pub stored_full : (t g line owed : List ℕ) (n b : ℕ) → b ≢ line_feed → length line ≡ line_room → n ≤ line_room → line_room ≤ n →
-    line ≡ stored (session t g (take n line) owed) line b
-stored_full t g line owed n b e l h k = sym (set_out line n b (omega arith)) ∙ stored_more t g line owed n b e l h
-
--- the buffer, after one byte more
-stored_then : (bytes : List ℕ) (s : Session) (buffer : List ℕ) (b : ℕ) → stored_all s buffer (bytes ++ b ∷ []) ≡ stored (taken_all s bytes) (stored_all s buffer bytes) b
-unfolding stored_all
-stored_then [] s buffer b = refl
-stored_then (x ∷ bytes) s buffer b = stored_then bytes (taken s x) (stored s buffer x) b
-
-pub stored_next : (s : Session) (buffer bytes : List ℕ) (i : ℕ) {r : Session} {l k : List ℕ} → r ≡ taken_all s (take i bytes) → l ≡ stored_all s buffer (take i bytes) →
-    k ≡ stored r l (get_or bytes i 0) → i < length bytes → k ≡ stored_all s buffer (take (i + 1) bytes)
-stored_next s buffer bytes i e f g h =
-    g
-    ∙ ap₂ (λ (x : Session) (y : List ℕ). stored x y (get_or bytes i 0)) e f
-    ∙ sym (ap (stored_all s buffer) (ap (λ (k : ℕ). take k bytes) (add-one i) ∙ take-suc bytes i 0 h) ∙ stored_then (take i bytes) s buffer (get_or bytes i 0))
+    sym (take-append-le line_room (take n line) (b ∷ []) (omega arith) ∙ take_all line_room (take n line) (omega arith))
 
 -- the bytes of a buffer from k on are as before, and so are those from a later place on
 pub behind_later : (o u w : List ℕ) (j k : ℕ) → drop j u ≡ drop j o → drop k w ≡ drop k u → j ≤ k → drop k w ≡ drop k o
@@ -96,21 +69,18 @@ taken_next s bytes i e f h =
     ∙ ap (λ (x : Session). taken x (get_or bytes i 0)) e
     ∙ sym (ap (foldl taken s) (ap (λ (k : ℕ). take k bytes) (add-one i) ∙ take-suc bytes i 0 h) ∙ foldl-append taken s (take i bytes) (get_or bytes i 0 ∷ []))
 
-pub stored_whole : (s : Session) (buffer bytes : List ℕ) (i : ℕ) {l : List ℕ} → l ≡ stored_all s buffer (take i bytes) → length bytes ≤ i → l ≡ stored_all s buffer bytes
-stored_whole s buffer bytes i e h = e ∙ ap (stored_all s buffer) (take_all i bytes h)
-
 -- all bytes of a read
 pub taken_whole : (s : Session) (bytes : List ℕ) (i : ℕ) {r : Session} → r ≡ taken_all s (take i bytes) → length bytes ≤ i → r ≡ taken_all s bytes
 taken_whole s bytes i e h = e ∙ ap (taken_all s) (take_all i bytes h)
 
--- the end of the input, after n bytes of a line
-pub finished_none : (t g line : List ℕ) (n : ℕ) → n ≡ 0 → session t g [] [] ≡ finished (session t g (take n line) [])
+-- the end of the input
+pub finished_none : (t g line : List ℕ) → length line ≡ 0 → session t g line [] ≡ finished (session t g line [])
 unfolding finished
-finished_none t g line n e = rw e
+finished_none t g line e = rw e
 
-pub finished_more : (t g line : List ℕ) (n : ℕ) {r : Session} → n ≤ length line → n ≢ 0 → r ≡ ended (session t g (take n line) []) → r ≡ finished (session t g (take n line) [])
+pub finished_more : (t g line : List ℕ) {r : Session} → length line ≢ 0 → r ≡ ended (session t g line []) → r ≡ finished (session t g line [])
 unfolding finished
-finished_more t g line n l e h = rw (length-take-le n line l, ne_eqb n 0 e) h
+finished_more t g line ne h = rw (ne_eqb (length line) 0 ne) h
 
 -- a read that has no bytes, and one that has some
 pub served_none : (s : Session) (bytes : List ℕ) {r : Session} → length bytes ≡ 0 → r ≡ finished s → r ≡ served s bytes
@@ -123,18 +93,13 @@ unfolding served
 served_some s [] ne h = absurd (ne refl)
 served_some s (b ∷ bytes) ne h = h
 
-pub stored_none : (s : Session) (buffer bytes : List ℕ) → length bytes ≡ 0 → buffer ≡ stored_all s buffer bytes
-unfolding stored_all
-stored_none s buffer [] e = refl
-stored_none s buffer (b ∷ bytes) e = absurd (suc-ne-zero (length bytes) e)
-
 -- The loop of the program: its table, its ledger and the bytes of a line that hasn't ended are those after some reads.
 pub record Reached (t g line : List ℕ) : Type 0 where
   pub reads : List (List ℕ)
   pub here : session t g line [] ≡ after reads
 
-pub reached_first : Reached first_table first_ledger []
-reached_first = record { reads = []; here = refl }
+pub reached_first : {t g line : List ℕ} → session t g line [] ≡ begun → Reached t g line
+reached_first e = record { reads = []; here = e }
 
 -- a table without controllers is not in form, and the first one has none
 sizeless : (t : List ℕ) → state t Size ≡ 0 → in_form house (state t) ≡ false

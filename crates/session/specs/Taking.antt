@@ -1,6 +1,6 @@
 -- The same taken byte by byte, as it is read: what the contracts of the code cite. Whole.antt proves that it writes
 -- what `house_writes` says, wherever the input is cut into reads.
-use Rattle.std.specs.Prelude.{cond, ℕ, ◌+◌, length, set, take, ◌==◌}
+use Rattle.std.specs.Prelude.{cond, ℕ, ◌+◌, length, take, ◌==◌}
 use mathlib.Core.List.{List, [], ◌∷◌, ◌++◌, foldl}
 use Rattle.lines.specs.Lines.{line_feed, longest_line}
 use Rattle.lines.specs.Program.{reply, first_table, first_ledger}
@@ -51,16 +51,3 @@ paid s = session s.table s.ledger s.line []
 -- the reads so far, what was owed after each having been written out
 abbrev pub after : List (List ℕ) → Session
 after reads = foldl (λ (s : Session) (bytes : List ℕ). paid (taken_all s bytes)) begun reads
-
--- The same in buffers: n bytes of a line and `owed` bytes of answers, each from the start of its own.
-abbrev pub held : List ℕ → List ℕ → List ℕ → ℕ → List ℕ → ℕ → Session
-held t g line n out owed = session t g (take n line) (take owed out)
-
--- And all bytes of the buffer of a line: one byte more is put behind those that it has, where there is room, and what
--- longer lines have left stays behind them.
-unfoldable pub stored : Session → List ℕ → ℕ → List ℕ
-stored s buffer b = cond (b == line_feed) buffer (set buffer (length s.line) b)
-
-unfoldable pub stored_all : Session → List ℕ → List ℕ → List ℕ
-stored_all s buffer [] = buffer
-stored_all s buffer (b ∷ bytes) = stored_all (taken s b) (stored s buffer b) bytes

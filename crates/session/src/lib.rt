@@ -2,166 +2,113 @@
 // lines of answers.
 #![tactic(auto)]
 
+mod line;
+
 ghost use Rattle.std.specs.Prelude.{◌≡◌, [], ◌+◌, ◌*◌, ◌≤◌, length, take, drop};
 ghost use Rattle.formed.specs.Carry.{FormKnown};
 ghost use Rattle.printing.specs.Parts.{answer_room};
-ghost use Rattle.session.specs.Taking.{session, line_room, ended, taken, taken_all, finished, served, held, stored, stored_all};
+ghost use Rattle.session.specs.Taking.{session, ended, taken, taken_all, finished, served};
 
-use lines::{LINE_FEED, LONGEST_LINE};
+pub use line::Line;
+use lines::LINE_FEED;
 use table::Table;
 
-// Room for a line: a byte more than it may have only says that there were more.
-pub const LINE_ROOM: usize = LONGEST_LINE + 1;
-
-// The buffer of a line.
-pub type Line = [u8; LINE_ROOM];
-
-// How many bytes of a line that hasn't ended are there, how many bytes of answers are owed, and whether the table is in
-// form.
-#[derive(Clone, Copy)]
-pub struct Progress {
-    pub line: usize,
-    pub owed: usize,
+// A house that is driven from text: its lent table and ledger, whether the table is in form, and the line that hasn't
+// ended. The clauses speak of its fields, so that these are public; who writes one keeps `form_known` true.
+#[derive(Drop)]
+pub struct Session<'a> {
+    pub table: &'a mut Table,
+    pub ledger: &'a mut [u32],
     pub formed: bool,
+    pub line: Line,
+    pub ghost form_known: { FormKnown table.now formed },
 }
 
-// A line of n bytes has ended: its answer goes behind the first `at` bytes of `out`.
-fn end_line(
-    t: &mut Table,
-    g: &mut [u32],
-    formed: bool,
-    line: &Line,
-    n: usize,
-    out: &mut [u8],
-    at: usize,
-) -> Progress
-    requires { FormKnown t.old formed × (n ≤ line_room) × (at + answer_room ≤ length out.old) }
-    ensures answers { held t.new g.new line.now result.line out.new result.owed ≡ ended (held t.old g.old line.now n out.old at) }
-    ensures room { (result.line ≡ 0) × (at ≤ result.owed) × (result.owed ≤ at + answer_room) × (drop result.owed out.new ≡ drop result.owed out.old) }
-    ensures form_known { FormKnown t.new result.formed }
-{
-    let Some(x) = parsing::parse(&line[..n]) else {
-        let bad = printing::write_bad(out, at);
-        return Progress {
-            line: 0,
-            owed: bad,
+impl<'a> Session<'a> {
+    ghost use Rattle.session.specs.Driven.{with_owed, SameReferences};
+
+    pub fn new(table: &'a mut Table, ledger: &'a mut [u32], formed: bool) -> Self
+        requires { FormKnown table.old formed }
+        ensures begun { with_owed result [] ≡ session table.old ledger.old [] [] }
+        ensures same_references { (result.table.ghost_name ≡ table.entry.ghost_name) × (result.ledger.ghost_name ≡ ledger.entry.ghost_name) }
+    {
+        Session {
+            table,
+            ledger,
             formed,
+            line: Line::new(),
+        }
+    }
+
+    // The line has ended: its answer goes behind the first `at` bytes of `out`. Answers where it ends.
+    fn end_line(&mut self, out: &mut [u8], at: usize) -> usize
+        requires { at + answer_room ≤ length out.old }
+        ensures answers { with_owed self.new (take result out.new) ≡ ended (with_owed self.old (take at out.old)) }
+        ensures room { (at ≤ result) × (result ≤ at + answer_room) × (drop result out.new ≡ drop result out.old) }
+        ensures same_references { SameReferences self.old self.new }
+    {
+        let asked = parsing::parse(self.line.as_slice());
+        self.line.clear();
+        let Some(x) = asked else {
+            return printing::write_bad(out, at);
         };
-    };
-    let r = formed::step_carried(t, g, formed, x);
-    let end = printing::write_answer(out, at, r.answer);
-    Progress {
-        line: 0,
-        owed: end,
-        formed: r.formed,
+        let r = formed::step_carried(self.table, self.ledger, self.formed, x);
+        self.formed = r.formed;
+        printing::write_answer(out, at, r.answer)
     }
-}
 
-// One byte of input.
-fn take_byte(
-    t: &mut Table,
-    g: &mut [u32],
-    formed: bool,
-    line: &mut Line,
-    n: usize,
-    b: u8,
-    out: &mut [u8],
-    at: usize,
-) -> Progress
-    requires { FormKnown t.old formed × (n ≤ line_room) × (at + answer_room ≤ length out.old) }
-    ensures answers { held t.new g.new line.new result.line out.new result.owed ≡ taken (held t.old g.old line.old n out.old at) b }
-    ensures room { (result.line ≤ line_room) × (at ≤ result.owed) × (result.owed ≤ at + answer_room) × (drop result.owed out.new ≡ drop result.owed out.old) }
-    ensures kept_line { line.new ≡ stored (held t.old g.old line.old n out.old at) line.old b }
-    ensures form_known { FormKnown t.new result.formed }
-{
-    if b == LINE_FEED {
-        return end_line(t, g, formed, line, n, out, at);
+    // One byte of input.
+    fn take_byte(&mut self, b: u8, out: &mut [u8], at: usize) -> usize
+        requires { at + answer_room ≤ length out.old }
+        ensures answers { with_owed self.new (take result out.new) ≡ taken (with_owed self.old (take at out.old)) b }
+        ensures room { (at ≤ result) × (result ≤ at + answer_room) × (drop result out.new ≡ drop result out.old) }
+        ensures same_references { SameReferences self.old self.new }
+    {
+        if b == LINE_FEED {
+            return self.end_line(out, at);
+        }
+        self.line.push(b);
+        at
     }
-    if LINE_ROOM <= n {
-        return Progress {
-            line: n,
-            owed: at,
-            formed,
-        };
-    }
-    line[n] = b;
-    Progress {
-        line: n + 1,
-        owed: at,
-        formed,
-    }
-}
 
-// Some bytes, after n bytes of a line that hasn't ended: their answers stand at the start of `out`.
-fn take_bytes(
-    t: &mut Table,
-    g: &mut [u32],
-    formed: bool,
-    line: &mut Line,
-    n: usize,
-    bytes: &[u8],
-    out: &mut [u8],
-) -> Progress
-    requires { FormKnown t.old formed × (n ≤ line_room) × (answer_room * length bytes.now ≤ length out.old) }
-    ensures answers { held t.new g.new line.new result.line out.new result.owed ≡ taken_all (session t.old g.old (take n line.old) []) bytes.now }
-    ensures room { (result.line ≤ line_room) × (result.owed ≤ length out.new) × (drop result.owed out.new ≡ drop result.owed out.old) }
-    ensures kept_line { line.new ≡ stored_all (session t.old g.old (take n line.old) []) line.old bytes.now }
-    ensures form_known { FormKnown t.new result.formed }
-{
-    let mut p = Progress {
-        line: n,
-        owed: 0,
-        formed,
-    };
-    for b in bytes {
-        p = take_byte(t, g, p.formed, line, p.line, *b, out, p.owed);
+    // Some bytes: their answers stand at the start of `out`.
+    fn take_bytes(&mut self, bytes: &[u8], out: &mut [u8]) -> usize
+        requires { answer_room * length bytes.now ≤ length out.old }
+        ensures answers { with_owed self.new (take result out.new) ≡ taken_all (with_owed self.old []) bytes.now }
+        ensures room { (result ≤ length out.new) × (drop result out.new ≡ drop result out.old) }
+        ensures same_references { SameReferences self.old self.new }
+    {
+        let mut owed = 0;
+        for b in bytes {
+            owed = self.take_byte(*b, out, owed);
+        }
+        owed
     }
-    p
-}
 
-// The input has ended after n bytes of a line: a last line without line feed counts.
-fn finish(
-    t: &mut Table,
-    g: &mut [u32],
-    formed: bool,
-    line: &Line,
-    n: usize,
-    out: &mut [u8],
-) -> Progress
-    requires { FormKnown t.old formed × (n ≤ line_room) × (answer_room ≤ length out.old) }
-    ensures answers { held t.new g.new line.now result.line out.new result.owed ≡ finished (session t.old g.old (take n line.now) []) }
-    ensures room { (result.line ≡ 0) × (result.owed ≤ length out.new) × (drop result.owed out.new ≡ drop result.owed out.old) }
-    ensures form_known { FormKnown t.new result.formed }
-{
-    if n == 0 {
-        return Progress {
-            line: 0,
-            owed: 0,
-            formed,
-        };
+    // The input has ended: a last line without line feed counts.
+    fn finish(&mut self, out: &mut [u8]) -> usize
+        requires { answer_room ≤ length out.old }
+        ensures answers { with_owed self.new (take result out.new) ≡ finished (with_owed self.old []) }
+        ensures room { (result ≤ length out.new) × (drop result out.new ≡ drop result out.old) }
+        ensures same_references { SameReferences self.old self.new }
+    {
+        if self.line.as_slice().is_empty() {
+            return 0;
+        }
+        self.end_line(out, 0)
     }
-    end_line(t, g, formed, line, n, out, 0)
-}
 
-// A read, after n bytes of a line that hasn't ended; one without bytes is the end of the input. Its answers stand at
-// the start of `out`, whose other bytes stay. `formed` says whether the table is in form.
-pub fn serve(
-    t: &mut Table,
-    g: &mut [u32],
-    formed: bool,
-    line: &mut Line,
-    n: usize,
-    bytes: &[u8],
-    out: &mut [u8],
-) -> Progress
-    requires { FormKnown t.old formed × (n ≤ line_room) × (answer_room * length bytes.now ≤ length out.old) × (answer_room ≤ length out.old) }
-    ensures answers { held t.new g.new line.new result.line out.new result.owed ≡ served (session t.old g.old (take n line.old) []) bytes.now }
-    ensures room { (result.line ≤ line_room) × (result.owed ≤ length out.new) × (drop result.owed out.new ≡ drop result.owed out.old) }
-    ensures kept_line { line.new ≡ stored_all (session t.old g.old (take n line.old) []) line.old bytes.now }
-    ensures form_known { FormKnown t.new result.formed }
-{
-    if bytes.is_empty() {
-        return finish(t, g, formed, line, n, out);
+    // A read; one without bytes is the end of the input. Its answers stand at the start of `out`, whose other bytes stay.
+    // Answers how many bytes they have.
+    pub fn serve(&mut self, bytes: &[u8], out: &mut [u8]) -> usize
+        requires { (answer_room * length bytes.now ≤ length out.old) × (answer_room ≤ length out.old) }
+        ensures answers { with_owed self.new (take result out.new) ≡ served (with_owed self.old []) bytes.now }
+        ensures room { (result ≤ length out.new) × (drop result out.new ≡ drop result out.old) }
+        ensures same_references { SameReferences self.old self.new }
+    {
+        if bytes.is_empty() {
+            return self.finish(out);
+        }
+        self.take_bytes(bytes, out)
     }
-    take_bytes(t, g, formed, line, n, bytes, out)
 }
