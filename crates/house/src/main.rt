@@ -6,7 +6,7 @@
 ghost use Rattle.std.specs.Prelude.{◌≤◌, length, IfSome};
 
 use printing::ANSWER_ROOM;
-use session::LINE_ROOM;
+use session::Session;
 use std::io;
 use std::io::{Error, ErrorKind, Print, Read};
 
@@ -87,29 +87,17 @@ fn read_in(rt: HostRuntime, bytes: &mut [u8]) -> Option<usize>
 fn main(rt: HostRuntime) {
     let mut table = [0u32; 15152];
     let mut ledger = [0u32; 257];
-    let mut line = [0u8; LINE_ROOM];
+    // a table of zeros is not in form
+    let mut house = Session::new(&mut table, &mut ledger, false);
     let mut bytes = [0u8; READ_ROOM];
     let mut out = [0u8; OUT_ROOM];
-    let mut kept = 0;
-    // a table of zeros is not in form
-    let mut formed = false;
     // as above; nothing says that the input ends
     for _ in 0..u64::MAX {
         let Some(n) = read_in(rt, &mut bytes) else {
             return;
         };
-        let p = session::serve(
-            &mut table,
-            &mut ledger,
-            formed,
-            &mut line,
-            kept,
-            &bytes[..n],
-            &mut out,
-        );
-        kept = p.line;
-        formed = p.formed;
-        if !write_out(rt, &out[..p.owed]) {
+        let owed = house.serve(&bytes[..n], &mut out);
+        if !write_out(rt, &out[..owed]) {
             return;
         }
         if n == 0 {
