@@ -192,9 +192,9 @@ module _ {o u : List ℕ} {at v rest i : ℕ} (r : Storing o at v rest i u) (roo
       ∙ r.bytes
 
 -- a space and the digits behind it
-pub number_written : (o u : List ℕ) (at v n : ℕ) → at + number_room ≤ length o → n ≡ length (decimal v) → u ≡ splice (set o at space) (at + 1) (decimal v) →
-    Written o at (space ∷ decimal v) u (at + 1 + n)
-number_written o u at v n h e q =
+pub number_written : {o u : List ℕ} {at r : ℕ} (v : ℕ) → at + number_room ≤ length o → r ≡ at + (1 + length (decimal v)) → u ≡ splice (set o at space) (at + 1) (decimal v) →
+    Written o at (space ∷ decimal v) u r
+number_written {o} {u} {at} {r} v h e q =
     written_more (written_one o at space (omega arith)) (record { stands = q; ends = omega arith }) (omega arith)
 
 -- one value more behind others

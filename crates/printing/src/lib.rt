@@ -1,4 +1,4 @@
-// The line of an answer.
+// The lines of answers.
 #![tactic(auto)]
 
 ghost use Rattle.std.specs.Prelude.{◌≡◌, ◌∷◌, ◌+◌, ◌*◌, ◌≤◌, length};
@@ -14,14 +14,12 @@ const NUMBER_ROOM: usize = 1 + lines::MOST_DIGITS;
 // Room for the line of any answer: the longest is the six letters of `rolled` with six numbers, and a line feed.
 pub const ANSWER_ROOM: usize = 6 + 6 * NUMBER_ROOM + 1;
 
-// Writes the bytes of `word` from `at` on, and says where they end.
-fn write_word(out: &mut [u8], at: usize, word: &[u8]) -> usize
-    requires { at + length word.now ≤ length out.old }
-    ensures { Written out.old at word.now out.new result }
-{
-    let end = at + word.len();
-    out[at..end].copy_from_slice(word);
-    end
+// Lines on their way out: they stand in the first `end` bytes of what is lent for them.
+#[derive(Drop)]
+pub struct Output<'a> {
+    pub bytes: &'a mut [u8],
+    pub end: usize,
+    pub ghost fits: { end ≤ length bytes.now },
 }
 
 // How many digits `v` has.
@@ -37,70 +35,94 @@ fn digit_count(v: u32) -> usize
     n
 }
 
-// Writes a space and the digits of `v` from `at` on, and says where they end.
-fn write_number(out: &mut [u8], at: usize, v: u32) -> usize
-    requires { at + number_room ≤ length out.old }
-    ensures { Written out.old at (space ∷ decimal v) out.new result }
-{
-    let n = digit_count(v);
-    out[at] = lines::SPACE;
-    let mut rest = v;
-    let mut i = at + n;
-    while RADIX <= rest {
-        out[i] = ZERO + (rest % RADIX) as u8;
-        rest /= RADIX;
-        i -= 1;
+impl<'a> Output<'a> {
+    pub fn new(bytes: &'a mut [u8]) -> Self
+        ensures empty { (result.bytes.now ≡ bytes.old) × (result.end ≡ 0) }
+        ensures same_reference { result.bytes.ghost_name ≡ bytes.entry.ghost_name }
+    {
+        Output { bytes, end: 0 }
     }
-    out[i] = ZERO + rest as u8;
-    at + 1 + n
-}
 
-// Writes a line from `at` on, a word and its values, and says where it ends.
-fn write_line(out: &mut [u8], at: usize, word: &[u8], values: &[u32]) -> usize
-    requires { at + (length word.now + number_room * length values.now + 1) ≤ length out.old }
-    ensures { Written out.old at (line_of word.now values.now) out.new result }
-{
-    let mut end = write_word(out, at, word);
-    for value in values {
-        end = write_number(out, end, *value);
+    // Some bytes.
+    fn word(&mut self, word: &[u8])
+        requires { self.old.end + length word.now ≤ length self.old.bytes.now }
+        ensures written { Written self.old.bytes.now self.old.end word.now self.new.bytes.now self.new.end }
+        ensures same_reference { self.new.bytes.ghost_name ≡ self.old.bytes.ghost_name }
+    {
+        let end = self.end + word.len();
+        self.bytes[self.end..end].copy_from_slice(word);
+        self.end = end;
     }
-    out[end] = lines::LINE_FEED;
-    end + 1
-}
 
-// Writes the line of an answer from `at` on, and says where it ends.
-#[tactic(auto, using(crate::proofs::Writing::line_size), unfolding(lines::specs::Lines::answer_line, rules::specs::Report::report))]
-pub fn write_answer(out: &mut [u8], at: usize, a: Answer) -> usize
-    requires { at + answer_room ≤ length out.old }
-    ensures { Short out.old at (answer_line a) out.new result }
-{
-    match a {
-        Answer::Done => write_line(out, at, b"done", &[]),
-        Answer::Sent(m) => write_line(out, at, b"sent", &[m]),
-        Answer::Released(m, mask) => write_line(out, at, b"released", &[m, mask]),
-        Answer::Held(m, mask) => write_line(out, at, b"held", &[m, mask]),
-        Answer::Delivered(m, i, x) => write_line(out, at, b"delivered", &[m, i, x]),
-        Answer::Dropped(m, owner, i) => write_line(out, at, b"dropped", &[m, owner, i]),
-        Answer::Waits(m) => write_line(out, at, b"waits", &[m]),
-        Answer::Crashed(c, i, k, lost, replayed) => {
-            write_line(out, at, b"crashed", &[c, i, k, lost, replayed])
+    // A space and the digits of `v`.
+    fn number(&mut self, v: u32)
+        requires { self.old.end + number_room ≤ length self.old.bytes.now }
+        ensures written { Written self.old.bytes.now self.old.end (space ∷ decimal v) self.new.bytes.now self.new.end }
+        ensures same_reference { self.new.bytes.ghost_name ≡ self.old.bytes.ghost_name }
+    {
+        let last = self.end + digit_count(v);
+        self.bytes[self.end] = lines::SPACE;
+        let mut rest = v;
+        let mut i = last;
+        while RADIX <= rest {
+            self.bytes[i] = ZERO + (rest % RADIX) as u8;
+            rest /= RADIX;
+            i -= 1;
         }
-        Answer::Heard(b) => write_line(out, at, b"heard", &[b]),
-        Answer::Rolled(b, k, undone, replayed, owner, i) => {
-            write_line(out, at, b"rolled", &[b, k, undone, replayed, owner, i])
-        }
-        Answer::Refused(number) => write_line(out, at, b"refused", &[number]),
-        Answer::SetReleased(mask) => write_line(out, at, b"released", &[mask]),
-        Answer::SetHeld(mask) => write_line(out, at, b"held", &[mask]),
-        Answer::Idle => write_line(out, at, b"idle", &[]),
+        self.bytes[i] = ZERO + rest as u8;
+        self.end = last + 1;
     }
-}
 
-// Writes the line `bad` from `at` on, and says where it ends.
-#[tactic(auto, using(crate::proofs::Writing::line_size), unfolding(lines::specs::Lines::bad_line))]
-pub fn write_bad(out: &mut [u8], at: usize) -> usize
-    requires { at + answer_room ≤ length out.old }
-    ensures { Short out.old at bad_line out.new result }
-{
-    write_line(out, at, b"bad", &[])
+    // A line: a word and its values.
+    fn line(&mut self, word: &[u8], values: &[u32])
+        requires { self.old.end + (length word.now + number_room * length values.now + 1) ≤ length self.old.bytes.now }
+        ensures written { Written self.old.bytes.now self.old.end (line_of word.now values.now) self.new.bytes.now self.new.end }
+        ensures same_reference { self.new.bytes.ghost_name ≡ self.old.bytes.ghost_name }
+    {
+        self.word(word);
+        for value in values {
+            self.number(*value);
+        }
+        self.bytes[self.end] = lines::LINE_FEED;
+        self.end += 1;
+    }
+
+    // The line of an answer.
+    #[tactic(auto, using(crate::proofs::Writing::line_size), unfolding(lines::specs::Lines::answer_line, rules::specs::Report::report))]
+    pub fn answer(&mut self, a: Answer)
+        requires { self.old.end + answer_room ≤ length self.old.bytes.now }
+        ensures written { Short self.old.bytes.now self.old.end (answer_line a) self.new.bytes.now self.new.end }
+        ensures same_reference { self.new.bytes.ghost_name ≡ self.old.bytes.ghost_name }
+    {
+        match a {
+            Answer::Done => self.line(b"done", &[]),
+            Answer::Sent(m) => self.line(b"sent", &[m]),
+            Answer::Released(m, mask) => self.line(b"released", &[m, mask]),
+            Answer::Held(m, mask) => self.line(b"held", &[m, mask]),
+            Answer::Delivered(m, i, x) => self.line(b"delivered", &[m, i, x]),
+            Answer::Dropped(m, owner, i) => self.line(b"dropped", &[m, owner, i]),
+            Answer::Waits(m) => self.line(b"waits", &[m]),
+            Answer::Crashed(c, i, k, lost, replayed) => {
+                self.line(b"crashed", &[c, i, k, lost, replayed])
+            }
+            Answer::Heard(b) => self.line(b"heard", &[b]),
+            Answer::Rolled(b, k, undone, replayed, owner, i) => {
+                self.line(b"rolled", &[b, k, undone, replayed, owner, i])
+            }
+            Answer::Refused(number) => self.line(b"refused", &[number]),
+            Answer::SetReleased(mask) => self.line(b"released", &[mask]),
+            Answer::SetHeld(mask) => self.line(b"held", &[mask]),
+            Answer::Idle => self.line(b"idle", &[]),
+        }
+    }
+
+    // The line `bad`.
+    #[tactic(auto, using(crate::proofs::Writing::line_size), unfolding(lines::specs::Lines::bad_line))]
+    pub fn bad(&mut self)
+        requires { self.old.end + answer_room ≤ length self.old.bytes.now }
+        ensures written { Short self.old.bytes.now self.old.end bad_line self.new.bytes.now self.new.end }
+        ensures same_reference { self.new.bytes.ghost_name ≡ self.old.bytes.ghost_name }
+    {
+        self.line(b"bad", &[])
+    }
 }

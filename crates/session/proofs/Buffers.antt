@@ -16,9 +16,11 @@ use Rattle.rules.specs.declared.Answer.{Answer}
 use Rattle.rules.specs.declared.Command.{Command}
 use Rattle.formed.specs.Carry.{FormKnown}
 use Rattle.lines.specs.Lines.{line_feed, parse, answer_line, bad_line}
-use Rattle.printing.specs.Parts.{Short}
-use Rattle.printing.proofs.Writing.{written_take}
+use Rattle.printing.specs.Parts.{answer_room, Short}
+use Rattle.printing.specs.declared.Output.{Output}
+use Rattle.printing.proofs.Writing.{written_take, written_drop, written_length}
 use Rattle.lines.specs.Program.{reply, reply_to, first_table}
+use Rattle.session.specs.Driven.{Added}
 use Rattle.session.specs.Taking.{Session, session, begun, line_room, ended, taken, taken_all, finished, served, paid, after}
 
 -- a line that asked for x is answered by a
@@ -56,10 +58,31 @@ pushed_full line n b l h k =
     sym (take-append-le line_room (take n line) (b ∷ []) (omega arith) ∙ take_all line_room (take n line) (omega arith))
 
 -- the bytes of a buffer from k on are as before, and so are those from a later place on
-pub behind_later : (o u w : List ℕ) (j k : ℕ) → drop j u ≡ drop j o → drop k w ≡ drop k u → j ≤ k → drop k w ≡ drop k o
+behind_later : (o u w : List ℕ) (j k : ℕ) → drop j u ≡ drop j o → drop k w ≡ drop k u → j ≤ k → drop k w ≡ drop k o
 behind_later o u w j k e f h =
     let q : j + (k - j) ≡ k = omega arith in
     f ∙ sym (ap (λ (i : ℕ). drop i u) q) ∙ sym (drop-drop (k - j) j u) ∙ ap (drop (k - j)) e ∙ drop-drop (k - j) j o ∙ ap (λ (i : ℕ). drop i o) q
+
+-- an answer is added
+pub added_answer : {o u : Output} {line : List ℕ} → Short o.bytes.now o.end line u.bytes.now u.end → o.end + answer_room ≤ length o.bytes.now →
+    u.bytes.ghost_name ≡ o.bytes.ghost_name → Added o answer_room u
+added_answer f h e = record {
+  grows = omega (arith, f.written.ends);
+  fits = f.fits;
+  size = written_length f.written (omega arith);
+  beyond = written_drop f.written (omega arith);
+  same_reference = e;
+}
+
+-- bytes are added behind others
+pub added_more : {o u w : Output} {m n k : ℕ} → Added o m u → Added u n w → m + n ≤ k → Added o k w
+added_more {o} {u} {w} f g h = record {
+  grows = omega (arith, f.grows, g.grows);
+  fits = omega (arith, f.fits, g.fits);
+  size = g.size ∙ f.size;
+  beyond = behind_later o.bytes.now u.bytes.now w.bytes.now u.end w.end f.beyond g.beyond g.grows;
+  same_reference = g.same_reference ∙ f.same_reference;
+}
 
 -- the next byte of a read
 pub taken_next : (s : Session) (bytes : List ℕ) (i : ℕ) {r q : Session} → r ≡ taken_all s (take i bytes) → q ≡ taken r (get_or bytes i 0) → i < length bytes →
@@ -69,18 +92,14 @@ taken_next s bytes i e f h =
     ∙ ap (λ (x : Session). taken x (get_or bytes i 0)) e
     ∙ sym (ap (foldl taken s) (ap (λ (k : ℕ). take k bytes) (add-one i) ∙ take-suc bytes i 0 h) ∙ foldl-append taken s (take i bytes) (get_or bytes i 0 ∷ []))
 
--- all bytes of a read
-pub taken_whole : (s : Session) (bytes : List ℕ) (i : ℕ) {r : Session} → r ≡ taken_all s (take i bytes) → length bytes ≤ i → r ≡ taken_all s bytes
-taken_whole s bytes i e h = e ∙ ap (taken_all s) (take_all i bytes h)
-
 -- the end of the input
-pub finished_none : (t g line : List ℕ) → length line ≡ 0 → session t g line [] ≡ finished (session t g line [])
+pub finished_none : (t g line owed : List ℕ) → length line ≡ 0 → session t g line owed ≡ finished (session t g line owed)
 unfolding finished
-finished_none t g line e = rw e
+finished_none t g line owed e = rw e
 
-pub finished_more : (t g line : List ℕ) {r : Session} → length line ≢ 0 → r ≡ ended (session t g line []) → r ≡ finished (session t g line [])
+pub finished_more : (t g line owed : List ℕ) {r : Session} → length line ≢ 0 → r ≡ ended (session t g line owed) → r ≡ finished (session t g line owed)
 unfolding finished
-finished_more t g line ne h = rw (ne_eqb (length line) 0 ne) h
+finished_more t g line owed ne h = rw (ne_eqb (length line) 0 ne) h
 
 -- a read that has no bytes, and one that has some
 pub served_none : (s : Session) (bytes : List ℕ) {r : Session} → length bytes ≡ 0 → r ≡ finished s → r ≡ served s bytes

@@ -11,6 +11,7 @@ ghost use Rattle.session.specs.Taking.{session, ended, taken, taken_all, finishe
 
 pub use line::Line;
 use lines::LINE_FEED;
+use printing::Output;
 use table::Table;
 
 // A house that is driven from text: its lent table and ledger, whether the table is in form, and the line that hasn't
@@ -25,7 +26,7 @@ pub struct Session<'a> {
 }
 
 impl<'a> Session<'a> {
-    ghost use Rattle.session.specs.Driven.{with_owed, SameReferences};
+    ghost use Rattle.session.specs.Driven.{with_owed, owing, Added, SameReferences};
 
     pub fn new(table: &'a mut Table, ledger: &'a mut [u32], formed: bool) -> Self
         requires { FormKnown table.old formed }
@@ -40,75 +41,76 @@ impl<'a> Session<'a> {
         }
     }
 
-    // The line has ended: its answer goes behind the first `at` bytes of `out`. Answers where it ends.
-    fn end_line(&mut self, out: &mut [u8], at: usize) -> usize
-        requires { at + answer_room ≤ length out.old }
-        ensures answers { with_owed self.new (take result out.new) ≡ ended (with_owed self.old (take at out.old)) }
-        ensures room { (at ≤ result) × (result ≤ at + answer_room) × (drop result out.new ≡ drop result out.old) }
+    // The line has ended: its answer goes out.
+    fn end_line(&mut self, out: &mut Output)
+        requires { out.old.end + answer_room ≤ length out.old.bytes.now }
+        ensures answers { owing self.new out.new ≡ ended (owing self.old out.old) }
+        ensures room { Added out.old answer_room out.new }
         ensures same_references { SameReferences self.old self.new }
     {
         let asked = parsing::parse(self.line.as_slice());
         self.line.clear();
         let Some(x) = asked else {
-            return printing::write_bad(out, at);
+            out.bad();
+            return;
         };
         let r = formed::step_carried(self.table, self.ledger, self.formed, x);
         self.formed = r.formed;
-        printing::write_answer(out, at, r.answer)
+        out.answer(r.answer);
     }
 
     // One byte of input.
-    fn take_byte(&mut self, b: u8, out: &mut [u8], at: usize) -> usize
-        requires { at + answer_room ≤ length out.old }
-        ensures answers { with_owed self.new (take result out.new) ≡ taken (with_owed self.old (take at out.old)) b }
-        ensures room { (at ≤ result) × (result ≤ at + answer_room) × (drop result out.new ≡ drop result out.old) }
+    fn take_byte(&mut self, b: u8, out: &mut Output)
+        requires { out.old.end + answer_room ≤ length out.old.bytes.now }
+        ensures answers { owing self.new out.new ≡ taken (owing self.old out.old) b }
+        ensures room { Added out.old answer_room out.new }
         ensures same_references { SameReferences self.old self.new }
     {
         if b == LINE_FEED {
-            return self.end_line(out, at);
+            self.end_line(out);
+        } else {
+            self.line.push(b);
         }
-        self.line.push(b);
-        at
     }
 
-    // Some bytes: their answers stand at the start of `out`.
-    fn take_bytes(&mut self, bytes: &[u8], out: &mut [u8]) -> usize
-        requires { answer_room * length bytes.now ≤ length out.old }
-        ensures answers { with_owed self.new (take result out.new) ≡ taken_all (with_owed self.old []) bytes.now }
-        ensures room { (result ≤ length out.new) × (drop result out.new ≡ drop result out.old) }
+    // Some bytes.
+    fn take_bytes(&mut self, bytes: &[u8], out: &mut Output)
+        requires { out.old.end + answer_room * length bytes.now ≤ length out.old.bytes.now }
+        ensures answers { owing self.new out.new ≡ taken_all (owing self.old out.old) bytes.now }
+        ensures room { Added out.old (answer_room * length bytes.now) out.new }
         ensures same_references { SameReferences self.old self.new }
     {
-        let mut owed = 0;
         for b in bytes {
-            owed = self.take_byte(*b, out, owed);
+            self.take_byte(*b, out);
         }
-        owed
     }
 
     // The input has ended: a last line without line feed counts.
-    fn finish(&mut self, out: &mut [u8]) -> usize
-        requires { answer_room ≤ length out.old }
-        ensures answers { with_owed self.new (take result out.new) ≡ finished (with_owed self.old []) }
-        ensures room { (result ≤ length out.new) × (drop result out.new ≡ drop result out.old) }
+    fn finish(&mut self, out: &mut Output)
+        requires { out.old.end + answer_room ≤ length out.old.bytes.now }
+        ensures answers { owing self.new out.new ≡ finished (owing self.old out.old) }
+        ensures room { Added out.old answer_room out.new }
         ensures same_references { SameReferences self.old self.new }
     {
-        if self.line.as_slice().is_empty() {
-            return 0;
+        if !self.line.as_slice().is_empty() {
+            self.end_line(out);
         }
-        self.end_line(out, 0)
     }
 
-    // A read; one without bytes is the end of the input. Its answers stand at the start of `out`, whose other bytes stay.
-    // Answers how many bytes they have.
+    // A read; one without bytes is the end of the input. Its answers stand at the start of `out`, whose other bytes
+    // stay. Answers how many bytes they have.
     pub fn serve(&mut self, bytes: &[u8], out: &mut [u8]) -> usize
         requires { (answer_room * length bytes.now ≤ length out.old) × (answer_room ≤ length out.old) }
         ensures answers { with_owed self.new (take result out.new) ≡ served (with_owed self.old []) bytes.now }
         ensures room { (result ≤ length out.new) × (drop result out.new ≡ drop result out.old) }
         ensures same_references { SameReferences self.old self.new }
     {
+        let mut owed = Output::new(out);
         if bytes.is_empty() {
-            return self.finish(out);
+            self.finish(&mut owed);
+        } else {
+            self.take_bytes(bytes, &mut owed);
         }
-        self.take_bytes(bytes, out)
+        owed.end
     }
 }

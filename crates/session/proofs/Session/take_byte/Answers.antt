@@ -5,5 +5,5 @@ use Rattle.session.proofs.Session.take_byte.Goals as goal
 pub returns-then-b-eq-LINE_FEED-clause-answers : goal.returns-then-b-eq-LINE_FEED-clause-answers
 returns-then-b-eq-LINE_FEED-clause-answers c = taken_feed _ _ c.if-b-eq-LINE_FEED.true c.end_line.ensures.answers
 
-pub returns-clause-answers : goal.returns-clause-answers
-returns-clause-answers c = taken_more _ _ _ _ _ c.if-b-eq-LINE_FEED.false c.push.ensures
+pub returns-else-b-eq-LINE_FEED-clause-answers : goal.returns-else-b-eq-LINE_FEED-clause-answers
+returns-else-b-eq-LINE_FEED-clause-answers c = taken_more _ _ _ _ _ c.if-b-eq-LINE_FEED.false c.push.ensures
