@@ -19,7 +19,7 @@ pub type Pair = [u32; 2];
 pub type Vector = [Pair; layout::CONTROLLERS];
 
 // The pair of `owner` in the vector whose words begin at word `at`.
-pub fn pair_at(t: &Table, at: usize, owner: usize) -> Pair
+pub fn pair_at(t: &[u32], at: usize, owner: usize) -> Pair
     requires { (at + vector_words ≤ length t.now) × (owner < controllers) }
     ensures { result ≡ pair_at t.now at owner }
 {
@@ -27,7 +27,7 @@ pub fn pair_at(t: &Table, at: usize, owner: usize) -> Pair
 }
 
 // The vector whose words begin at word `at`.
-pub fn vector_at(t: &Table, at: usize) -> Vector
+pub fn vector_at(t: &[u32], at: usize) -> Vector
     requires { at + vector_words ≤ length t.now }
     ensures { result ≡ vector_at t.now at }
 {
