@@ -74,8 +74,7 @@ pub fn prospect(t: &Table, r: usize) -> Prospect
     Prospect::WouldBegin
 }
 
-// Message m, in record r, begins an interval of its receiver. The two vectors are taken once more: a prospect can't
-// hold them.
+// Message m, in record r, begins an interval of its receiver. The two vectors are taken once more: a prospect holds none.
 pub fn deliver_next(t: &mut Table, m: u32, r: usize) -> Answer
     requires { Taken (state t.old) r × (prospect house (state t.old) r ≡ WouldBegin) }
     ensures { out result t.new ≡ written (comes_of (state t.old) m r WouldBegin) }

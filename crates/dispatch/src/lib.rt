@@ -75,7 +75,7 @@ fn next_released(t: &Table, low: usize) -> Option<usize>
 {
     let used = table::records_used(t) as usize;
     for r in low..used {
-        if table::message_state(t, r) == u32::from(Status::Released) {
+        if table::message_state(t, r) == Status::Released as u32 {
             return Some(r);
         }
     }

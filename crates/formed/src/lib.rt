@@ -31,8 +31,8 @@ pub struct Carried {
     pub formed: bool,
 }
 
-// A step on a table, `formed` saying whether that is in form. Where it isn't, every step but an opening is refused, and an
-// opening that is done leaves one in form.
+// A step on a table, `formed` saying whether that is in form. Where it isn't, every step but an opening is refused,
+// and an opening that is done leaves one in form.
 pub fn step_carried(t: &mut Table, g: &mut [u32], formed: bool, x: Command) -> Carried
     requires { FormKnown t.old formed }
     ensures answered { out_both result.answer t.new g.new ≡ step t.old g.old x }

@@ -20,8 +20,8 @@ pub fn looks_at_form(x: Command) -> bool
     !matches!(x, Command::Open(_, _))
 }
 
-// A step after the host's refusals of the table, which is in form where the step looks at that. Only the opening and the
-// release look at the ledger.
+// A step after the host's refusals of the table, which is in form where the step looks at that. Only the opening and
+// the release look at the ledger.
 #[tactic(auto, using(laws::specs::Answering::by_command, laws::specs::Answering::left_beside, laws::specs::Answering::lent_as), unfolding(rules::specs::Step::perform))]
 pub fn perform(t: &mut Table, g: &mut [u32], x: Command) -> Result<Answer, Refusal>
     requires { LentFor t.old x }
@@ -70,8 +70,8 @@ pub fn step(t: &mut [u32], g: &mut [u32], x: Command) -> Answer
     Answer::from(step_lent(t, g, x))
 }
 
-// A step that doesn't look at the ledger, for a caller that has none at hand: it is done beside an empty one, and would be the
-// same beside any other.
+// A step that doesn't look at the ledger, for a caller that has none at hand: it is done beside an empty one, and
+// would be the same beside any other.
 fn step_alone(t: &mut [u32], x: Command) -> Answer
     requires { looks_at_ledger x ≡ false }
     ensures { (g : List ℕ) → out_both result t.new g ≡ step t.old g x }

@@ -69,7 +69,7 @@ pub fn orphaned(t: &Table, c: usize, x: u32, r: usize) -> bool
     requires { r < messages }
     ensures { result ≡ orphaned (state t.now) c x r }
 {
-    (table::message_state(t, r) == u32::from(Status::Held))
+    (table::message_state(t, r) == Status::Held as u32)
         & ((table::sender(t, r) as usize == c) & (x < table::sending_number(t, r)))
 }
 

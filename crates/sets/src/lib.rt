@@ -66,7 +66,7 @@ fn not_held(t: &Table, m: u32) -> bool
     ensures { result ≡ not_held (state t.now) m }
 {
     let r = table::find_record(t, m);
-    table::message_state(t, r) != u32::from(Status::Held)
+    table::message_state(t, r) != Status::Held as u32
 }
 
 fn some_not_held(t: &Table, list: &[u32]) -> bool

@@ -1,5 +1,5 @@
-// Dependency vectors by value, a pair of incarnation and number for each controller: taken from words, filtered, merged,
-// judged, and written back.
+// Dependency vectors by value, a pair of incarnation and number for each controller: taken from words, filtered,
+// merged, judged, and written back.
 #![tactic(auto)]
 
 ghost use Rattle.std.specs.Prelude.{◌≡◌, ◌+◌, ◌≤◌, ◌<◌, leb, length};
@@ -123,7 +123,8 @@ pub fn conflict_pair(c: usize, owner: usize, p: Pair, q: Pair) -> bool
     (owner != c) & ((p[1] != 0) & ((q[1] != 0) & (p[0] != q[0])))
 }
 
-// Whether the pair of `owner` at place p of c, filtered for c, conflicts with q. It is looked at only where q isn't empty.
+// Whether the pair of `owner` at place p of c, filtered for c, conflicts with q. It is looked at only where q isn't
+// empty.
 pub fn place_pair_conflict(t: &Table, c: usize, p: usize, owner: usize, q: Pair) -> bool
     requires { (c < controllers) × (p < places) × (owner < controllers) × Near (place_vector (state t.now) c p) }
     ensures { result ≡ conflict_pair c owner (filter_pair (state t.now) c owner (pair_of (place_vector (state t.now) c p) owner)) q }
