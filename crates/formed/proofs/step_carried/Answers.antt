@@ -32,6 +32,6 @@ returns c =
     let pre = c.requires in
     let unseen = sym c.looks_at_form.ensures ∙ c.if-looks_at_form.false in
     let e : out_both c.from-a.result c.perform.new.t c.perform.new.g ≡ step c.args.t.now c.args.g.now c.args.x =
-      rw c.from-a.ensures (answered _ _ _ _ (lent_unseen _ _ pre.0 unseen) c.perform.ensures) in
+    rw c.from-a.ensures (answered _ _ _ _ (lent_unseen _ _ pre.0 unseen) c.perform.ensures) in
     let f = carried _ _ _ (pre.0, sym c.if-formed.false ∙ pre.1) unseen e in
     record { answered = e; form_known = (f.0, c.is_done.ensures ∙ f.1) }

@@ -9,5 +9,5 @@ pub returns : goal.returns
 returns c =
     let pre = c.requires in
     let e : out_both c.from.result c.perform.new.t c.perform.new.g ≡ step c.args.t.now c.args.g.now c.args.x =
-      rw c.from.ensures (answered _ _ _ _ (lent_for _ _ pre) c.perform.ensures) in
+    rw c.from.ensures (answered _ _ _ _ (lent_for _ _ pre) c.perform.ensures) in
     record { answered = e; lent = kept_by _ _ _ pre e }
