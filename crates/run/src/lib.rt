@@ -2,12 +2,13 @@
 // once, and from then on known.
 #![tactic(auto)]
 
-ghost use Rattle.std.specs.Prelude.{◌≡◌, true, Some, ◌+◌, ◌*◌, ◌≤◌, length, take};
+ghost use Rattle.std.specs.Prelude.{◌≡◌, true, Some, ◌*◌, length};
+ghost use Rattle.std.specs.List.{concat};
 ghost use Rattle.base.specs.Ranges.{allb};
 ghost use Rattle.rules.specs.Step.{out_both, step};
 ghost use Rattle.run.specs.Call.{returned, taken};
 ghost use Rattle.run.specs.Faults.{number, number_of};
-ghost use Rattle.run.specs.Run.{step_words, answer_words, no_values, asked_by, known, ran_all, one_more, ran_to, lengths_fit, run};
+ghost use Rattle.run.specs.Run.{step_words, answer_words, no_values, asked_by, known, call_by, ran_all, ran_to, lengths_fit, run};
 ghost use Rattle.run.specs.Running.{form_of, in_answer};
 
 use formed::Carried;
@@ -55,28 +56,20 @@ fn lengths_fit(steps: usize, answers: usize) -> bool
         && steps / STEP_WORDS == answers / ANSWER_WORDS
 }
 
-// What step i of the list asks.
-fn asked_by(steps: &[u32], i: usize) -> Option<Command>
-    requires { (i + 1) * step_words ≤ length steps.now }
-    ensures { result ≡ asked_by steps.now i }
+// What a step of the list asks.
+fn asked_by(step: &[u32; STEP_WORDS]) -> Option<Command>
+    ensures { result ≡ asked_by step.now 0 }
 {
-    let at = i * STEP_WORDS;
-    parsing::step_of(
-        steps[at + LETTER_WORD],
-        steps[at + A_WORD],
-        steps[at + B_WORD],
-        steps[at + C_WORD],
-    )
+    parsing::step_of(step[LETTER_WORD], step[A_WORD], step[B_WORD], step[C_WORD])
 }
 
-// Whether the letters of the first n steps are known.
-fn letters_known(steps: &[u32], n: usize) -> bool
-    requires { n * step_words ≤ length steps.now }
-    ensures { result ≡ allb n (λ i. known (asked_by steps.now i)) }
+// Whether the letters of all steps are known.
+fn letters_known(steps: &[[u32; STEP_WORDS]]) -> bool
+    ensures { result ≡ allb (length steps.now) (λ i. known (asked_by (concat steps.now) i)) }
 {
     let mut all = true;
-    for i in 0..n {
-        all &= asked_by(steps, i).is_some();
+    for step in steps {
+        all &= asked_by(step).is_some();
     }
     all
 }
@@ -119,35 +112,34 @@ fn answer_step(t: &mut [u32], g: &mut [u32], formed: bool, x: Command, d: &mut [
     done.formed
 }
 
-// Step i of the list, whose letter is known.
+// A step of the list, whose letter is known, with its answer in the words d.
 fn run_step(
     t: &mut [u32],
     g: &mut [u32],
     formed: bool,
-    steps: &[u32],
-    i: usize,
-    answers: &mut [u32],
+    step: &[u32; STEP_WORDS],
+    d: &mut [u32],
 ) -> bool
-    requires { (formed ≡ form_of t.old) × ((i + 1) * step_words ≤ length steps.now) × ((i + 1) * answer_words ≤ length answers.old) × (known (asked_by steps.now i) ≡ true) }
-    ensures answered { returned ran_all t.new g.new (take ((i + 1) * answer_words) answers.new) ≡ one_more steps.now (returned ran_all t.old g.old (take (i * answer_words) answers.old)) i }
+    requires { (formed ≡ form_of t.old) × (length d.old ≡ answer_words) × (known (asked_by step.now 0) ≡ true) }
+    ensures answered { returned ran_all t.new g.new d.new ≡ in_answer (call_by t.old g.old step.now 0) }
     ensures form_known { result ≡ form_of t.new }
 {
-    let Some(x) = asked_by(steps, i) else {
+    let Some(x) = asked_by(step) else {
         return formed;
     };
-    let from = i * ANSWER_WORDS;
-    let to = from + ANSWER_WORDS;
-    answer_step(t, g, formed, x, &mut answers[from..to])
+    answer_step(t, g, formed, x, d)
 }
 
-// All n steps of the list, whose letters are known.
-fn run_steps(t: &mut [u32], g: &mut [u32], steps: &[u32], n: usize, answers: &mut [u32])
-    requires { (n * step_words ≤ length steps.now) × (n * answer_words ≡ length answers.old) × (allb n (λ i. known (asked_by steps.now i)) ≡ true) }
-    ensures { returned ran_all t.new g.new answers.new ≡ ran_to t.old g.old steps.now n }
+// All steps of the list, whose letters are known.
+fn run_steps(t: &mut [u32], g: &mut [u32], steps: &[[u32; STEP_WORDS]], answers: &mut [u32])
+    requires { (length steps.now * answer_words ≡ length answers.old) × (allb (length steps.now) (λ i. known (asked_by (concat steps.now) i)) ≡ true) }
+    ensures { returned ran_all t.new g.new answers.new ≡ ran_to t.old g.old (concat steps.now) (length steps.now) }
 {
     let mut formed = form_of(t);
-    for i in 0..n {
-        formed = run_step(t, g, formed, steps, i, answers);
+    for (i, step) in steps.iter().enumerate() {
+        let from = i * ANSWER_WORDS;
+        let to = from + ANSWER_WORDS;
+        formed = run_step(t, g, formed, step, &mut answers[from..to]);
     }
 }
 
@@ -159,10 +151,10 @@ pub fn run(t: &mut [u32], g: &mut [u32], steps: &[u32], answers: &mut [u32]) -> 
     if !lengths_fit(steps.len(), answers.len()) {
         return Err(Fault::WrongValues);
     }
-    let n = steps.len() / STEP_WORDS;
-    if !letters_known(steps, n) {
+    let (steps, _) = steps.as_chunks::<STEP_WORDS>();
+    if !letters_known(steps) {
         return Err(Fault::UnknownLetter);
     }
-    run_steps(t, g, steps, n, answers);
+    run_steps(t, g, steps, answers);
     Ok(())
 }

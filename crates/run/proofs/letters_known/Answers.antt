@@ -1,16 +1,14 @@
 use Rattle.base.specs.Ranges.{allb_zero, allb_step, allb_end}
 use Rattle.run.specs.Run.{known}
-use Rattle.std.proofs.Common.{ap, ◌∙◌, arith}
+use Rattle.run.proofs.Running.{asked_in}
+use Rattle.std.proofs.Common.{sym, ap, ◌∙◌}
 use Rattle.run.proofs.letters_known.Goals as goal
 
-pub loop-i-init : goal.loop-i-init
-loop-i-init c = (omega arith, allb_zero _)
+pub loop-step-init : goal.loop-step-init
+loop-step-init c = allb_zero _
 
-pub asked_by-requires : goal.asked_by-requires
-asked_by-requires c = omega (arith, c.requires)
-
-pub loop-i-preserved : goal.loop-i-preserved
-loop-i-preserved c = (omega arith, allb_step _ _ _ _ c.loop-i.invariant.1 (c.is_some-all.ensures ∙ ap known c.asked_by.ensures))
+pub loop-step-preserved : goal.loop-step-preserved
+loop-step-preserved c = allb_step _ _ _ _ c.loop-step.invariant (c.is_some-all.ensures ∙ ap known (c.asked_by.ensures ∙ sym (asked_in _ _ c.told-steps c.loop-step-test.true)))
 
 pub returns : goal.returns
-returns c = allb_end _ _ _ _ c.loop-i.invariant.1 c.loop-i.invariant.0 c.loop-i-test.false
+returns c = allb_end _ _ _ _ c.loop-step.invariant c.loop-step.auto.step-index-end c.loop-step-test.false

@@ -1,8 +1,9 @@
--- The flag gathers the letters of the steps before i (allb_step).
+-- The flag gathers the letters of the steps before this one (allb_step).
 use Rattle.base.specs.Ranges.{allb}
 use Rattle.run.specs.Run.{asked_by, known}
-use Rattle.std.proofs.Common.{◌≡◌, ℕ, ◌≤◌}
+use Rattle.std.specs.List.{concat}
+use Rattle.std.proofs.Common.{◌≡◌, ℕ}
 use Rattle.run.proofs.letters_known.Given as goal
 
-abbrev pub invariant-loop-i : goal.invariant-loop-i
-invariant-loop-i l = (l.i ≤ l.n) × (l.all ≡ allb l.i (λ (k : ℕ). known (asked_by l.steps k)))
+abbrev pub invariant-loop-step : goal.invariant-loop-step
+invariant-loop-step l = l.all ≡ allb l.step-index (λ (k : ℕ). known (asked_by (concat l.steps) k))

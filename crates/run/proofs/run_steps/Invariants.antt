@@ -2,8 +2,9 @@
 use Rattle.run.specs.Call.{returned}
 use Rattle.run.specs.Run.{answer_words, ran_all, ran_to}
 use Rattle.run.specs.Running.{form_of}
-use Rattle.std.proofs.Common.{◌≡◌, ◌*◌, ◌≤◌, length, take}
+use Rattle.std.proofs.Common.{◌≡◌, ◌*◌, length, take}
+use Rattle.std.specs.List.{concat}
 use Rattle.run.proofs.run_steps.Given as goal
 
 abbrev pub invariant-loop-i : goal.invariant-loop-i
-invariant-loop-i l = (returned ran_all l.t l.g (take (l.i * answer_words) l.answers) ≡ ran_to l.initial.t l.initial.g l.steps l.i) × (l.formed ≡ form_of l.t) × (l.i ≤ l.n) × (length l.t ≡ length l.initial.t) × (length l.g ≡ length l.initial.g) × (length l.answers ≡ length l.initial.answers)
+invariant-loop-i l = (returned ran_all l.t l.g (take (l.i * answer_words) l.answers) ≡ ran_to l.initial.t l.initial.g (concat l.steps) l.i) × (l.formed ≡ form_of l.t) × (length l.answers ≡ length l.initial.answers)
