@@ -57,8 +57,7 @@ pub fn places_ok(t: &Table, n: u32, c: usize) -> bool
             return false;
         }
     }
-    let free = (layout::PLACES - live) * layout::PLACE_WORDS;
-    parts::all_zero(t, table::place_at(c, live), free)
+    parts::all_zero(&t[table::place_at(c, live)..table::place_at(c, layout::PLACES)])
 }
 
 pub fn all_places_ok(t: &Table, n: u32) -> bool
@@ -82,8 +81,7 @@ pub fn messages_ok(t: &Table, n: u32) -> bool
             return false;
         }
     }
-    let free = (layout::MESSAGES - sent) * layout::MESSAGE_WORDS;
-    parts::all_zero(t, table::message_at(sent), free)
+    parts::all_zero(&t[table::message_at(sent)..table::message_at(layout::MESSAGES)])
 }
 
 // Where the head is in form: every record, the controllers, their rows and places, the messages.

@@ -53,8 +53,7 @@ pub fn is_sound(g: &[u32]) -> bool
     if ENTRIES < n {
         return false;
     }
-    let next = entry_at(n);
-    parts::all_zero(g, next, LEDGER_WORDS - next)
+    parts::all_zero(&g[entry_at(n)..])
 }
 
 // The words of an entry, lent from inside the ledger.

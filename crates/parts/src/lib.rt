@@ -3,54 +3,41 @@
 // block.
 #![tactic(auto)]
 
-ghost use Rattle.std.specs.Prelude.{◌≡◌, cond, ◌+◌, ◌*◌, ◌≤◌, length};
+ghost use Rattle.std.specs.Prelude.{◌≡◌, cond, ◌+◌, ◌≤◌, length};
 ghost use Rattle.table.specs.Layout.{vector_words};
 ghost use Rattle.rules.specs.Limits.{house};
 ghost use Rattle.rules.specs.Vector.{pair};
 ghost use Rattle.rules.specs.Form.{pair_ok, vector_ok, highest, state_ok};
 ghost use Rattle.vector.specs.At.{vector_at};
-ghost use Rattle.parts.specs.Zeros.{block, zeros_from};
+ghost use Rattle.parts.specs.Zeros.{all_zero};
 
 use table::{Status, layout};
 
 // The words of a block: a long run ends at the first block that isn't 0.
 pub const BLOCK: usize = 64;
 
-// Whether the k words from word `at` on are 0, all looked at.
-pub fn words_zero(t: &[u32], at: usize, k: usize) -> bool
-    requires { at + k ≤ length t.now }
-    ensures { result ≡ zeros_from t.now at k }
+// Whether all words of the part are 0, each looked at.
+pub fn words_zero(part: &[u32]) -> bool
+    ensures { result ≡ all_zero part.now }
 {
     let mut ok = true;
-    for x in &t[at..at + k] {
+    for x in part {
         ok = ok & (*x == 0);
     }
     ok
 }
 
-// The same of m blocks.
-pub fn blocks_zero(t: &[u32], at: usize, m: usize) -> bool
-    requires { at + m * block ≤ length t.now }
-    ensures { result ≡ zeros_from t.now at (m * block) }
+// Whether all words of the part are 0: whole blocks, and what is left.
+pub fn all_zero(part: &[u32]) -> bool
+    ensures { result ≡ all_zero part.now }
 {
-    for i in 0..m {
-        if !words_zero(t, at + i * BLOCK, BLOCK) {
+    let (blocks, rest) = part.as_chunks::<BLOCK>();
+    for block in blocks {
+        if !words_zero(block) {
             return false;
         }
     }
-    true
-}
-
-// Whether the k words from word `at` on are 0: whole blocks, and what is left.
-pub fn all_zero(t: &[u32], at: usize, k: usize) -> bool
-    requires { at + k ≤ length t.now }
-    ensures { result ≡ zeros_from t.now at k }
-{
-    let m = k / BLOCK;
-    if !blocks_zero(t, at, m) {
-        return false;
-    }
-    words_zero(t, at + m * BLOCK, k % BLOCK)
+    words_zero(rest)
 }
 
 // The most that a word of a controller may be: 0, if the controller isn't there.

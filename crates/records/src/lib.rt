@@ -15,14 +15,13 @@ pub fn head_ok(t: &Table) -> bool
     ensures { result ≡ head_ok house (state t.now) }
 {
     let n = table::size(t);
-    let rest = layout::HEAD_WORDS - layout::SPARE_AGAIN;
     (1 <= n)
         & (n <= layout::CONTROLLERS as u32)
         & (table::records_used(t) <= layout::MESSAGES as u32)
-        & parts::all_zero(t, layout::SPARE, layout::GAP - layout::SPARE)
+        & parts::all_zero(&t[layout::SPARE..layout::GAP])
         & (table::gap(t) <= layout::LAST_GAP)
         & (table::served(t) <= layout::LAST_SERVED)
-        & parts::all_zero(t, layout::SPARE_AGAIN, rest)
+        & parts::all_zero(&t[layout::SPARE_AGAIN..layout::HEAD_WORDS])
 }
 
 pub fn controller_ok(t: &Table, n: u32, c: usize) -> bool
@@ -39,7 +38,8 @@ pub fn controller_ok(t: &Table, n: u32, c: usize) -> bool
             & (1 <= stable)
             & (stable <= live)
     } else {
-        parts::all_zero(t, table::controller_at(c), layout::CONTROLLER_WORDS)
+        let from = table::controller_at(c);
+        parts::all_zero(&t[from..from + layout::CONTROLLER_WORDS])
     }
 }
 
@@ -72,7 +72,8 @@ pub fn place_ok(t: &Table, n: u32, c: usize, p: usize) -> bool
             & ((0 < q) | (flag == 1))
             & parts::vector_ok(t, n, table::place_vector_at(c, p))
     } else {
-        parts::all_zero(t, table::place_at(c, p), layout::PLACE_WORDS)
+        let from = table::place_at(c, p);
+        parts::all_zero(&t[from..from + layout::PLACE_WORDS])
     }
 }
 
@@ -92,6 +93,7 @@ pub fn message_ok(t: &Table, n: u32, r: usize) -> bool
             & (number <= layout::LAST_NUMBER)
             & parts::vector_ok(t, n, table::message_vector_at(r))
     } else {
-        parts::all_zero(t, table::message_at(r), layout::MESSAGE_WORDS)
+        let from = table::message_at(r);
+        parts::all_zero(&t[from..from + layout::MESSAGE_WORDS])
     }
 }

@@ -4,8 +4,9 @@ use Rattle.base.specs.Cases.{all_of}
 use Rattle.rules.specs.Limits.{house}
 use Rattle.rules.specs.Form.{vector_ok, message_ok}
 use Rattle.vector.specs.At.{message_vector_lem}
-use Rattle.parts.specs.Zeros.{zeros_message}
-use Rattle.std.proofs.Common.{ap, ◌∙◌, lt-ltb, le-ltb}
+use Rattle.parts.specs.Zeros.{zeros_part, zeros_message}
+use Rattle.table.specs.Layout.{message_words}
+use Rattle.std.proofs.Common.{ap, ◌∙◌, lt-ltb, le-ltb, arith}
 use Rattle.records.proofs.message_ok.Goals as goal
 
 pub returns-then-r-records_used : goal.returns-then-r-records_used
@@ -17,4 +18,4 @@ returns-then-r-records_used c =
 
 pub returns-else-r-records_used : goal.returns-else-r-records_used
 unfolding message_ok
-returns-else-r-records_used c = rw (le-ltb _ _ (rw c.records_used.ensures at c.if-r-records_used.false)) (c.all_zero.ensures ∙ zeros_message _ _ _ c.message_at.ensures)
+returns-else-r-records_used c = rw (le-ltb _ _ (rw c.records_used.ensures at c.if-r-records_used.false)) (c.all_zero.ensures ∙ zeros_part _ _ _ message_words (omega arith) (omega (arith, c.told-t, c.message_at-from.ensures)) ∙ zeros_message _ _ _ c.message_at-from.ensures)

@@ -4,8 +4,9 @@ use Rattle.base.specs.Cases.{all_of}
 use Rattle.rules.specs.Limits.{house}
 use Rattle.rules.specs.Form.{vector_ok, place_ok}
 use Rattle.vector.specs.At.{place_vector_lem}
-use Rattle.parts.specs.Zeros.{zeros_place}
-use Rattle.std.proofs.Common.{ap, ◌∙◌, lt-ltb, le-ltb}
+use Rattle.parts.specs.Zeros.{zeros_part, zeros_place}
+use Rattle.table.specs.Layout.{place_words}
+use Rattle.std.proofs.Common.{ap, ◌∙◌, lt-ltb, le-ltb, arith}
 use Rattle.records.proofs.place_ok.Goals as goal
 
 pub returns-then-q-live_count : goal.returns-then-q-live_count
@@ -17,4 +18,4 @@ returns-then-q-live_count c =
 
 pub returns-else-q-live_count : goal.returns-else-q-live_count
 unfolding place_ok
-returns-else-q-live_count c = rw (le-ltb _ _ (rw c.live_count.ensures at c.if-q-live_count.false)) (c.all_zero.ensures ∙ zeros_place _ _ _ _ c.place_at.ensures)
+returns-else-q-live_count c = rw (le-ltb _ _ (rw c.live_count.ensures at c.if-q-live_count.false)) (c.all_zero.ensures ∙ zeros_part _ _ _ place_words (omega arith) (omega (arith, c.told-t, c.place_at-from.ensures)) ∙ zeros_place _ _ _ _ c.place_at-from.ensures)
