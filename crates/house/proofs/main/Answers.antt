@@ -1,4 +1,4 @@
-use Rattle.std.proofs.Common.{◌≡◌, sym, ◌∙◌, take, length, length-take-le}
+use Rattle.std.proofs.Common.{rules, ◌≡◌, sym, ◌∙◌, take, length, length-take-le}
 use Rattle.session.proofs.Buffers.{reached_first, first_unformed, reached_next}
 use Rattle.house.proofs.main.Goals as goal
 
@@ -6,9 +6,13 @@ pub new-house-requires : goal.new-house-requires
 new-house-requires c = first_unformed
 
 pub loop-init : goal.loop-init
-loop-init c = reached_first c.new-house.ensures.begun
+loop-init c = record { reached = reached_first c.new-house.ensures.begun; bytes_long = search rules; out_long = search rules }
 
 pub loop-preserved : goal.loop-preserved
 loop-preserved c =
     let long : length (take c.in-Some.n c.read_in.new.bytes) ≡ c.in-Some.n = length-take-le _ _ (rw c.in-Some.is at c.read_in.ensures) in
-    reached_next (take c.in-Some.n c.read_in.new.bytes) c.loop.invariant (λ z. c.if-n-eq0.false (sym long ∙ z)) c.serve-owed.ensures.answers
+    record {
+      reached = reached_next (take c.in-Some.n c.read_in.new.bytes) c.loop.invariant.reached (λ z. c.if-n-eq0.false (sym long ∙ z)) c.serve-owed.ensures.answers;
+      bytes_long = search rules;
+      out_long = search rules;
+    }
