@@ -1,4 +1,5 @@
 pub mod Ready
+pub mod Blocks
 pub mod Desks
 pub mod Gathering
 pub mod Going

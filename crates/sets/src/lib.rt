@@ -23,6 +23,9 @@ use table::{Status, Table, layout};
 // The most messages of a set.
 const SET_MOST: usize = 16;
 
+// The numbers of a block: a look at a list, of whatever length, ends at the first block with an absent message.
+const BLOCK: usize = 16;
+
 // Whether message m isn't there.
 fn absent(t: &Table, m: u32) -> bool
     ensures { result ≡ absent (state t.now) m }
@@ -30,15 +33,28 @@ fn absent(t: &Table, m: u32) -> bool
     table::records_used(t) as usize <= table::find_record(t, m)
 }
 
+// Whether some message of the block isn't there. No branch on a number, so that several are looked at in one go.
+fn absent_among(t: &Table, block: &[u32]) -> bool
+    ensures { result ≡ some_absent (state t.now) block.now }
+{
+    let mut some = false;
+    for m in block {
+        some = some | absent(t, *m);
+    }
+    some
+}
+
+// Whether some message of the list isn't there: whole blocks, and what is left.
 fn some_absent(t: &Table, list: &[u32]) -> bool
     ensures { result ≡ some_absent (state t.now) list.now }
 {
-    for m in list {
-        if absent(t, *m) {
+    let (blocks, rest) = list.as_chunks::<BLOCK>();
+    for block in blocks {
+        if absent_among(t, block) {
             return true;
         }
     }
-    false
+    absent_among(t, rest)
 }
 
 // Whether the i-th message of the list is named before.
