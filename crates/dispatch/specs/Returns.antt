@@ -5,7 +5,7 @@ use Rattle.std.specs.Array.{IsWholeChunk}
 use Rattle.std.proofs.Common.{ap, ◌∙◌, arith, eq-eqb, ne_eqb}
 use Rattle.table.specs.Field.{Size, Served, Receiver}
 use Rattle.table.specs.Change.{put}
-use Rattle.table.specs.Layout.{messages, table_words}
+use Rattle.table.specs.Layout.{controllers, messages, table_words}
 use Rattle.table.specs.Words.{state, words}
 use Rattle.table.proofs.Words.{words_state, then_put}
 use Rattle.table.specs.Numbering.{used, message_of}
@@ -21,7 +21,7 @@ use Rattle.rules.specs.declared.Prospect.{Prospect}
 use Rattle.laws.specs.Facts.{form, released_lt}
 use Rattle.laws.specs.Allowed.{MessageAllowed}
 use Rattle.laws.specs.Answering.{Lent, left_beside}
-use Rattle.dispatch.specs.Round.{Round}
+use Rattle.dispatch.specs.Round.{Round, from_lt}
 use Rattle.dispatch.specs.Searching.{Serves, Chosen}
 
 -- the round of a call, where n controllers are there and s was served last
@@ -36,10 +36,11 @@ pub record_low : {t : List ℕ} {r : ℕ} → Lent t → r < used (state t) → 
 record_low {t} l h = omega (arith, (form house (state t) l.good).used_le)
 
 -- the receiver c of a released message has a turn
-pub has_turn : {t : List ℕ} {r from n c : ℕ} → Lent t → MessageAllowed (state t) r state_released → Round (state t) from n → c ≡ state t (Receiver r) → c < n
+pub has_turn : {t : List ℕ} {r from n c : ℕ} → Lent t → MessageAllowed (state t) r state_released → Round (state t) from n → c ≡ state t (Receiver r) →
+    (from < n) × (c < n) × (n ≤ controllers)
 has_turn {t} {r} l a w ce =
     let f = form house (state t) l.good in
-    omega (arith, released_lt f r a.record_used a.state_is, w.size_is)
+    (from_lt w, omega (arith, released_lt f r a.record_used a.state_is, w.size_is), omega (arith, f.size_le, w.size_is))
 
 -- nobody is served
 pub call_none : {t : List ℕ} → Lent t → Chosen (state t) None → out Idle t ≡ written (dispatched house (state t))

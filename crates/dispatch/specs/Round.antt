@@ -14,7 +14,7 @@ pub record Round (σ : State) (from n : ℕ) : Type 0 where
   pub from_is : from ≡ (σ Served + 1) % n
 
 module _ {σ : State} {from n : ℕ} (w : Round σ from n) where
-  from_lt : from < n
+  pub from_lt : from < n
   from_lt = subst (λ k. k < n) (sym w.from_is) (mod-lt (σ Served + 1) w.size_pos)
 
   -- its turns are those of the definition

@@ -1,12 +1,12 @@
 -- The walks along a chain: up to the lowest condemned place, with the number of the latest checkpoint as a running
 -- figure (H), and down to the latest checkpoint (X).
-use Rattle.std.specs.Prelude.{◌≡◌, refl, Bool, true, false, List, ℕ, ◌+◌, ◌-◌, ◌≤◌, ◌<◌}
+use Rattle.std.specs.Prelude.{◌≡◌, refl, Bool, true, false, List, ℕ, ◌+◌, ◌-◌, ◌≤◌, ◌<◌, length}
 use Rattle.std.proofs.Math.Path.{sym}
 use Rattle.std.proofs.Common.{ap, ◌∙◌, subst, add-one, arith, eq-eqb, ne_eqb}
 use borrow.Author.Count.{below_more}
 use Rattle.base.specs.Ranges.{first_at, first_none, anyb_at, anyb_none}
 use Rattle.table.specs.Field.{State, LiveCount, Flag}
-use Rattle.table.specs.Layout.{controllers, places}
+use Rattle.table.specs.Layout.{controllers, places, table_words}
 use Rattle.table.specs.Words.{state}
 use Rattle.table.specs.Numbering.{number_of}
 use Rattle.rules.specs.Vector.{Pair, Vector, pair_of, place_vector, condemned_pair, condemned}
@@ -28,6 +28,7 @@ pub record Come (t : List ℕ) (hearer live flagged p : ℕ) : Type 0 where
   pub le : p ≤ live
   pub live_is : live ≡ state t (LiveCount hearer)
   pub chain : Chain (state t) hearer
+  pub long : length t ≡ table_words
 
 -- That is the number from which the rule counts what is replayed.
 pub come_latest : (t : List ℕ) (hearer live flagged p : ℕ) → Come t hearer live flagged p → flagged ≡ latest_flagged (state t) hearer p
@@ -38,9 +39,9 @@ come_highest : (t : List ℕ) (hearer flagged p : ℕ) → Chain (state t) heare
 come_highest t hearer flagged p w l e = subst (Highest (state t) hearer p) (sym e) (highest (state t) hearer p w.first_flag l)
 
 -- at place 1, with the figure of place 0
-pub come_first : (t : List ℕ) (hearer live flagged : ℕ) → Chain (state t) hearer → live ≡ state t (LiveCount hearer) →
+pub come_first : (t : List ℕ) (hearer live flagged : ℕ) → length t ≡ table_words → Chain (state t) hearer → live ≡ state t (LiveCount hearer) →
     flagged ≡ latest_flagged (state t) hearer 1 → Come t hearer live flagged 1
-come_first t hearer live flagged w e f =
+come_first t hearer live flagged l w e f =
     record {
       clean = λ q u h. absurd (omega arith);
       figure = come_highest t hearer flagged 1 w (omega arith) f;
@@ -48,6 +49,7 @@ come_first t hearer live flagged w e f =
       le = omega (arith, w.live_pos);
       live_is = e;
       chain = w;
+      long = l;
     }
 
 -- past the chain, which is what the rule gives where no place is condemned
@@ -63,6 +65,7 @@ come_end t hearer live flagged p w l =
 pub record Judged (t : List ℕ) (hearer live flagged p owner : ℕ) : Type 0 where
   pub come : Come t hearer live flagged p
   pub on_chain_lem : p < live
+  pub bound : owner ≤ controllers
   pub none : (k : ℕ) → k < owner → condemned_pair (state t) hearer k (pair_of (place_vector (state t) hearer p) k) ≡ false
 
 module _ (t : List ℕ) (hearer live flagged p : ℕ) where
@@ -98,6 +101,7 @@ module _ (t : List ℕ) (hearer live flagged p : ℕ) where
         le = omega (arith, w.on_chain_lem);
         live_is = w.come.live_is;
         chain = w.come.chain;
+        long = w.come.long;
       }
 
 -- The latest checkpoint of no place, of places whose last one, q, is flagged, and of places whose last one isn't.

@@ -10,7 +10,7 @@ use Rattle.table.specs.Field.{Field, State, LiveCount, Cause, MessageState, Rece
 use Rattle.table.specs.Change.{put, is_state, put_states, states_ind, states_at}
 use Rattle.table.specs.Layout.{messages, table_words}
 use Rattle.table.specs.Words.{state, words, Agree}
-use Rattle.table.proofs.Words.{words_state, words_same, agree_trans, agree_put, agree_states, agree_words, states_kept, states_more}
+use Rattle.table.proofs.Words.{words_state, words_same, agree_trans, agree_put, agree_states, agree_words, long_of, states_kept, states_more}
 use Rattle.table.specs.Numbering.{used, record_of, message_of}
 use Rattle.table.proofs.Numbering.{record_of_message, message_of_record, numbers_states, message_agree}
 use Rattle.rules.specs.Vector.{Vector, message_vector, condemned_pair, condemned}
@@ -176,12 +176,15 @@ module _ {σ : State} {c k live : ℕ} {t : List ℕ} {p : ℕ} (w : Walk σ c k
   unfolding causes_in
   agrees = agree_words _ w.done
 
+  pub walk_long : length t ≡ table_words
+  walk_long = long_of _ w.done
+
   -- what settling place p asks for
-  pub walk_asks : p < live → Chain (state t) c × (p < state t (LiveCount c))
+  pub walk_asks : p < live → (length t ≡ table_words) × Chain (state t) c × (p < state t (LiveCount c))
   unfolding causes_in put_states
   walk_asks l =
       let kept : state t (LiveCount c) ≡ σ (LiveCount c) = agrees (LiveCount c) (w.chain.named, omega arith) in
-      (chain_words_lem (put_states σ so_far) c w.done (chain_states σ c so_far w.chain), omega (arith, w.live_is))
+      (walk_long, chain_words_lem (put_states σ so_far) c w.done (chain_states σ c so_far w.chain), omega (arith, w.live_is))
 
   module _ (l : p < live) (r : ℕ) (rl : r < messages) where
     -- record r is the cause of place p, or not, as before the walk
@@ -195,7 +198,7 @@ module _ {σ : State} {c k live : ℕ} {t : List ℕ} {p : ℕ} (w : Walk σ c k
 
     -- and it is judged as before the walk
     fate_same : offered_again (state t) c r ≡ offered_again σ c r
-    fate_same = offered_again_same (state t) _ agrees c r w.chain.named rl ((walk_asks l).0.message_near r rl) ∙ offered_states σ so_far c r
+    fate_same = offered_again_same (state t) _ agrees c r w.chain.named rl ((walk_asks l).1.message_near r rl) ∙ offered_states σ so_far c r
 
     -- so it has the state that it gets in a walk one place longer
     settled_same : settled (state t) c p 1 r ≡ settled σ c k (p + 1 - k) r

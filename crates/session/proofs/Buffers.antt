@@ -58,7 +58,7 @@ pushed_full line n b l h k =
     sym (take-append-le line_room (take n line) (b ∷ []) (omega arith) ∙ take_all line_room (take n line) (omega arith))
 
 -- the bytes of a buffer from k on are as before, and so are those from a later place on
-behind_later : (o u w : List ℕ) (j k : ℕ) → drop j u ≡ drop j o → drop k w ≡ drop k u → j ≤ k → drop k w ≡ drop k o
+pub behind_later : (o u w : List ℕ) (j k : ℕ) → drop j u ≡ drop j o → drop k w ≡ drop k u → j ≤ k → drop k w ≡ drop k o
 behind_later o u w j k e f h =
     let q : j + (k - j) ≡ k = omega arith in
     f ∙ sym (ap (λ (i : ℕ). drop i u) q) ∙ sym (drop-drop (k - j) j u) ∙ ap (drop (k - j)) e ∙ drop-drop (k - j) j o ∙ ap (λ (i : ℕ). drop i o) q

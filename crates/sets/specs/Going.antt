@@ -52,7 +52,7 @@ record Alike (ρ σ : State) (m : ℕ) : Type 0 where
   pub payload_is : ρ (Payload (record_of σ m)) ≡ σ (Payload (record_of σ m))
 
 module _ {t g l u h : List ℕ} {n : ℕ} (w : Gone t g l u h n) where
-  gone_long : length u ≡ table_words
+  pub gone_long : length u ≡ table_words
   gone_long = ap length w.left ∙ length_words _
 
   entered_so_far : Entered house g h (desks (state t) l n)
@@ -60,7 +60,7 @@ module _ {t g l u h : List ℕ} {n : ℕ} (w : Gone t g l u h n) where
       subst (λ h. Entered house g h (desks (state t) l n)) (sym w.ledger)
       (entries house (state t) g l n w.start.allowed.sound (omega (arith, w.room, desks_le (state t) l n (length l) w.bound)))
 
-  gone_ledger : length h ≡ ledger_words house
+  pub gone_ledger : length h ≡ ledger_words house
   gone_ledger = (ledger_form house h entered_so_far.sound).long
 
   -- the next message

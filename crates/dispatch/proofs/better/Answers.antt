@@ -8,7 +8,7 @@ use Rattle.dispatch.specs.Returns.{has_turn}
 use Rattle.dispatch.proofs.better.Goals as goal
 
 pub of-i-requires : goal.of-i-requires
-of-i-requires c = let a = c.requires in has_turn a.0 a.2 a.1 c.receiver.ensures
+of-i-requires c = let a = c.requires in (has_turn a.0 a.2 a.1 c.receiver.ensures).1
 
 pub returns-then-ahead_of-i : goal.returns-then-ahead_of-i
 returns-then-ahead_of-i c =

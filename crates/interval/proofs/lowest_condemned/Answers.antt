@@ -1,8 +1,9 @@
 use Rattle.interval.specs.Walks.{come_latest, come_first, come_end, place_lt, judged_hit, judged_clear}
+use Rattle.std.proofs.Common.{rules}
 use Rattle.interval.proofs.lowest_condemned.Goals as goal
 
 pub places-init : goal.places-init
-places-init c = come_first _ _ _ _ c.requires c.live_count-live.ensures c.latest_flagged-flagged.ensures
+places-init c = come_first _ _ _ _ (search rules) c.requires c.live_count-live.ensures c.latest_flagged-flagged.ensures
 
 pub raise_flagged-flagged-requires : goal.raise_flagged-flagged-requires
 raise_flagged-flagged-requires c =
