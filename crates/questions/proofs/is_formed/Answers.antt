@@ -1,8 +1,8 @@
 -- The tests are those of the definition: the length, and then the form, of which a head that isn't in form settles the
 -- answer.
-use Rattle.questions.specs.Numbers.{form_number}
+use Rattle.questions.specs.Numbers.{formed, unformed, form_number}
 use Rattle.laws.specs.Facts.{no_head}
-use Rattle.std.proofs.Common.{sym, ◌∙◌, eq-eqb, ne_eqb}
+use Rattle.std.proofs.Common.{rules, sym, ap, ◌∙◌, Bool, cond, eq-eqb, ne_eqb}
 use Rattle.questions.proofs.is_formed.Goals as goal
 
 pub returns-in-None : goal.returns-in-None
@@ -13,7 +13,7 @@ pub returns-then-head_ok : goal.returns-then-head_ok
 unfolding form_number
 returns-then-head_ok c =
     let whole = c.in-Some.ensures.cases in
-    rw (eq-eqb _ _ whole.long, ← whole.same, c.records_ok.ensures)
+    rw (eq-eqb _ _ whole.long, ← whole.same) (ap (λ (b : Bool). cond b formed unformed) (search rules))
 
 pub returns-else-head_ok : goal.returns-else-head_ok
 unfolding form_number
