@@ -8,7 +8,7 @@ use Rattle.base.specs.Ranges.{anyb, anyb_zero, anyb_at, anyb_some, anyb_same}
 use Rattle.table.specs.Field.{State}
 use Rattle.rules.specs.Sets.{nth, absent, some_absent}
 
--- the numbers of a block
+-- how many numbers a block has
 abbrev pub block : ℕ
 block = 16
 
@@ -52,6 +52,7 @@ absent_chunk σ n (suc k) (suc i) l d h w =
     ∙ absent_after σ n l (i * n) n ∙ ap (λ (j : ℕ). absent_from σ l j n) (omega (arith, suc-mul i n))
 
 module _ (σ : State) (l : List ℕ) where
+  -- before the first block
   pub absent_none : false ≡ absent_below σ l (0 * block)
   unfolding absent_below
   absent_none = anyb_zero _

@@ -23,7 +23,8 @@ use table::{Status, Table, layout};
 // The most messages of a set.
 const SET_MOST: usize = 16;
 
-// The numbers of a block: a look at a list, of whatever length, ends at the first block with an absent message.
+// How many numbers of a list are looked at in one go. The look ends with a block that has an absent message, so that a
+// long list with one near its head costs little.
 const BLOCK: usize = 16;
 
 // Whether message m isn't there.
@@ -33,7 +34,7 @@ fn absent(t: &Table, m: u32) -> bool
     table::records_used(t) as usize <= table::find_record(t, m)
 }
 
-// Whether some message of the block isn't there. No branch on a number, so that several are looked at in one go.
+// Whether some message of the block isn't there. It doesn't end early: the numbers can be looked at side by side.
 fn absent_among(t: &Table, block: &[u32]) -> bool
     ensures { result ≡ some_absent (state t.now) block.now }
 {
